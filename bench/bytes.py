@@ -24,7 +24,7 @@ import tempfile
 
 sys.dont_write_bytecode = True
 
-from run import HERE, TOP
+from run import BYTES, HERE, ROUNDS, TOP, megabytes
 
 PYTHON = "/usr/bin/python3"
 PROGRAM = f"{TOP}/crates/bson_lines/out/bson_lines"
@@ -175,7 +175,7 @@ def measured(program, theirs, path, times):
              (theirs, "validate"), (theirs, "text")]
     commands = [[it, task, str(count)] for it, task in words for count in (0, times)]
     commands += [[*python, str(count)] for count in (0, times)]
-    found = best_of(5, commands, path)
+    found = best_of(ROUNDS, commands, path)
     passes = [None if whole is None or none is None else (whole[0] - none[0]) / times
               for none, whole in zip(found[0::2], found[1::2])]
     decode, encode, *rest = passes
@@ -186,9 +186,9 @@ def whole_runs(theirs, path):
     """Seconds of whole runs: decode canonical, libbson's text, decode check, bson_validate."""
     # (as the script starts it)
     ours = ["env", "MALLOC_MMAP_THRESHOLD_=131072", PROGRAM]
-    commands = [[*ours, "canonical", "--bson", "--doubles"], [theirs, "text", "1"], [*ours, "check", "--bson", "--doubles"],
+    commands = [[*ours, "canonical", "--bson"], [theirs, "text", "1"], [*ours, "check", "--bson"],
                 [theirs, "validate", "1"]]
-    return [it and it[0] for it in best_of(5, commands, path, whole=True)]
+    return [it and it[0] for it in best_of(ROUNDS, commands, path, whole=True)]
 
 
 def cell(seconds):
@@ -199,29 +199,34 @@ def ratio(one, other):
     return "" if one is None or not other else f"{one / other:.2f}"
 
 
+def cells_of_calls(program, theirs, path, size):
+    """A row of the table of calls, without its name and size."""
+    decode, encode, check, canonical, validate, text_of_theirs, python, peak = measured(
+        program, theirs, path, max(1, 50 // size))
+    return [cell(decode), cell(encode), cell(check), cell(validate), ratio(validate, decode), ratio(validate, encode),
+            ratio(validate, check), cell(canonical), cell(text_of_theirs), ratio(canonical, text_of_theirs), cell(python),
+            f"{peak / (os.path.getsize(path) / 1e6):.1f}"]
+
+
 def main():
-    sizes = [int(word) for word in sys.argv[1:]] or [10, 50]
+    sizes = megabytes(sys.argv[1:])
     if not os.path.exists(PROGRAM):
         raise SystemExit("bench/bytes.py: there is no program: run ./bson decode --help once")
     whole = []
     with tempfile.TemporaryDirectory() as room:
-        program, theirs = ours(room), libbson(room)
-        print("| Input | MB | Decode, s | Encode, s | Check, s | `bson_validate`, s | Times its speed: decode | encode "
-              "| check | Text, s | libbson, s | Ratio of times | PyMongo decode, s | Peak over size |\n"
-              + "|---" * 14 + "|")
+        # (a test makes the second table alone: the program of the first one needs a proof)
+        program, theirs = None if BYTES else ours(room), libbson(room)
+        if program:
+            print("| Input | MB | Decode, s | Encode, s | Check, s | `bson_validate`, s | Times its speed: decode | encode "
+                  "| check | Text, s | libbson, s | Ratio of times | PyMongo decode, s | Peak over size |\n"
+                  + "|---" * 14 + "|")
         for name, make in KINDS:
             for size in sizes:
                 path = f"{room}/input.bson"
                 with open(path, "wb") as out:
-                    out.write(make(random.Random(20260101), size * 1_000_000))
-                megabytes = os.path.getsize(path) / 1e6
-                decode, encode, check, canonical, validate, text_of_theirs, python, peak = measured(
-                    program, theirs, path, max(1, 50 // size))
-                cells = [cell(decode), cell(encode), cell(check), cell(validate), ratio(validate, decode),
-                         ratio(validate, encode), ratio(validate, check), cell(canonical), cell(text_of_theirs),
-                         ratio(canonical, text_of_theirs), cell(python),
-                         f"{peak / megabytes:.1f}"]
-                print(f"| {name} | {size} | {' | '.join(cells)} |", flush=True)
+                    out.write(make(random.Random(20260101), int(size * 1_000_000)))
+                if program:
+                    print(f"| {name} | {size} | {' | '.join(cells_of_calls(program, theirs, path, size))} |", flush=True)
                 text_run, text_of_theirs, check_run, validate_run = whole_runs(theirs, path)
                 cells = [cell(text_run), cell(text_of_theirs), ratio(text_run, text_of_theirs), cell(check_run),
                          cell(validate_run), ratio(check_run, validate_run)]

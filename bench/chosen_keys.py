@@ -27,11 +27,14 @@ sys.path.insert(0, os.path.join(TOP, "tests", "rows"))
 
 import growth
 import many_keys
+from run import BYTES, ROUNDS
 
 OWN = os.path.join(TOP, "crates", "bson_cli", "out", "bson_cli")
 LINES = os.path.join(TOP, "crates", "bson_lines", "out", "bson_lines")
 ROWS = os.path.join(TOP, "crates", "bson_rows", "out", "bson_rows")
-SIZES = [10_000, 100_000, 400_000]
+SIZES = [BYTES // 10] if BYTES else [10_000, 100_000, 400_000]
+# The bytes of the smaller inputs of tests/rows/growth.py.
+SMALLER = BYTES or growth.LARGE
 
 
 def generate(path, count, chosen):
@@ -57,7 +60,7 @@ def timed(command, path, longest, statuses):
 def best(commands, path, longest, statuses=(0,)):
     """The least time and memory of each command in five rounds; one that was cut off runs no more."""
     runs = [[] for _ in commands]
-    for _ in range(5):
+    for _ in range(ROUNDS):
         for command, own in zip(commands, runs):
             if None not in own:
                 own.append(timed(command, path, longest, statuses))
@@ -94,11 +97,11 @@ def calls(room, longest):
 
 def growths(room, longest):
     """A line for each command: its greatest times, and its greatest growth."""
-    print("\n| bson_lines | 1 MB | 8 MB | at most | of |")
+    print(f"\n| bson_lines | {SMALLER / 1e6:g} MB | {growth.PARTS * SMALLER / 1e6:g} MB | at most | of |")
     print("|---|---|---|---|---|")
     for make, commands in ((growth.texts, growth.COMMANDS), (growth.documents, growth.COMMANDS_OF_BSON)):
         inputs = []
-        for size in (growth.LARGE, growth.PARTS * growth.LARGE):
+        for size in (SMALLER, growth.PARTS * SMALLER):
             for name, data in make(size).items():
                 inputs.append((name, os.path.join(room, f"{size} {name}")))
                 with open(inputs[-1][1], "wb") as out:

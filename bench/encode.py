@@ -17,10 +17,9 @@ import tempfile
 sys.dont_write_bytecode = True
 
 from bytes import KINDS
-from run import HERE, TOP
+from run import HERE, ROUNDS, TOP, megabytes
 
 PROGRAM = f"{TOP}/crates/bson_lines/out/bson_lines"
-ROUNDS = 5
 
 
 def libbson(room):
@@ -34,7 +33,7 @@ def libbson(room):
 def lines(form, dump, path):
     """Writes the lines of a dump in a form."""
     with open(path, "wb") as out:
-        subprocess.run([PROGRAM, form, "--bson", "--doubles"], input=dump, stdout=out, check=True)
+        subprocess.run([PROGRAM, form, "--bson"], input=dump, stdout=out, check=True)
 
 
 def spent(command, path, output):
@@ -56,20 +55,21 @@ def inputs():
 
 
 def main():
-    sizes = [int(word) for word in sys.argv[1:]] or [10, 50]
+    sizes = megabytes(sys.argv[1:])
     print("| Lines of | MB | `bson_lines encode`, s | libbson, s | Ratio of times | Same bytes |")
     print("|---" * 6 + "|")
     with tempfile.TemporaryDirectory() as room:
-        commands = [[PROGRAM, "encode", "--doubles"], [libbson(room)]]
+        commands = [[PROGRAM, "encode"], [libbson(room)]]
         for name, make, form in inputs():
             for size in sizes:
                 path, outputs = f"{room}/input.jsonl", [f"{room}/ours", f"{room}/theirs"]
                 # (a line is some two times as long as its bytes)
-                dump = make(random.Random(20260101), size * 1_000_000)
+                limit = int(size * 1_000_000)
+                dump = make(random.Random(20260101), limit)
                 lines(form, dump, path)
                 whole = os.path.getsize(path)
                 with open(path, "rb+") as it:
-                    it.seek(min(whole, size * 1_000_000))
+                    it.seek(min(whole, limit))
                     it.readline()
                     it.truncate()
                 runs = [[spent(command, path, output) for command, output in zip(commands, outputs)] for _ in range(ROUNDS)]

@@ -5,9 +5,9 @@
 
 Each kind of input of bench/run.py, as one document: a list stands under the key "a", since libbson takes documents
 alone, and the deep values nest at most 80 levels, since it refuses 100; code with scope is left out, of which version
-1.23 refuses a list of some hundred. Beside these are places with a price, whose doubles bson_lines takes with
---doubles. Both programs read standard input and write the canonical text. A time is the least processor seconds of five runs in turns, a peak the greatest. Needs Debian's
-libbson-dev, a C compiler and pkg-config.
+1.23 refuses a list of some hundred. Beside these are places with a price, whose doubles bson_lines
+accepts, with --sort-keys. Both programs read standard input and write the canonical text. A time is the least processor
+seconds of five runs in turns, a peak the greatest. Needs Debian's libbson-dev, a C compiler and pkg-config.
 """
 import os
 import subprocess
@@ -16,7 +16,7 @@ import tempfile
 
 sys.dont_write_bytecode = True
 
-from run import HERE, KINDS, TOP, code_with_scope, generate
+from run import HERE, KINDS, ROUNDS, TOP, code_with_scope, generate, megabytes
 
 
 def deep_value(rng, i):
@@ -55,11 +55,10 @@ def libbson(room):
 
 
 def main():
-    sizes = [int(word) for word in sys.argv[1:]] or [10, 50]
-    subprocess.run([f"{TOP}/bson", "canonical"], input=b"{}", check=True, stdout=subprocess.DEVNULL)
-    subprocess.run([f"{TOP}/bson", "canonical", "--doubles"], input=b"{}", check=True, stdout=subprocess.DEVNULL)
+    sizes = megabytes(sys.argv[1:])
+    subprocess.run([f"{TOP}/bson", "build"], check=True, stdout=subprocess.DEVNULL)
     ours = [f"{TOP}/crates/bson_cli/out/bson_cli", "canonical"]
-    with_doubles = [f"{TOP}/crates/bson_lines/out/bson_lines", "canonical", "--whole", "--doubles"]
+    with_doubles = [f"{TOP}/crates/bson_lines/out/bson_lines", "canonical", "--whole", "--sort-keys"]
     with tempfile.TemporaryDirectory() as room:
         theirs = libbson(room)
         print("| input | MB | bson_cli, s | MB | libbson, s | MB | ratio of times |\n|---|---|---|---|---|---|---|")
@@ -70,8 +69,8 @@ def main():
             opening, closing = ('{"a":[', "]}") if opening == "[" else (opening, closing)
             for size in sizes:
                 path = f"{room}/input.json"
-                generate(path, make, opening, closing, size * 1_000_000)
-                own, other = best_of(5, [with_doubles if make is place else ours, [theirs]], path)
+                generate(path, make, opening, closing, int(size * 1_000_000))
+                own, other = best_of(ROUNDS, [with_doubles if make is place else ours, [theirs]], path)
                 cells = [f"{own[0]:.2f}", own[1], f"{other[0]:.2f}", other[1], f"{own[0] / other[0]:.2f}"]
                 print(f"| {name} | {size} | {' | '.join(map(str, cells))} |", flush=True)
 

@@ -16,9 +16,10 @@ import tempfile
 
 sys.dont_write_bytecode = True
 
-from run import HERE, KINDS, TOP, best_of, generate
+from run import BYTES, HERE, KINDS, ROUNDS, TOP, best_of, generate
 
 PROGRAM = f"{TOP}/crates/bson_cli/out/bson_cli"
+CALLS, SIZE = 1000 if BYTES else 1_000_000, BYTES or 10_000_000
 
 
 def built(room, name, words):
@@ -49,7 +50,7 @@ def rust(room):
 
 
 def nanoseconds(program):
-    runs = [subprocess.run([program, "small", "1000000"], capture_output=True, text=True, check=True) for _ in range(3)]
+    runs = [subprocess.run([program, "small", str(CALLS)], capture_output=True, text=True, check=True) for _ in range(3)]
     return min(int(it.stdout) for it in runs)
 
 
@@ -60,18 +61,19 @@ def seconds(program, path):
 
 
 def main():
-    subprocess.run([f"{TOP}/vbson", "build"], check=True)
+    if not BYTES:
+        subprocess.run([f"{TOP}/vbson", "build"], check=True)
     with tempfile.TemporaryDirectory() as room:
         ours = built(room, "library", [f"-I{TOP}/languages/out/include", f"{TOP}/languages/out/lib/libvbson.a"])
         theirs, in_rust = libbson(room), rust(room)
         print(f"a call on 103 bytes: {nanoseconds(ours)} ns")
         print(f"the same by libbson: {nanoseconds(theirs)} ns" if theirs else "libbson is not here")
         print(f"the same from Rust: {nanoseconds(in_rust)} ns" if in_rust else "cargo is not here")
-        print("| input of 10 MB | bson_cli, s | C, first call, s | C, best call, s | Rust, first call, s | Rust, best call, s |\n|---|---|---|---|---|---|")
+        print(f"| input of {SIZE / 1e6:g} MB | bson_cli, s | C, first call, s | C, best call, s | Rust, first call, s | Rust, best call, s |\n|---|---|---|---|---|---|")
         for name, make, opening, closing in KINDS:
             path = f"{room}/input.json"
-            generate(path, make, opening, closing, 10_000_000)
-            [(program, _)] = best_of(5, [[PROGRAM, "canonical"]], path)
+            generate(path, make, opening, closing, SIZE)
+            [(program, _)] = best_of(ROUNDS, [[PROGRAM, "canonical"]], path)
             first, least = seconds(ours, path)
             cells = [program, first, least, *(seconds(in_rust, path) if in_rust else [])]
             print(f"| {name} | {' | '.join(f'{it:.2f}' for it in cells)} |", flush=True)

@@ -17,7 +17,10 @@ import sys
 import tempfile
 import time
 
-TOP = os.path.dirname(os.path.dirname(os.path.abspath(__file__)))
+sys.dont_write_bytecode = True
+
+from run import BYTES, ROUNDS, TOP
+
 LENGTH = 250
 
 
@@ -73,16 +76,14 @@ def best_of(rounds, commands):
     return [(min(seconds for seconds, _ in own), max(memory for _, memory in own)) for own in zip(*runs)]
 
 
-def program(name, words):
-    subprocess.run([f"{TOP}/bson", *words], input=b"{}", check=True, stdout=subprocess.DEVNULL)
-    return f"{TOP}/crates/{name}/out/{name}"
-
-
 def main():
     alone = "--lines-only" in sys.argv[1:]
     rounds = next((int(word[9:]) for word in sys.argv[1:] if word.startswith("--rounds=")), 5)
     counts = [int(word) for word in sys.argv[1:] if word.isdigit()] or [1_000_000]
-    bson_lines, bson_cli = program("bson_lines", ["lines", "check"]), program("bson_cli", ["canonical"])
+    if BYTES:
+        rounds, counts = ROUNDS, [BYTES // LENGTH]
+    subprocess.run([f"{TOP}/bson", "build"], check=True, stdout=subprocess.DEVNULL)
+    bson_lines, bson_cli = (f"{TOP}/crates/{name}/out/{name}" for name in ("bson_lines", "bson_cli"))
     print("| lines | MB | form | bson_lines s | MB | bson_cli as one list s | MB | ratio | jq -c . s | MB |")
     print("|---|---|---|---|---|---|---|---|---|---|")
     with tempfile.TemporaryDirectory() as room:
@@ -90,7 +91,7 @@ def main():
             lines, whole = f"{room}/lines.jsonl", f"{room}/list.json"
             generate(lines, None if alone else whole, count)
             for form in ("canonical", "relaxed"):
-                commands = [([bson_lines, form], lines)]
+                commands = [([bson_lines, form, "--strict"], lines)]
                 if not alone:
                     commands.append(([bson_cli, form], whole))
                     if shutil.which("jq"):

@@ -18,6 +18,15 @@ import time
 
 HERE = os.path.dirname(os.path.abspath(__file__))
 TOP = os.path.dirname(HERE)
+# In a test BENCH_BYTES is the number of bytes of each input, which is then run once. Its times say nothing.
+BYTES = int(os.environ.get("BENCH_BYTES", "0"))
+ROUNDS = 1 if BYTES else 5
+
+
+def megabytes(words):
+    """The sizes of the inputs in megabytes: those of the words, or 10 and 50."""
+    given = [int(word) for word in words] or [10, 50]
+    return [BYTES / 1e6] if BYTES else given
 
 
 def small_document(rng, i):
@@ -124,8 +133,8 @@ def floor_program(room):
 
 
 def main():
-    sizes = [int(word) for word in sys.argv[1:]] or [10, 50]
-    subprocess.run([os.path.join(TOP, "bson"), "canonical"], input=b"{}", check=True, stdout=subprocess.DEVNULL)
+    sizes = megabytes(sys.argv[1:])
+    subprocess.run([os.path.join(TOP, "bson"), "build"], check=True, stdout=subprocess.DEVNULL)
     program = os.path.join(TOP, "crates", "bson_cli", "out", "bson_cli")
     with tempfile.TemporaryDirectory() as room:
         floor = floor_program(room)
@@ -134,10 +143,10 @@ def main():
         for name, make, opening, closing in KINDS:
             for size in sizes:
                 path = os.path.join(room, "input.json")
-                generate(path, make, opening, closing, size * 1_000_000)
+                generate(path, make, opening, closing, int(size * 1_000_000))
                 commands = [[floor], [program, "canonical"], [program, "relaxed"]]
-                (base, base_memory), (canonical, memory), (relaxed, _) = best_of(5, commands, path)
-                print("| %s | %d | %.2f | %.2f | %.2f | %.2f | %.2f | %d | %d |" % (
+                (base, base_memory), (canonical, memory), (relaxed, _) = best_of(ROUNDS, commands, path)
+                print("| %s | %g | %.2f | %.2f | %.2f | %.2f | %.2f | %d | %d |" % (
                     name, size, base, canonical, canonical / base, relaxed, relaxed / base, base_memory, memory))
                 sys.stdout.flush()
 

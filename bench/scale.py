@@ -16,7 +16,10 @@ import sys
 import tempfile
 import time
 
-TOP = os.path.dirname(os.path.dirname(os.path.realpath(__file__)))
+sys.dont_write_bytecode = True
+
+from run import BYTES, TOP
+
 LINE = b'{"_id":{"$oid":"53e37d08776f724e42000000"},"at":{"$date":{"$numberLong":"1590972160000"}},"n":{"$numberLong":"%d"},' \
        b'"name":"%s","tags":["a","b",{"$numberInt":"5"}]}\n'
 # A document of the same (bsonspec.org), but for its length and what stands in it for the places.
@@ -93,13 +96,13 @@ def print_table(of, size, *groups):
 
 
 def main():
-    size = int(sys.argv[1]) if sys.argv[1:] else 1000
+    size = BYTES / 1e6 if BYTES else int(sys.argv[1]) if sys.argv[1:] else 1000
     with tempfile.TemporaryDirectory() as room:
         path, out = f"{room}/input", f"{room}/out"
-        write(path, size * 10**6, line)
+        write(path, int(size * 1e6), line)
         by_workers = [(f"Dask, {workers} worker{'s' * (workers > 1)}", *by_dask(workers, path, room)) for workers in (1, 4)]
         print_table("lines", size, by_jobs(["lines", "relaxed", path, "-o", out]), by_workers)
-        write(path, size * 10**6, document)
+        write(path, int(size * 1e6), document)
         print_table("a dump", size, by_jobs(["decode", "relaxed", "--sort-keys", path, "-o", out]))
 
 

@@ -39,7 +39,7 @@ import bson
 import vbson
 from vbson import _calls, _options, _types, objects
 from bson import raw_bson
-from run import binary, decimal, small_document
+from run import BYTES, ROUNDS, binary, decimal, small_document
 
 OPTIONS = json_util.JSONOptions(json_mode=json_util.JSONMode.CANONICAL, tz_aware=True)
 
@@ -71,9 +71,9 @@ def pieces(make, size):
     return found
 
 
-def least_of_five(calls):
+def least_times(calls):
     runs = []
-    for _ in range(5):
+    for _ in range(ROUNDS):
         runs.append([])
         for call in calls:
             start = time.process_time()
@@ -88,7 +88,7 @@ def row(name, texts):
     for it, value in zip(texts, values):
         if vbson.loads(it, types="bson") != value:
             raise SystemExit(f"bench/values.py: two values of {it[:200]}")
-    times = least_of_five((
+    times = least_times((
         lambda: [json_util.loads(it, json_options=OPTIONS) for it in texts], lambda: [vbson.loads(it, types="bson") for it in texts],
         lambda: [vbson.loads(it, types="plain") for it in texts], lambda: [json_util.dumps(it, json_options=OPTIONS) for it in values],
         lambda: [vbson.dumps(it, types="bson") for it in values], lambda: [vbson.dumps(it, types="plain") for it in plain]))
@@ -153,7 +153,7 @@ def ways_table(size):
         texts = pieces(make, size)
         for words, given, block in (("one list", [f"[{','.join(texts)}]"], ""), ("one by one", texts, "\n".join(texts) if texts[0][:3] != '{"$' else "")):
             tried = ways(given, block)
-            times = dict(zip(tried, least_of_five([*tried.values()])))
+            times = dict(zip(tried, least_times([*tried.values()])))
             names.append(f"{name}, {words}")
             columns.append(times)
             print(names[-1], *(f"{way} {1000 * it:.1f}" for way, it in times.items()), file=sys.stderr, flush=True)
@@ -165,7 +165,7 @@ def ways_table(size):
 
 def main():
     words = [it for it in sys.argv[1:] if it != "--ways"]
-    size = int(1_000_000 * float(words[0] if words else 1))
+    size = BYTES or int(1_000_000 * float(words[0] if words else 1))
     if len(words) < len(sys.argv) - 1:
         ways_table(size)
         return

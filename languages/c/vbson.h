@@ -55,7 +55,9 @@ enum vbson_status {
     VBSON_NOT_A_DOCUMENT = 10,   /* the bytes are not a BSON document, or the value of the input is not a document */
     VBSON_ZERO_IN_KEY = 11,      /* a key of the document contains a 0 byte, which would end it */
     VBSON_ZERO_IN_REGEX = 12,    /* the pattern or the options of a regular expression contain a 0 byte */
-    VBSON_TOO_LONG = 13          /* a part of the document is too long for BSON: 2^31 bytes or more */
+    VBSON_TOO_LONG = 13,         /* a part of the document is too long for BSON: 2^31 bytes or more */
+    VBSON_NOT_FOUND = 14,        /* the document does not contain the key, or no element is left */
+    VBSON_UNEXPECTED_TYPE = 15   /* the value has another type */
 };
 
 /* Returns a short message for a status. */
@@ -75,6 +77,8 @@ static inline const char *vbson_status_text(uint32_t status) {
     case VBSON_ZERO_IN_KEY: return "a key has a 0 byte in it";
     case VBSON_ZERO_IN_REGEX: return "a regular expression has a 0 byte in it";
     case VBSON_TOO_LONG: return "a part is too long for BSON";
+    case VBSON_NOT_FOUND: return "not found";
+    case VBSON_UNEXPECTED_TYPE: return "another type";
     default: return "no such status";
     }
 }
@@ -253,6 +257,92 @@ typedef struct vbson_documents {
  * The status is VBSON_OK in each case. *out is overwritten: its old blocks are not freed.
  * VBSON_INVALID_ARGUMENT, VBSON_OUT_OF_MEMORY. */
 uint32_t vbson_decode_documents(uint32_t mode, uint32_t flags, const uint8_t *block, size_t len, vbson_documents *out);
+
+/* ---- values of documents that remain bytes
+ *
+ * Check the bytes once by vbson_is_document. Then the calls below read single values of the document in place: they copy
+ * nothing, allocate no memory, and pass the other values by their lengths. What they return points into the caller's bytes,
+ * so keep these. On bytes that are not a document each call is safe, but its results have no meaning. */
+
+/* The types of values (BSON 1.1). */
+enum vbson_type {
+    VBSON_TYPE_DOUBLE = 0x01,
+    VBSON_TYPE_STRING = 0x02,
+    VBSON_TYPE_DOCUMENT = 0x03,
+    VBSON_TYPE_ARRAY = 0x04,
+    VBSON_TYPE_BINARY = 0x05,
+    VBSON_TYPE_UNDEFINED = 0x06,
+    VBSON_TYPE_OBJECT_ID = 0x07,
+    VBSON_TYPE_BOOLEAN = 0x08,
+    VBSON_TYPE_DATE_TIME = 0x09,
+    VBSON_TYPE_NULL = 0x0A,
+    VBSON_TYPE_REGEX = 0x0B,
+    VBSON_TYPE_DB_POINTER = 0x0C,
+    VBSON_TYPE_CODE = 0x0D,
+    VBSON_TYPE_SYMBOL = 0x0E,
+    VBSON_TYPE_CODE_WITH_SCOPE = 0x0F,
+    VBSON_TYPE_INT32 = 0x10,
+    VBSON_TYPE_TIMESTAMP = 0x11,
+    VBSON_TYPE_INT64 = 0x12,
+    VBSON_TYPE_DECIMAL128 = 0x13,
+    VBSON_TYPE_MAX_KEY = 0x7F,
+    VBSON_TYPE_MIN_KEY = 0xFF
+};
+
+/* A part of the caller's bytes. */
+typedef struct vbson_slice {
+    const uint8_t *bytes;
+    size_t len;
+} vbson_slice;
+
+#define VBSON_SLICE_INIT { VBSON_CAST(const uint8_t *, ""), 0 }
+
+/* A value in the caller's bytes. If its type is VBSON_TYPE_DOCUMENT, bytes and size can be passed to vbson_raw_get, and for
+ * that type and VBSON_TYPE_ARRAY to vbson_raw_elements. The first len bytes alone are the document, for vbson_decode. */
+typedef struct vbson_raw_value {
+    const uint8_t *bytes; /* the beginning of the value */
+    size_t size;          /* the number of bytes from there to the end of the bytes that were passed */
+    size_t len;           /* the number of bytes of the value */
+    uint8_t type;         /* one of vbson_type */
+} vbson_raw_value;
+
+#define VBSON_RAW_VALUE_INIT { VBSON_CAST(const uint8_t *, ""), 0, 0, 0 }
+
+/* Finds the value of a key in a document, after which other bytes may follow. The value of a duplicate key is the last.
+ * VBSON_NOT_FOUND. */
+uint32_t vbson_raw_get(const uint8_t *bytes, size_t len, const uint8_t *key, size_t key_len, vbson_raw_value *out);
+
+/* Sets the cursor to the first element of a document or an array, after which other bytes may follow. A cursor is valid as
+ * long as the bytes are, and a copy of a cursor keeps its position. VBSON_NOT_A_DOCUMENT if the bytes are too few. */
+uint32_t vbson_raw_elements(const uint8_t *bytes, size_t len, vbson_slice *cursor);
+
+/* Reads the key and the value of the element at the cursor, and moves the cursor past it. Elements come in the order of the
+ * bytes, and each element of a duplicate key comes. The keys of an array have no meaning. VBSON_NOT_FOUND at the end. */
+uint32_t vbson_raw_next(vbson_slice *cursor, vbson_slice *key, vbson_raw_value *value);
+
+/* Reads an integer of 32 bits. VBSON_UNEXPECTED_TYPE. */
+uint32_t vbson_raw_int32(const vbson_raw_value *value, int32_t *out);
+
+/* Reads an integer of 64 bits. VBSON_UNEXPECTED_TYPE. */
+uint32_t vbson_raw_int64(const vbson_raw_value *value, int64_t *out);
+
+/* Reads a double as its bit pattern; copy it into a double by memcpy. VBSON_UNEXPECTED_TYPE. */
+uint32_t vbson_raw_double(const vbson_raw_value *value, uint64_t *out);
+
+/* Reads a boolean as 0 or 1. VBSON_UNEXPECTED_TYPE. */
+uint32_t vbson_raw_boolean(const vbson_raw_value *value, uint32_t *out);
+
+/* Reads a string, which is UTF-8 and can contain a 0 byte. VBSON_UNEXPECTED_TYPE. */
+uint32_t vbson_raw_string(const vbson_raw_value *value, vbson_slice *out);
+
+/* Reads an object id. VBSON_UNEXPECTED_TYPE. */
+uint32_t vbson_raw_object_id(const vbson_raw_value *value, uint8_t out[12]);
+
+/* Reads a date-time, in milliseconds since 1970-01-01T00:00:00Z. VBSON_UNEXPECTED_TYPE. */
+uint32_t vbson_raw_date_time(const vbson_raw_value *value, int64_t *out);
+
+/* Reads the subtype and the bytes of binary data. VBSON_UNEXPECTED_TYPE. */
+uint32_t vbson_raw_binary(const vbson_raw_value *value, uint32_t *subtype, vbson_slice *out);
 
 /* ---- scalars
  *

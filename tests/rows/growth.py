@@ -7,12 +7,13 @@ from many_keys import encoded
 
 # The commands of bson_lines that read texts, and those that read BSON.
 COMMANDS = (
-    "canonical --whole", "relaxed --whole", "show --whole", "check --whole",
-    "canonical --whole --keep-order", "relaxed --whole --keep-order", "show --whole --keep-order",
+    "canonical --whole --strict", "relaxed --whole --strict", "show --whole --strict", "check --whole --strict",
+    "canonical --whole", "relaxed --whole", "show --whole", "check --whole", "canonical --whole --sort-keys",
+    "canonical --whole --strict --no-double-keys", "canonical --whole --strict --legacy", "canonical --whole --strict --indent 1",
     "canonical --whole --no-double-keys", "canonical --whole --legacy", "canonical --whole --indent 1",
-    "canonical", "canonical --keep-order", "encode", "encode --sort-keys",
+    "canonical --strict", "canonical", "encode", "encode --sort-keys", "encode --strict",
 )
-COMMANDS_OF_BSON = ("canonical --bson", "canonical --bson --sort-keys", "show --bson", "check --bson")
+COMMANDS_OF_BSON = ("canonical --bson", "canonical --bson --sort-keys", "canonical --bson --strict", "show --bson", "check --bson")
 
 LARGE = 1_000_000
 PARTS = 8

@@ -59,6 +59,11 @@ class Row:
         refused = wanted.startswith(b"bson_cli: ")
         return form, text, (1, b"", wanted + b"\n") if refused else (0, wanted + b"\n", b"")
 
+    def json_text(self):
+        """The text of a row on JSON that bson_cli reads too, or None."""
+        word, _, text = self.call.partition(b" ")
+        return text if word == b"json" and not text.startswith(b"wide ") else None
+
 
 def rows():
     """Every row of this folder, in the order of the files' names."""

@@ -19,7 +19,7 @@ import vbson_dask
 LINES = [b'{"n":5}', b'{"k":[1,2,{"$numberLong":"6"}],"a":"' + b"x" * 200 + b'"}', b"!", b"", b" \t\r", b"[7]\r",
          b"\xef\xbb\xbf8", b'{"$oid":"53e3"}', b"1.5e", b'{"z":1,"price":0.5,"a":2}']
 # The options of a run, as words of the program and as those of the call.
-OPTIONS = [((), vbson.SPECIFIED), (("--doubles",), {"keep_order": False}), (("--doubles", "--keep-order"), {})]
+OPTIONS = [(("--strict",), vbson.SPECIFIED), (("--sort-keys",), {"keep_order": False}), ((), {})]
 
 
 def want(found, wanted, what):
@@ -137,10 +137,8 @@ def test_dumps_are_decoded(client, room, paths, wanted):
             folder, at_once = f"{room}/dumps-{size}-{at}", dump_by_parts(names, options)
             want(vbson_dask.decode_files(client, names, folder, "relaxed", size, **options), at_once[1], "the counts")
             is_there(folder, at_once, ("file", "document", "byte", "fault"))
-            sort = ("--sort-keys",) if "keep_order" in options else ()
-            words = [it for it in words if it != "--keep-order"]
             for name in names[:3]:
-                ran = subprocess.run([room.program, "relaxed", "--bson", "--keep-going", *words, *sort, name],
+                ran = subprocess.run([room.program, "relaxed", "--bson", "--keep-going", *words, name],
                                      capture_output=True, timeout=120)
                 want(ran.stdout, dump_by_parts([name], options)[0], f"bson_lines of {name}")
     want(len(os.listdir(f"{room}/dumps-70000-1")) > 10, True, "several parts")
@@ -151,7 +149,7 @@ def test_a_worker_that_is_killed(client, room, paths, wanted):
     parts = sum(-(-os.path.getsize(path) // 100_000) for path in paths)
     pids = client.run(os.getpid)
     how = ("relaxed", 100_000)
-    run = threading.Thread(target=lambda: answer.append(vbson_dask.convert_files(client, paths, folder, *how, **vbson.SPECIFIED)))
+    run = threading.Thread(target=lambda: answer.append(vbson_dask.convert_files(client, paths, folder, *how)))
     run.start()
     while not os.path.isdir(folder) or len(os.listdir(folder)) < 5:
         time.sleep(0.001)

@@ -1,7 +1,7 @@
 """Checks that each command of a document that is a script of the repository names one that exists, with options that it has.
 
-A command is an indented line, after '$ ' or alone, and each of its parts after '|', ';', '&&' or '('. The options of the
-installed `bson` are those of `./bson --help`, which builds nothing, and those of another script are in its text. The page of
+A command is an indented line, after '$ ' or alone, and each of its parts after '|', ';', '&&' or '(', and code of several
+words in the text. The options of the installed `bson` are those of `./bson --help`, which builds nothing, and those of another script are in its text. The page of
 the program has each form of the command, and each option, that `./bson --help` has.
 """
 import functools
@@ -12,10 +12,13 @@ import subprocess
 import sources
 
 LINE = re.compile(r"(?m)^    (?:\$ )?(.+)$")
+IN_TEXT = re.compile(r"`([\w./]+ [^`\n]+)`")
 PART = re.compile(r"\s\|\s|;|&&|\(|\bthen\b|<")
 PAGE = "docs/PROGRAMS.md"
-SCRIPT = re.compile(r"(?:\.\./)*(?:\./(?:bson|vbson|test)|(?:tests|tools)/[\w/.]+|bson)")
+SCRIPT = re.compile(r"(?:\.\./)*(?:\./(?:bson|vbson|test)|(?:tests|tools|bench)/[\w/.]+|bson)")
 OPTION = re.compile(r"(?<=[\s\[|,])--[a-z][a-z-]*")
+# An option that is named in the text.
+NAMED = re.compile(r"`(--[a-z][a-z-]*)")
 
 
 @functools.cache
@@ -32,7 +35,8 @@ def words_of(script):
 
 def commands(text):
     """Each command of a document: its script and the rest of it. (Blocks of code between fences are programs.)"""
-    for line in LINE.findall(re.sub(r"(?ms)^```.*?^```$", "", text)):
+    text = re.sub(r"(?ms)^```.*?^```$", "", text)
+    for line in LINE.findall(text) + IN_TEXT.findall(text):
         for part in PART.split(re.sub(r"'[^']*'|\"[^\"]*\"|\s#.*", " ", line)):
             words = part.split()
             if words and SCRIPT.fullmatch(words[0]):
@@ -63,6 +67,10 @@ def page_checks():
         yield [] if form in page else [f"{PAGE} lacks '{form}', which ./bson --help has"]
     for option in sorted(set(OPTION.findall(words_of("./bson")))):
         yield [] if option in page else [f"{PAGE} lacks {option}, which ./bson --help has"]
+    for path in (PAGE, "docs/guide.md", "docs/errors.md"):
+        for option in sorted(set(NAMED.findall(sources.read(path)))):
+            has_it = re.search(rf"(?<![\w-]){option}(?![\w-])", words_of("./bson"))
+            yield [] if has_it else [f"{path} names the option {option}, which ./bson --help does not have"]
 
 
 def checks(documents):

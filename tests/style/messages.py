@@ -1,5 +1,6 @@
 """Runs the rows of docs/errors.md: the input must be rejected with the message, and what is in the last column must work:
-an input of its own, or an option for the first input. (A last column without code is not tried.)
+an input of its own, or an option for the first input. If it is "without" an option, the input is rejected only with this
+option. (A last column without code is not tried.)
 """
 import re
 import subprocess
@@ -12,10 +13,11 @@ ROW = re.compile(rf"(?m)^\| {CODE} \| {CODE} \| (.*) \|$")
 
 
 def rows():
-    """The message, the input, and what works of each row."""
+    """The message, the input, the option that rejects it, and what works of each row."""
     for found in ROW.finditer(sources.read(ERRORS)):
-        works = re.fullmatch(CODE, found[5])
-        yield found[1] or found[2], found[3] or found[4], (works[1] or works[2]) if works else ""
+        works = re.fullmatch(rf"(without )?{CODE}", found[5])
+        option = works[3] if works and works[1] else ""
+        yield found[1] or found[2], found[3] or found[4], option, (works[2] or works[3]) if works else ""
 
 
 def checked(program, text, *words):
@@ -28,10 +30,11 @@ def checks(program):
     """What is wrong with each row."""
     found = list(rows())
     yield [] if found else [f"{ERRORS} has no rows"]
-    for message, text, works in found:
+    for message, text, option, works in found:
         wanted = 1, f"bson_lines: line 1: {message}\n"
-        status, said = checked(program, text)
+        status, said = checked(program, text, *([option] if option else []))
         yield [] if (status, said) == wanted else [f"{ERRORS}: {text} is answered by {said}"]
         if works:
-            status, said = checked(program, text, works) if works.startswith("--") else checked(program, works)
+            by_option = checked(program, text, *([] if option else [works]))
+            status, said = by_option if works.startswith("--") else checked(program, works)
             yield [] if (status, said) == (0, "") else [f"{ERRORS}: {works} does not work: {said}"]

@@ -2,9 +2,9 @@
 order, and their output must be what is below them. Blocks of Python must print what their comments say. What is not built or
 installed is not tried, and that is reported. A command that ends in a backslash goes on in the next line.
 
-Other tests run the commands of the other pages: tests/program those of README and docs/PROGRAMS.md, tests/vbson those of
-docs/c.md, docs/rust.md and docs/python.md, tests/examples those of crates/NAME/README.md. A command of any page must name
-scripts and options that exist (commands.py).
+Who runs the commands of the other pages is in pages.py. Blocks of programs are run by tests/vbson (docs/c.md, docs/rust.md and
+docs/python.md) and tests/examples (crates/NAME/README.md). A command of any page must name scripts and options that exist
+(commands.py).
 """
 import os
 import re

@@ -251,6 +251,41 @@ def try_documents():
     raises("no truth value", TypeError, vbson.decode, five, doubles=1)
 
 
+# A value of each of the 21 types.
+EACH_KIND = """{"a": {"$numberDouble": "1.5"}, "b": "\u00e9", "c": {"x": 1}, "d": [1, null], "e": {"$binary": {"base64": "AAE=", "subType": "80"}},
+    "f": {"$undefined": true}, "g": {"$oid": "0102030405060708090a0b0c"}, "h": true, "i": {"$date": {"$numberLong": "-1"}}, "j": null,
+    "k": {"$regularExpression": {"pattern": "a", "options": "i"}}, "m": {"$code": "f"}, "n": {"$symbol": "s"},
+    "l": {"$dbPointer": {"$ref": "n", "$id": {"$oid": "0102030405060708090a0b0c"}}}, "o": {"$code": "f", "$scope": {"x": 1}},
+    "p": {"$numberInt": "5"}, "q": {"$timestamp": {"t": 1, "i": 2}}, "r": {"$numberLong": "5"}, "s": {"$numberDecimal": "1.5"},
+    "t": {"$maxKey": 1}, "u": {"$minKey": 1}}"""
+
+
+def try_raw_documents():
+    text = '{"n":5,"big":{"$numberLong":"7"},"text":"\u00e9","at":{"a":null,"b":[1,{"c":true}]},"key":{"$binary":{"base64":"AAE=","subType":"05"}}}'
+    given = vbson.encode(text)
+    raw, plain = vbson.RawDocument(memoryview(given)), vbson.loads_documents(given)[0]
+    want("the values of a raw document", {key: raw[key] for key in raw if key != "at"}, {key: plain[key] for key in plain if key != "at"})
+    want("a document inside", ({**raw["at"]}, len(raw["at"]), raw["at"] == plain["at"]), (plain["at"], 2, True))
+    want("its bytes", (raw.raw, vbson.decode(raw["at"].raw)), (given, vbson.dumps(plain["at"], "canonical")))
+    want("an absent key", (raw.get("absent"), "n" in raw, "a" in raw), (None, True, False))
+    raises("an absent key", KeyError, raw.__getitem__, "N")
+    for key in ("", "\ud800", "n\0", 5, None, b"n"):
+        want(f"the key {key!r}", (raw.get(key), key in raw), (None, False))
+        raises(f"the key {key!r}", KeyError, raw.__getitem__, key)
+    want("a document of no keys", ({**vbson.RawDocument(bytes([5, 0, 0, 0, 0]))}, len(vbson.RawDocument(bytes([5, 0, 0, 0, 0])))), ({}, 0))
+    kinds = vbson.encode(EACH_KIND)
+    want("each kind", dict(vbson.RawDocument(kinds).items()), vbson.loads_documents(kinds)[0])
+    want("each kind by its key", {key: vbson.RawDocument(kinds)[key] for key in "abcdefghijklmnopqrstu"}, vbson.loads_documents(kinds)[0])
+    for size in range(len(given)):
+        raises(f"{size} bytes of a document", vbson.NotADocument, vbson.RawDocument, given[:size])
+    for it in ("{}", 5, None, [12], {"a": 1}):
+        raises(f"a raw document of {it!r}", TypeError, vbson.RawDocument, it)
+    twice = bytes.fromhex("1700000010610001000000106100020000000862000100")
+    raw = vbson.RawDocument(twice)
+    want("a key that is duplicated", (raw["a"], [*raw], len(raw), {**raw}), (2, ["a", "b"], 2, {"a": 2, "b": True}))
+    want("no raw document", refusal(vbson.RawDocument, given[:-1])[3], vbson.NotADocument)
+
+
 def try_small_values():
     want("a decimal", vbson.decimal128("5"), bytes([5, *[0] * 13, 0x40, 0x30]))
     want("a decimal's text", vbson.decimal128_text(vbson.decimal128("19.90")), "19.90")
@@ -340,6 +375,7 @@ try_machine()
 try_lines()
 try_blocks()
 try_documents()
+try_raw_documents()
 try_small_values()
 try_decimals()
 try_datetimes()

@@ -91,7 +91,15 @@ def try_stream(given):
     want("a dump that is cut off", (status, said), (1, f"document 500: ends too early at byte {len(dump) - 1}\n"))
 
 
+def try_filter(given):
+    path = written("filtered.bson", b"".join(map(bson.encode, given)))
+    with open(path, "rb") as dump:
+        ran = subprocess.run([sys.executable, "-B", f"{EXAMPLES}/filter_dump.py", "1000"], stdin=dump, capture_output=True, timeout=120)
+    want("filter_dump", (ran.returncode, ran.stdout), (0, b"".join(bson.encode(it) for it in given if it["total"] >= 1000)))
+
+
 try_change(orders())
+try_filter(orders())
 try_duplicates(orders())
 try_validate(orders())
 try_stream(orders())

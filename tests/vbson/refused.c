@@ -161,6 +161,31 @@ static long refuse_each(int kind, const char *text) {
     return wants;
 }
 
+/* The calls on single values of a document request nothing. */
+static void raw_values(void) {
+    find_document(texts[0]);
+    vbson_slice cursor = VBSON_SLICE_INIT, key = VBSON_SLICE_INIT, bytes;
+    vbson_raw_value value = VBSON_RAW_VALUE_INIT, again = VBSON_RAW_VALUE_INIT;
+    int32_t small;
+    int64_t large;
+    uint64_t pattern;
+    uint32_t number;
+    uint8_t id[12];
+    int elements = 0, read = 0;
+    requests = 0;
+    refused = 1;
+    CHECK(vbson_raw_elements(document.bytes, document.len, &cursor) == VBSON_OK);
+    for (; vbson_raw_next(&cursor, &key, &value) == VBSON_OK; elements++) {
+        CHECK(vbson_raw_get(document.bytes, document.len, key.bytes, key.len, &again) == VBSON_OK && again.bytes == value.bytes);
+        read += vbson_raw_int32(&value, &small) == VBSON_OK || vbson_raw_int64(&value, &large) == VBSON_OK
+            || vbson_raw_double(&value, &pattern) == VBSON_OK || vbson_raw_boolean(&value, &number) == VBSON_OK
+            || vbson_raw_string(&value, &bytes) == VBSON_OK || vbson_raw_object_id(&value, id) == VBSON_OK
+            || vbson_raw_date_time(&value, &large) == VBSON_OK || vbson_raw_binary(&value, &number, &bytes) == VBSON_OK;
+    }
+    refused = 0;
+    CHECK(requests == 0 && elements == 12 && read == 5);
+}
+
 int main(void) {
     for (int kind = 0; kind < KINDS; kind++) {
         long wants = 0;
@@ -175,5 +200,6 @@ int main(void) {
         requests = 0;
         CHECK(vbson_is_document(document.bytes, document.len) == (i == 0 ? VBSON_OK : VBSON_NOT_A_DOCUMENT) && requests == 0);
     }
+    raw_values();
     return end();
 }

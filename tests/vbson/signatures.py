@@ -8,10 +8,11 @@ SOURCES = ROOT / "crates/vbson/src"
 LANGUAGES = ROOT / "languages"
 HEADER = LANGUAGES / "c/vbson.h"
 PACKAGE = LANGUAGES / "python/vbson"
-NUMBERS = {"u32": "uint32_t", "i64": "int64_t", "u64": "uint64_t", "usize": "size_t"}
-STRUCTS = {"Text<'static>": "vbson_buffer", "Lines<'static>": "vbson_lines", "Documents<'static>": "vbson_documents"}
+NUMBERS = {"u32": "uint32_t", "i32": "int32_t", "i64": "int64_t", "u64": "uint64_t", "usize": "size_t"}
+STRUCTS = {"Text<'static>": "vbson_buffer", "Lines<'static>": "vbson_lines", "Documents<'static>": "vbson_documents",
+           "Slice<'a>": "vbson_slice", "RawValue<'a>": "vbson_raw_value", "RawValue<'_>": "vbson_raw_value"}
 EXPORT = re.compile(
-    r'#\[unsafe\(no_mangle\)\]\npub (?:unsafe )?extern "C" fn (\w+)\(([^)]*)\) -> (\w+)\n(.*?)\n\{\n', re.S)
+    r'#\[unsafe\(no_mangle\)\]\npub (?:unsafe )?extern "C" fn (\w+)(?:<.a>)?\(([^)]*)\) -> (\w+)\n(.*?)\n\{\n', re.S)
 
 
 def as_c(name, kind):
@@ -20,6 +21,7 @@ def as_c(name, kind):
         return []
     if kind in NUMBERS:
         return [f"{NUMBERS[kind]} {name}"]
+    kind = kind.replace("&'a ", "&")
     const, inner = ("", kind[5:]) if kind.startswith("&mut ") else ("const ", kind[1:])
     array = re.fullmatch(r"\[u8; (\d+)\]", inner)
     if array:
@@ -52,7 +54,8 @@ def of_rust(name, kind):
         return f"{NUMBERS[kind]} {name}"
     found = re.fullmatch(r"\*(const|mut) (?:\[u8; (\d+)\]|(\w+))", kind)
     const = "const " if found[1] == "const" else ""
-    kinds = {"u8": "uint8_t", "RawText": "vbson_buffer", "RawLines": "vbson_lines", "RawDocuments": "vbson_documents", **NUMBERS}
+    kinds = {"u8": "uint8_t", "RawText": "vbson_buffer", "RawLines": "vbson_lines", "RawDocuments": "vbson_documents",
+             "RawSlice": "vbson_slice", "RawValue": "vbson_raw_value", **NUMBERS}
     if found[2]:
         return f"{const}uint8_t {name}[{found[2]}]"
     return f"{const}{kinds[found[3]]} *{name}"
@@ -198,6 +201,33 @@ def block_fault(name, file, numbers):
     return None if has_fields and names == ["vbson_buffer text", "vbson_buffer diagnostics", *(f"uint64_t {it}" for it in numbers)] else f"{names}"
 
 
+# The fields of the structs of raw documents: in the sources, in the wrapper in Rust and in C.
+RAW = {
+    "vbson_slice": ("pub struct Slice<'a> {\n    pub bytes: &'a [u8],\n}",
+                    "pub struct RawSlice {\n    pub bytes: *const u8,\n    pub len: usize,\n}",
+                    ["const uint8_t *bytes", "size_t len"]),
+    "vbson_raw_value": ("pub struct RawValue<'a> {\n    pub bytes: &'a [u8],\n    pub len: usize,\n    pub kind: u8,\n}",
+                        "pub struct RawValue {\n    pub bytes: *const u8,\n    pub size: usize,\n    pub len: usize,\n    pub kind: u8,\n}",
+                        ["const uint8_t *bytes", "size_t size", "size_t len", "uint8_t type"]),
+}
+
+
+def raw_fault(name):
+    """A struct of raw documents, as the sources, the header and the wrapper in Rust have it."""
+    source, rust, wanted = RAW[name]
+    has_fields = source in (SOURCES / "raw.rt").read_text() and rust in (LANGUAGES / "rust/src/call.rs").read_text()
+    fields = re.search(rf"typedef struct {name} \{{(.*?)\}} {name};", HEADER.read_text(), flags=re.S)[1]
+    names = re.findall(r"(\S[^;/*]*\*?\w+);", re.sub(r"/\*.*?\*/", "", fields))
+    return None if has_fields and names == wanted else f"{names}"
+
+
+def type_faults():
+    """The number of each type, by the tags of the sources."""
+    tags = re.findall(r"(?m)^            ElementType::(\w+) => (0x\w+),$", (ROOT / "crates/bson_types/src/spec.rt").read_text())
+    types = re.findall(r"(?m)^    VBSON_TYPE_(\w+) = (0x\w+),?$", HEADER.read_text())
+    yield "the types", None if [it[1] for it in tags] == [it[1] for it in types] and len(types) == 21 else f"{types} is not {tags}"
+
+
 def version():
     """That of ./bson, where it stands."""
     return re.search(r"(?m)^version=(.*)$", (ROOT / "bson").read_text())[1]
@@ -228,6 +258,9 @@ def faults():
     yield "the fields of vbson_buffer", text_fault()
     yield "the fields of vbson_lines", block_fault("Lines", "lines.rt", ("lines", "refused"))
     yield "the fields of vbson_documents", block_fault("Documents", "dump.rt", ("documents", "consumed"))
+    for name in RAW:
+        yield f"the fields of {name}", raw_fault(name)
+    yield from type_faults()
     yield from version_faults()
 
 

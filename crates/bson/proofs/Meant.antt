@@ -1,11 +1,9 @@
--- What a text that was read in either order means, or that it means nothing.
-use Rattle.std.proofs.Common.{◌≡◌, ℕ, List, Result, Ok, Err, Some, None, IfOk, IfErr, option_map, sym, ap, ◌∙◌, subst}
-use Rattle.std.proofs.lemmas.Option.{same_Some}
+-- What a text means that was read as a tree, as another text or in its order.
+use Rattle.std.proofs.Common.{◌≡◌, ℕ, List, Result, Ok, Err, Some, IfOk, IfErr, option_map, sym, ap, ◌∙◌}
 use Rattle.std.specs.Prelude.{IsUtf8, OnOk}
 use Rattle.serde_json.specs.Data.{Data}
 use Rattle.serde_json.specs.Read.{read}
 use Rattle.bson_scalar.specs.declared.form.Doubles.{Doubles}
-use Rattle.bson_model.specs.Laws.{HasMeaningIn}
 use Rattle.bson_model.specs.Normal.{InRange}
 use Rattle.bson_model.specs.Reading.{reads_in}
 use Rattle.bson_model.specs.Sorted.{sorted}
@@ -14,59 +12,50 @@ use Rattle.bson_model.proofs.Offered.{value_read_in}
 use Rattle.bson_order.specs.Distinct.{AllDistinct}
 use Rattle.bson_order.specs.Kept.{read_kept, unordered}
 use Rattle.bson_order.specs.Means.{MeansInOrder}
-use Rattle.bson_order.specs.Reading.{reads_in_order}
 use Rattle.bson_order.specs.Texts.{HasMeaningInOrder, ComesBackInOrder}
-use Rattle.bson_order.proofs.Offered.{forgets, means_from, means_in, read_forgotten, read_is_kept, text_means}
-use Rattle.bson_order.proofs.Offered.{meant_by_text, comes_back}
-use Rattle.bson.specs.FromTokens.{TextReads}
-use Rattle.bson.specs.TextMeaning.{IsTextOf, HasTextMeaningBy, HasNoMeaningIn, IsTextFaultIn}
-use Rattle.bson.specs.declared.extjson.key_order.KeyOrder.{KeyOrder}
-use Rattle.bson.specs.declared.extjson.key_order.KeyOrder.TheVariants.{Ascending, AsGiven}
+use Rattle.bson_order.proofs.Offered.{forgets, read_forgotten, comes_back}
+use Rattle.bson_distinct.specs.Arranged.{IsArrangedText}
+use Rattle.bson_distinct.specs.declared.arrangement.Arrangement.TheVariants as arranged
+use Rattle.bson_distinct.proofs.Offered.{text_read, meant_in_order}
+use Rattle.bson_place.specs.Place.{FaultAtIn, IsPlace}
+use Rattle.bson_place.specs.declared.place.Place.{Place}
+use Rattle.bson_place.proofs.Offered.{first_found}
+use Rattle.bson.specs.TextMeaning.{IsTextOf, HasTextMeaningIn, HasTextMeaningBy, IsTextFaultIn}
+use Rattle.bson.specs.declared.extjson.key_order.KeyOrder.TheVariants.{AsGiven}
 use Rattle.bson.specs.declared.extjson.text_error.TextError.{TextError}
-use Rattle.bson.specs.declared.extjson.text_error.TextError.TheVariants.{OutOfMemory}
+use Rattle.bson.specs.declared.extjson.text_error.TextError.TheVariants.{NotExtendedJson, OutOfMemory}
 use Rattle.bson.proofs.Accepted.{accepted}
-use Rattle.bson.proofs.Marks.{given_ok, given_none}
 
-module _ (D : Doubles) (bytes text : List ℕ) (same : bytes ≡ text) (utf8 : IsUtf8 bytes) where
-  pub meant_by : (o : KeyOrder) (v : Value) → TextReads o D text (Some v) → HasTextMeaningBy o D bytes v
-  meant_by Ascending v m = record {
-    tree = m.0;
-    text = record { utf8 = utf8; tree_read = subst (λ s. read s ≡ Some m.0) (sym same) m.1 };
-    meaning = (value_read_in D (λ w. w) m.0 (Ok v) (given_ok (reads_in D m.0) v m.2)).ok;
+module _ (D : Doubles) (text : List ℕ) (utf8 : IsUtf8 text) where
+  -- the value of the text's tree
+  pub meant_by_tree : (t : Data) (v : Value) → read text ≡ Some t → reads_in D t ≡ Ok v → HasTextMeaningIn D text v
+  meant_by_tree t v is reads = record {
+    tree = t;
+    text = record { utf8 = utf8; tree_read = is };
+    meaning = (value_read_in D (λ w. w) t (Ok v) reads).ok;
   }
-  meant_by AsGiven v m = (
-    utf8,
-    subst (λ s. HasMeaningInOrder D s v) (sym same)
-        (text_means D text m.0 v m.1 (means_from D m.0 v (given_ok (reads_in_order D m.0) v m.2))),
-  )
 
-  -- what has a meaning by default was read in order
-  never_in_order : (t : Data) (v : Value) → read_kept text ≡ Some t → ((w : Value) → reads_in_order D t ≡ Ok w → ⊥)
-      → reads_in D (unordered t) ≡ Ok v → ⊥
-  never_in_order t v is never e =
-      let forgotten : read text ≡ Some (unordered t) = read_forgotten text ∙ ap (option_map unordered) is in
-      let means : HasMeaningIn D (unordered t) v = (value_read_in D (λ w. w) (unordered t) (Ok v) e).ok in
-      let meant = meant_by_text D text v (unordered t, forgotten, means) in
-      let h = meant.1 in
-      let one : h.tree ≡ t = same_Some h.tree t (sym h.tree_read ∙ is) in
-      never meant.0
-      (means_in D (subst (λ u. MeansInOrder D u meant.0) one h.means) (read_is_kept text t is))
+  -- the first fault of the text's tree
+  pub fault_by_tree : (t : Data) (place : Place) → read text ≡ Some t → IsPlace (λ f. FaultAtIn D f t) place
+      → IsTextFaultIn D text (NotExtendedJson place)
+  fault_by_tree t place is lies =
+      (t, record { utf8 = utf8; tree_read = is }, first_found D t (Ok (Some place)) lies)
 
-  pub no_meaning_by : (o : KeyOrder) → TextReads o D text None → HasNoMeaningIn D bytes
-  no_meaning_by Ascending m = (
-    m.0,
-    record { utf8 = utf8; tree_read = subst (λ s. read s ≡ Some m.0) (sym same) m.1 },
-    given_none (reads_in D m.0) m.2,
-  )
-  no_meaning_by AsGiven m = (
-    unordered m.0,
-    record {
+  -- the value of the text that it is arranged as
+  pub meant_by_key : (written : List ℕ) (v : Value) → IsArrangedText arranged.Ascending text written
+      → HasTextMeaningIn D written v → HasTextMeaningIn D text v
+  meant_by_key written v is means = record {
+    tree = means.tree;
+    text = record {
       utf8 = utf8;
-      tree_read = subst (λ s. read s ≡ Some (unordered m.0)) (sym same)
-          (read_forgotten text ∙ ap (option_map unordered) m.1);
-    },
-    λ v. never_in_order m.0 v m.1 (given_none (reads_in_order D m.0) m.2),
-  )
+      tree_read = sym (text_read arranged.Ascending text written is) ∙ means.text.tree_read;
+    };
+    meaning = means.meaning;
+  }
+
+  pub meant_by_first_places : (written : List ℕ) (v : Value) → IsArrangedText arranged.FirstPlaces text written
+      → HasTextMeaningBy AsGiven D written v → HasTextMeaningBy AsGiven D text v
+  meant_by_first_places written v is means = (utf8, (meant_in_order D text written v is).0 means.1)
 
 -- ---- what was read in order
 

@@ -1,5 +1,5 @@
 -- Members in ascending order, by their places.
-use Rattle.std.proofs.Common.{◌≡◌, ℕ, zero, suc, ◌+◌, ◌<◌, ◌≤◌, List, [], ◌∷◌, ◌++◌, length, get_or, set, String}
+use Rattle.std.proofs.Common.{◌≡◌, ℕ, zero, suc, ◌+◌, ◌<◌, ◌≤◌, List, [], ◌∷◌, length, get_or, set, String}
 use Rattle.std.proofs.Common.{Global, string_bytes, Less, Equal, Greater, nat_cmp, refl, sym, ap, subst, arith}
 use Rattle.std.specs.Cmp.Lexicographic.{slice_cmp}
 use Rattle.std.specs.List.{insert}
@@ -89,21 +89,7 @@ fits_within k [] (suc i) h = absurd h
 fits_within k (m ∷ ms) zero h = omega arith
 fits_within k (m ∷ ms) (suc i) h = omega (arith, fits_within k ms i h.1)
 
--- ---- arrays
-
-pub nothing_left : {X : Type 0} (xs : List X) → length xs ≡ 0 → xs ≡ []
-nothing_left [] h = refl
-nothing_left (x ∷ xs) h = absurd (omega arith)
-
 -- how many are left behind the next
 pub one_left : {X : Type 0} (xs ys : List X) (x : X) (n m : ℕ) → n ≡ length xs → xs ≡ x ∷ ys → m + 1 ≡ n
     → m ≡ length ys
 one_left xs ys x n m all steps gone = let short = ap length steps in omega arith
-
-pub then_last : {X : Type 0} (xs : List X) (x : X) (ys : List X) → (xs ++ x ∷ []) ++ ys ≡ xs ++ x ∷ ys
-then_last [] x ys = refl
-then_last (y ∷ xs) x ys = ap (λ l. y ∷ l) (then_last xs x ys)
-
-pub at_end : {X : Type 0} (xs : List X) → xs ++ [] ≡ xs
-at_end [] = refl
-at_end (x ∷ xs) = ap (λ l. x ∷ l) (at_end xs)

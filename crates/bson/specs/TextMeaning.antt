@@ -1,10 +1,9 @@
 -- What bytes mean as a text, and why they mean nothing.
-use Rattle.std.specs.Prelude.{◌≡◌, ℕ, List, Some, None, Ok, IsUtf8}
+use Rattle.std.specs.Prelude.{◌≡◌, ℕ, List, Some, None, IsUtf8}
 use Rattle.serde_json.specs.Data.{Data}
 use Rattle.serde_json.specs.Read.{read}
 use Rattle.bson_scalar.specs.declared.form.Doubles.{Doubles}
 use Rattle.bson_scalar.specs.declared.form.Doubles.TheVariants.{Special}
-use Rattle.bson_model.specs.Reading.{reads_in}
 use Rattle.bson_model.specs.Value.{Value}
 use Rattle.bson_model.specs.Laws.{HasMeaningIn}
 use Rattle.bson_place.specs.Place.{IsFirstFaultIn}
@@ -29,10 +28,6 @@ pub record HasTextMeaningIn (D : Doubles) (bytes : List ℕ) (v : Value) : Type 
   pub text : IsTextOf bytes tree
   pub meaning : HasMeaningIn D tree v
 
--- the bytes are a text of a tree that means nothing
-abbrev pub HasNoMeaningIn : Doubles → List ℕ → Type 0
-HasNoMeaningIn D bytes = (t : Data) × IsTextOf bytes t × ((v : Value) → reads_in D t ≡ Ok v → ⊥)
-
 -- why the bytes give no value
 abbrev pub IsTextFaultIn : Doubles → List ℕ → TextError → Type 0
 IsTextFaultIn D bytes NotJson = IsNoText bytes
@@ -41,9 +36,6 @@ IsTextFaultIn D bytes OutOfMemory = Unit {0}
 
 abbrev pub HasTextMeaning : List ℕ → Value → Type 0
 HasTextMeaning = HasTextMeaningIn Special
-
-abbrev pub HasNoMeaning : List ℕ → Type 0
-HasNoMeaning = HasNoMeaningIn Special
 
 abbrev pub IsTextFault : List ℕ → TextError → Type 0
 IsTextFault = IsTextFaultIn Special

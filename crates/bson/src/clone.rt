@@ -10,7 +10,11 @@ use bson_store::{PairStore, SmallPairs};
 use std::alloc::{AllocError, Global};
 
 impl Bson {
-    /// The same value, in memory of its own.
+    /// Returns a copy of the value, in memory of its own.
+    ///
+    /// # Errors
+    ///
+    /// Returns `AllocError` if a request for memory is refused.
     pub fn clone(&self, alloc: Global) -> Result<Bson, AllocError>
         ensures { IfOk result (λ v. bson_view v ≡ bson_view self.now) }
     {
@@ -19,7 +23,11 @@ impl Bson {
 }
 
 impl JavaScriptCodeWithScope {
-    /// The same code and scope, in memory of their own.
+    /// Returns a copy of the code and its scope, in memory of its own.
+    ///
+    /// # Errors
+    ///
+    /// Returns `AllocError` if a request for memory is refused.
     pub fn clone(&self, alloc: Global) -> Result<JavaScriptCodeWithScope, AllocError>
         ensures { IfOk result (λ v. scoped_view v ≡ scoped_view self.now) }
     {
@@ -28,7 +36,12 @@ impl JavaScriptCodeWithScope {
 }
 
 impl Document {
-    /// The same pairs in the same order, in memory of their own, from the document's allocator.
+    /// Returns a copy of the pairs in the same order, in memory of its own from the document's
+    /// allocator.
+    ///
+    /// # Errors
+    ///
+    /// Returns `AllocError` if a request for memory is refused.
     pub fn clone(&self) -> Result<Document, AllocError>
         ensures { IfOk result (λ d. document_view d ≡ document_view self.now) }
     {

@@ -167,14 +167,22 @@ impl Bson {
     ghost use Rattle.bson_types.specs.Vectors.{vector_bytes};
     ghost use Rattle.bson.specs.View.{bson_view, values_view};
 
-    /// A `String` of this text, in memory of its own.
+    /// Makes a `String` of a copy of this text.
+    ///
+    /// # Errors
+    ///
+    /// Returns `AllocError` if a request for memory is refused.
     pub fn string(alloc: Global, text: &str) -> Result<Bson, AllocError>
         ensures { IfOk result (λ v. bson_view v ≡ scalar (kind.text text.now)) }
     {
         Ok(Bson::String(String::from_str(alloc, text)?))
     }
 
-    /// An `Array` of copies of these values, in order.
+    /// Makes an `Array` of copies of these values, in order.
+    ///
+    /// # Errors
+    ///
+    /// Returns `AllocError` if a request for memory is refused.
     pub fn from_slice(alloc: Global, values: &[Bson]) -> Result<Bson, AllocError>
         ensures { IfOk result (λ v. bson_view v ≡ array (values_view values.now)) }
     {
@@ -185,7 +193,11 @@ impl Bson {
         Ok(Bson::Array(copies))
     }
 
-    /// An `Array` of all that the iterator gives, in order.
+    /// Makes an `Array` of all items of the iterator, in order.
+    ///
+    /// # Errors
+    ///
+    /// Returns `AllocError` if a request for memory is refused.
     pub fn from_values<I: Iterator<Item = Bson> + Drop>(
         alloc: Global,
         values: I,
@@ -205,14 +217,22 @@ impl Bson {
         option.unwrap_or(Bson::Null)
     }
 
-    /// A `Binary` of the subtype `Uuid`, of the UUID's 16 bytes.
+    /// Makes a `Binary` of the subtype `Uuid` from the 16 bytes of the UUID.
+    ///
+    /// # Errors
+    ///
+    /// Returns `AllocError` if a request for memory is refused.
     pub fn from_uuid(alloc: Global, id: Uuid) -> Result<Bson, AllocError>
         ensures { IfOk result (λ v. bson_view v ≡ scalar (kind.binary BinarySubtype.Uuid id)) }
     {
         Ok(Bson::Binary(Binary::from_uuid(alloc, id)?))
     }
 
-    /// A `Binary` of the subtype `Vector`, of the vector's bytes.
+    /// Makes a `Binary` of the subtype `Vector` from the bytes of the vector.
+    ///
+    /// # Errors
+    ///
+    /// Returns `AllocError` if a request for memory is refused.
     pub fn from_vector(alloc: Global, vector: &Vector) -> Result<Bson, AllocError>
         ensures { IfOk result (λ v. bson_view v
             ≡ scalar (kind.binary BinarySubtype.Vector (vector_bytes vector.now))) }

@@ -4,7 +4,8 @@
 //! trees) over `read` (by the walk of `bson_place`), `builder` (what is built as it walks) and
 //! `scalars`; `ser` and `ordered` (the calls that write, with keys that ascend and in each
 //! document's own order) over `write` (trees) and `text` (texts, in either `key_order`);
-//! `text_reader` (values from texts) with `text_error`.
+//! `text_reader` (values from texts) with `text_error`; `value_writer` (values in memory, made as a
+//! text is read).
 mod builder;
 pub mod de;
 mod key_order;
@@ -16,6 +17,7 @@ mod ser;
 mod text;
 mod text_error;
 mod text_reader;
+mod value_writer;
 mod write;
 
 pub use crate::extjson::options::Options;

@@ -11,12 +11,16 @@ use bson_store::PairStore;
 use std::alloc::{AllocError, Global};
 
 impl Bson {
-    /// The value on several lines: each entry of a document and each element of an array on a line
-    /// of its own, at the indent, a number of blanks. What lies inside stands 2 blanks further in,
-    /// up to the greatest usize, and a closing bracket 2 blanks further out, as far as there are
-    /// any. Empty documents, empty arrays and all other values are written as by `Display`.
+    /// Writes the value on several lines. Each entry of a document and each element of an array is
+    /// on a line of its own, at the indent, a number of blanks.
     ///
-    /// The error is out of memory.
+    /// The indent grows by 2 blanks at each level, up to the greatest usize. A closing bracket has
+    /// 2 blanks less, if there are any. Empty documents, empty arrays and all other values are
+    /// written as by `Display`.
+    ///
+    /// # Errors
+    ///
+    /// Returns `AllocError` if a request for memory is refused.
     pub fn to_pretty_string(&self, alloc: Global, indent: usize) -> Result<String, AllocError>
         ensures { IfOk result (λ s. string_bytes s ≡ pretty indent (bson_view self.now)) }
     {
@@ -27,10 +31,12 @@ impl Bson {
 }
 
 impl Document {
-    /// The document on several lines at an indent, as [`Bson::to_pretty_string`] writes it. It
-    /// takes its memory from the document's allocator.
+    /// Writes the document on several lines at an indent, as [`Bson::to_pretty_string`] writes it.
+    /// The memory comes from the document's allocator.
     ///
-    /// The error is out of memory.
+    /// # Errors
+    ///
+    /// Returns `AllocError` if a request for memory is refused.
     pub fn to_pretty_string(&self, indent: usize) -> Result<String, AllocError>
         ensures { IfOk result (λ s. string_bytes s ≡ pretty indent (document_of (document_view self.now))) }
     {

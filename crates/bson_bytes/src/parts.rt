@@ -12,6 +12,11 @@ use crate::fault::{Fault, FaultKind, fault_at};
 use bson_types::spec::ElementType;
 use std::str;
 
+/// Splits off the first byte.
+///
+/// # Errors
+///
+/// - `Short`: there is no byte.
 pub fn byte_at(bytes: &[u8]) -> Result<(u8, &[u8]), Fault>
     ensures given { Gives (λ x. (x.0, x.1.now)) result (byte_at bytes.now) }
     ensures shorter { IfOk result (λ x. length x.1.now < length bytes.now) }
@@ -22,6 +27,11 @@ pub fn byte_at(bytes: &[u8]) -> Result<(u8, &[u8]), Fault>
     }
 }
 
+/// Splits off the first `count` bytes.
+///
+/// # Errors
+///
+/// - `Short`: there are fewer than `count` bytes.
 pub fn bytes_at(count: usize, bytes: &[u8]) -> Result<(&[u8], &[u8]), Fault>
     ensures given { Gives (λ x. (x.0.now, x.1.now)) result (bytes_at count bytes.now) }
     ensures exact { IfOk result (λ x. length x.0.now ≡ count) }
@@ -33,6 +43,11 @@ pub fn bytes_at(count: usize, bytes: &[u8]) -> Result<(&[u8], &[u8]), Fault>
     Ok(bytes.split_at(count))
 }
 
+/// Reads a number of 32 bits, its lowest byte first.
+///
+/// # Errors
+///
+/// - `Short`: there are fewer than 4 bytes.
 pub fn u32_at(bytes: &[u8]) -> Result<(u32, &[u8]), Fault>
     ensures given { Gives (λ x. (x.0, x.1.now)) result (number_at w32 bytes.now) }
     ensures shorter { IfOk result (λ x. length x.1.now ≤ length bytes.now) }
@@ -45,6 +60,11 @@ pub fn u32_at(bytes: &[u8]) -> Result<(u32, &[u8]), Fault>
     Ok((number, rest))
 }
 
+/// Reads a number of 64 bits, its lowest byte first.
+///
+/// # Errors
+///
+/// - `Short`: there are fewer than 8 bytes.
 pub fn u64_at(bytes: &[u8]) -> Result<(u64, &[u8]), Fault>
     ensures given { Gives (λ x. (x.0, x.1.now)) result (number_at w64 bytes.now) }
     ensures shorter { IfOk result (λ x. length x.1.now ≤ length bytes.now) }
@@ -59,7 +79,12 @@ pub fn u64_at(bytes: &[u8]) -> Result<(u64, &[u8]), Fault>
     Ok((number, rest))
 }
 
-/// A length: a number of 32 bits that is not negative.
+/// Reads a length: a number of 32 bits that is not negative.
+///
+/// # Errors
+///
+/// - `Short`: there are fewer than 4 bytes.
+/// - `Length`: the number is negative.
 #[tactic(auto, unfolding(crate::specs::Reading::size_at))]
 pub fn size_at(bytes: &[u8]) -> Result<(usize, &[u8]), Fault>
     ensures given { Gives (λ x. (x.0, x.1.now)) result (size_at bytes.now) }
@@ -73,6 +98,12 @@ pub fn size_at(bytes: &[u8]) -> Result<(usize, &[u8]), Fault>
     Ok((size as usize, rest))
 }
 
+/// Passes over a 0.
+///
+/// # Errors
+///
+/// - `Short`: there is no byte.
+/// - `End`: the first byte is not 0.
 pub fn zero_at(bytes: &[u8]) -> Result<&[u8], Fault>
     ensures given { Gives (λ x. x.now) result (zero_at bytes.now) }
     ensures shorter { IfOk result (λ x. length x.now ≤ length bytes.now) }
@@ -120,7 +151,12 @@ fn utf8_at<'a>(text: &'a [u8], bytes: &[u8]) -> Result<&'a str, Fault>
     }
 }
 
-/// The name of an element.
+/// Reads the name of an element.
+///
+/// # Errors
+///
+/// - `Short`: no byte is 0.
+/// - `Utf8`: the bytes before the first 0 are not UTF-8.
 #[tactic(auto, unfolding(crate::specs::Reading::name_at))]
 pub fn name_at(bytes: &[u8]) -> Result<(&str, &[u8]), Fault>
     ensures given { Gives (λ x. (x.0.now, x.1.now)) result (name_at bytes.now) }
@@ -148,7 +184,12 @@ fn split_name(bytes: &[u8]) -> Option<(&[u8], &[u8], bool)>
     None
 }
 
-/// What stands behind the name of an element. A name of ASCII is UTF-8, and is looked at once.
+/// Passes over the name of an element. A name of ASCII is read once.
+///
+/// # Errors
+///
+/// - `Short`: no byte is 0.
+/// - `Utf8`: the bytes before the first 0 are not UTF-8.
 #[tactic(auto, unfolding(crate::specs::Reading::name_at))]
 pub fn behind_name(bytes: &[u8]) -> Result<&[u8], Fault>
     ensures given { Gives (λ x. x.now) result (passed (name_at bytes.now)) }
@@ -164,7 +205,14 @@ pub fn behind_name(bytes: &[u8]) -> Result<&[u8], Fault>
     Ok(rest)
 }
 
-/// A text of its own length, in which a 0 may stand.
+/// Reads a text after its length. The text may contain a 0.
+///
+/// # Errors
+///
+/// - `Short`: the bytes end before the length, the text or the 0 after it does.
+/// - `Length`: the length is not positive.
+/// - `End`: the byte after the text is not 0.
+/// - `Utf8`: the text is not UTF-8.
 #[tactic(auto, unfolding(crate::specs::Reading::text_at))]
 pub fn text_at(bytes: &[u8]) -> Result<(&str, &[u8]), Fault>
     ensures given { Gives (λ x. (x.0.now, x.1.now)) result (text_at bytes.now) }
@@ -185,6 +233,11 @@ pub fn kind_of(tag: u8) -> Option<ElementType>
     ElementType::from(tag)
 }
 
+/// Splits off the first 12 bytes.
+///
+/// # Errors
+///
+/// - `Short`: there are fewer than 12 bytes.
 pub fn twelve_at(bytes: &[u8]) -> Result<([u8; 12], &[u8]), Fault>
     ensures given { Gives (λ x. (x.0, x.1.now)) result (bytes_at 12 bytes.now) }
     ensures shorter { IfOk result (λ x. length x.1.now ≤ length bytes.now) }
@@ -196,6 +249,11 @@ pub fn twelve_at(bytes: &[u8]) -> Result<([u8; 12], &[u8]), Fault>
     }
 }
 
+/// Splits off the first 16 bytes.
+///
+/// # Errors
+///
+/// - `Short`: there are fewer than 16 bytes.
 pub fn sixteen_at(bytes: &[u8]) -> Result<([u8; 16], &[u8]), Fault>
     ensures given { Gives (λ x. (x.0, x.1.now)) result (bytes_at 16 bytes.now) }
     ensures shorter { IfOk result (λ x. length x.1.now ≤ length bytes.now) }

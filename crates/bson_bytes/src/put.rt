@@ -18,6 +18,11 @@ use bson_types::spec::ElementType;
 use bson_types::timestamp::Timestamp;
 use std::alloc::AllocError;
 
+/// Appends a number of 32 bits, its lowest byte first.
+///
+/// # Errors
+///
+/// Returns `AllocError` if a request for memory is refused.
 #[inline]
 #[tactic(auto, unfolding(crate::specs::Grammar::le))]
 pub fn put_u32(out: &mut Vec<u8>, number: u32) -> Result<(), AllocError>
@@ -26,6 +31,11 @@ pub fn put_u32(out: &mut Vec<u8>, number: u32) -> Result<(), AllocError>
     out.extend_from_slice(&number.to_le_bytes())
 }
 
+/// Appends a number of 64 bits, its lowest byte first.
+///
+/// # Errors
+///
+/// Returns `AllocError` if a request for memory is refused.
 #[inline]
 #[tactic(auto, unfolding(crate::specs::Grammar::le))]
 pub fn put_u64(out: &mut Vec<u8>, number: u64) -> Result<(), AllocError>
@@ -34,6 +44,11 @@ pub fn put_u64(out: &mut Vec<u8>, number: u64) -> Result<(), AllocError>
     out.extend_from_slice(&number.to_le_bytes())
 }
 
+/// Appends a timestamp: its increment, and then its time.
+///
+/// # Errors
+///
+/// Returns `AllocError` if a request for memory is refused.
 #[inline]
 pub fn put_timestamp(out: &mut Vec<u8>, timestamp: Timestamp) -> Result<(), AllocError>
     ensures put { OnOk result (out.new.items ≡ out.old.items ++ (le w32 timestamp.increment ++ le w32 timestamp.time)) }
@@ -43,6 +58,12 @@ pub fn put_timestamp(out: &mut Vec<u8>, timestamp: Timestamp) -> Result<(), Allo
     put_u32(out, timestamp.time)
 }
 
+/// Appends a text: its length, its bytes and a 0.
+///
+/// # Errors
+///
+/// - `Size`: the text has 2^31 - 1 bytes or more.
+/// - `OutOfMemory`: a request for memory was refused.
 #[inline]
 pub fn put_text(out: &mut Vec<u8>, text: &str) -> Result<(), Error>
     ensures put { Puts result out.new.items (put_text text.now out.old.items) }
@@ -57,6 +78,13 @@ pub fn put_text(out: &mut Vec<u8>, text: &str) -> Result<(), Error>
     Ok(())
 }
 
+/// Appends a binary: its length, its subtype and its bytes. A second length comes before the bytes
+/// if the subtype is 2.
+///
+/// # Errors
+///
+/// - `Size`: the length is 2^31 or more. It includes the 4 bytes of a second length.
+/// - `OutOfMemory`: a request for memory was refused.
 pub fn put_binary(out: &mut Vec<u8>, binary: &Binary) -> Result<(), Error>
     ensures put { Puts result out.new.items
         (put_binary (subtype_byte binary.now.subtype) binary.now.bytes.items out.old.items) }
@@ -98,6 +126,12 @@ fn put_old_binary(out: &mut Vec<u8>, bytes: &[u8]) -> Result<(), Error>
     Ok(())
 }
 
+/// Appends a regular expression: its pattern and its options, each with a 0 after it.
+///
+/// # Errors
+///
+/// - `Regex`: the pattern or the options contain a 0.
+/// - `OutOfMemory`: a request for memory was refused.
 pub fn put_regex(out: &mut Vec<u8>, regex: &Regex) -> Result<(), Error>
     ensures put { Puts result out.new.items
         (put_regex (string_bytes regex.now.pattern) (string_bytes regex.now.options) out.old.items) }
@@ -116,6 +150,12 @@ pub fn put_regex(out: &mut Vec<u8>, regex: &Regex) -> Result<(), Error>
     Ok(())
 }
 
+/// Appends a pointer: its namespace as a text, and its object id.
+///
+/// # Errors
+///
+/// - `Size`: the namespace has 2^31 - 1 bytes or more.
+/// - `OutOfMemory`: a request for memory was refused.
 #[tactic(auto, using(crate::proofs::Texts::string_utf8))]
 pub fn put_pointer(out: &mut Vec<u8>, pointer: &DbPointer) -> Result<(), Error>
     ensures put { Puts result out.new.items (put_pointer (namespace_of pointer.now) (id_of pointer.now) out.old.items) }
@@ -127,7 +167,12 @@ pub fn put_pointer(out: &mut Vec<u8>, pointer: &DbPointer) -> Result<(), Error>
     Ok(())
 }
 
-/// The tag and the key of an element of a document.
+/// Appends the tag and the key of an element of a document.
+///
+/// # Errors
+///
+/// - `Key`: the key contains a 0.
+/// - `OutOfMemory`: a request for memory was refused.
 #[inline]
 pub fn put_key(out: &mut Vec<u8>, kind: ElementType, key: &str) -> Result<(), Error>
     ensures put { Puts result out.new.items (put_name kind key.now out.old.items) }
@@ -139,7 +184,11 @@ pub fn put_key(out: &mut Vec<u8>, kind: ElementType, key: &str) -> Result<(), Er
     Ok(put_name(out, kind, key)?)
 }
 
-/// The tag and the name of an element; the name has no 0 in it.
+/// Appends the tag and the name of an element. The name contains no 0.
+///
+/// # Errors
+///
+/// Returns `AllocError` if a request for memory is refused.
 #[inline]
 pub fn put_name(out: &mut Vec<u8>, kind: ElementType, name: &str) -> Result<(), AllocError>
     ensures put { OnOk result (out.new.items ≡ out.old.items ++ name_bytes kind name.now) }
@@ -150,7 +199,11 @@ pub fn put_name(out: &mut Vec<u8>, kind: ElementType, name: &str) -> Result<(), 
     Ok(())
 }
 
-/// The length of what stands from the place on, into the four bytes there.
+/// Writes the length of the bytes from `start` on into the first four of them.
+///
+/// # Errors
+///
+/// - `Size`: the length is 2^31 or more.
 #[inline]
 #[tactic(auto, unfolding(crate::specs::Grammar::le, crate::specs::Putting::put_length))]
 pub fn put_length(out: &mut Vec<u8>, start: usize) -> Result<(), Error>
@@ -168,7 +221,11 @@ pub fn put_length(out: &mut Vec<u8>, start: usize) -> Result<(), Error>
     Ok(())
 }
 
-/// Four bytes for a length that is not known yet.
+/// Appends four bytes for a length that is not known yet.
+///
+/// # Errors
+///
+/// Returns `AllocError` if a request for memory is refused.
 #[inline]
 pub fn put_room(out: &mut Vec<u8>) -> Result<(), AllocError>
     ensures { OnOk result (out.new.items ≡ put_room out.old.items) }
@@ -176,7 +233,12 @@ pub fn put_room(out: &mut Vec<u8>) -> Result<(), AllocError>
     out.extend_from_slice(&[0, 0, 0, 0])
 }
 
-/// The 0 behind a list of elements, and the length of the document at its place.
+/// Appends the 0 after a list of elements, and writes the length of the document at its place.
+///
+/// # Errors
+///
+/// - `Size`: the length is 2^31 or more.
+/// - `OutOfMemory`: a request for memory was refused.
 #[inline]
 pub fn put_end(out: &mut Vec<u8>, start: usize) -> Result<(), Error>
     requires { start + 4 ≤ vec_len out.old }

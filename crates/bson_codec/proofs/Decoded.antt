@@ -1,6 +1,6 @@
 -- The text that the source wrote is that of the document in its own order, and so is a line of a dump.
 use Rattle.std.proofs.Common.{◌≡◌, ◌++◌, ℕ, List, true, Result, Ok, Err, String, string_bytes, refl, sym, ap, subst, ◌∙◌}
-use Rattle.std.specs.Prelude.{is_ok}
+use Rattle.std.specs.Prelude.{is_ok, IsUtf8}
 use Rattle.std.specs.declared.alloc.Global.{Global}
 use Rattle.serde_json.specs.Data.{Data, object}
 use Rattle.bson_scalar.specs.Written.{Refusal}
@@ -59,7 +59,7 @@ text_written f v text t = sym (writable_is Finite f v) ∙ ap is_ok (written_to 
 
 -- a line of a dump in its own order, with finite doubles
 pub line_is : (run : Run) (f : Form) (bytes text line : List ℕ) → run.line ≡ TextInOrder f → run.options.doubles ≡ Finite
-    → IsTextOf f run.depth bytes text → line ≡ text ++ newline → IsLine run bytes line
+    → IsTextOf f run.depth bytes text → (line ≡ text ++ newline) × IsUtf8 line → IsLine run bytes line
 line_is run f bytes text line form finite decoded is =
     let v = document decoded.pairs in
     let t = decoded.text_in_order in
@@ -68,6 +68,7 @@ line_is run f bytes text line form finite decoded is =
       read = decoded.read;
       written = subst (λ x. WritesLine run.options x decoded.pairs line) (sym form) (
         subst (λ D. writable_in D v ≡ true) (sym finite) (text_written f v text t),
-        (text, subst (λ D. IsTextInOrder D f v text) (sym finite) t, is),
+        (text, subst (λ D. IsTextInOrder D f v text) (sym finite) t, is.0),
       );
+      utf8 = is.1;
     }

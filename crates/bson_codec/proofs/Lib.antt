@@ -12,3 +12,4 @@ pub mod OneDump
 pub mod Inside
 pub mod Decoded
 pub mod Offered
+pub mod Utf8

@@ -1,5 +1,5 @@
 -- What a run over documents does: its input is documents one behind the other.
-use Rattle.std.specs.Prelude.{◌≡◌, ◌≢◌, ◌⊎◌, ◌+◌, ℕ, List, [], ◌++◌, true, false, Option, Some, Ok, length}
+use Rattle.std.specs.Prelude.{◌≡◌, ◌≢◌, ◌⊎◌, ◌+◌, ℕ, List, [], ◌++◌, true, false, IsUtf8, Option, Some, Ok, length}
 use Rattle.std.specs.Io.{StartsWith}
 use Rattle.std.specs.Io.KnownBytes.{Appends, Consumes, IsAtEnd, Keeps}
 use Rattle.bson.specs.declared.extjson.options.Options.{Options}
@@ -33,11 +33,12 @@ WritesLine o (TextInOrder f) ps line = (writable_in o.doubles (document ps) ≡ 
 WritesLine o Shown ps line = line ≡ display_text (document ps) ++ newline
 WritesLine o Nothing ps line = line ≡ []
 
--- what is written of the document that the bytes are
+-- what is written of the document that the bytes are, which is UTF-8
 pub record IsLine (run : Run) (bytes line : List ℕ) : Type 0 where
   pub pairs : Pairs
   pub read : IsRead run.depth bytes pairs
   pub written : WritesLine run.options run.line pairs line
+  pub utf8 : IsUtf8 line
 
 -- the document has no text in a form
 abbrev pub IsUnwritable : Options → Line → Pairs → Type 0

@@ -82,11 +82,17 @@ pub enum Error {
 /// A document, or why bytes give none.
 pub type Result<T, E = Error> = std::result::Result<T, E>;
 
-/// The document that the bytes are, all of them (BSON 1.1), in which documents, arrays and scopes
-/// stand at most `depth` in each other, counting the document itself.
+/// Returns the document that all of the bytes are (BSON 1.1). Documents, arrays and scopes nest at
+/// most `depth` deep, counting the document itself.
 ///
-/// Of a key that stands twice the last value counts, at the first place. The keys of an array are
-/// dropped, whatever they are. An error has the first fault and its place.
+/// If a key is duplicated, its last value wins, at its first position. The keys of an array are
+/// dropped, whatever they are.
+///
+/// # Errors
+///
+/// - `Malformed`: the bytes are not a document that nests at most `depth` deep. It has the first
+///   fault and its offset.
+/// - `OutOfMemory`: a request for memory was refused.
 pub fn from_slice(alloc: Global, bytes: &[u8], depth: usize) -> Result<Document>
     // What is read is in the grammar.
     ensures ok { IfOk result (λ d. IsRead depth bytes.now (document_view d)) }
@@ -103,12 +109,19 @@ pub fn from_slice(alloc: Global, bytes: &[u8], depth: usize) -> Result<Document>
     from_slice_with(alloc, options, bytes)
 }
 
-/// The document that the bytes are, read as the options say; otherwise as [`from_slice`].
+/// Returns the document that the bytes are, read as the options say, otherwise as [`from_slice`].
 ///
-/// Where no key may stand twice, none may in a document or scope, at any depth; the keys of an array
-/// are free. What is read is then the same as by [`from_slice`]. The fault is DuplicateKey at the
-/// key that stands again: what is wrong before it comes first, and what is wrong behind it does not
-/// count, nor does a length around it, which is looked at behind its part.
+/// If the options refuse duplicate keys, a document or scope may have none, at any depth. The keys
+/// of an array are free. What is read is then the same as by [`from_slice`].
+///
+/// # Errors
+///
+/// - `Malformed`: the bytes are not a document that nests at most `depth` deep, or have a duplicate
+///   key that the options refuse. It has the first fault and its offset.
+/// - `OutOfMemory`: a request for memory was refused.
+///
+/// The fault of a duplicate key is at its second position. A fault before it comes first. A fault
+/// after it does not count, nor does a length around it, which is checked after its part.
 pub fn from_slice_with(alloc: Global, options: ReadOptions, bytes: &[u8]) -> Result<Document>
     // What is read is in the grammar, and no key stands twice where the options refuse that.
     ensures ok { IfOk result (λ d. IsReadIn options.duplicate_keys options.depth bytes.now (document_view d)) }
@@ -125,8 +138,14 @@ pub fn from_slice_with(alloc: Global, options: ReadOptions, bytes: &[u8]) -> Res
     }
 }
 
-/// The document that stands at the front of the bytes, and the bytes behind it. What is said of
-/// [`from_slice`] holds of the front.
+/// Returns the document at the front of the bytes, as [`from_slice`] reads it, and the bytes after
+/// it.
+///
+/// # Errors
+///
+/// - `Malformed`: the bytes do not begin with a document that nests at most `depth` deep. It has
+///   the first fault and its offset.
+/// - `OutOfMemory`: a request for memory was refused.
 pub fn front(alloc: Global, bytes: &[u8], depth: usize) -> Result<(Document, &[u8])>
     // What is read is in the grammar.
     ensures ok { IfOk result (λ x. IsFront depth bytes.now (document_view x.0) x.1.now) }
@@ -143,8 +162,14 @@ pub fn front(alloc: Global, bytes: &[u8], depth: usize) -> Result<(Document, &[u
     front_with(alloc, options, bytes)
 }
 
-/// The document that stands at the front of the bytes, read as the options say, and the bytes behind
-/// it. What is said of [`from_slice_with`] holds of the front.
+/// Returns the document at the front of the bytes, as [`from_slice_with`] reads it, and the bytes
+/// after it.
+///
+/// # Errors
+///
+/// - `Malformed`: the bytes do not begin with a document as the options say. It has the first fault
+///   and its offset.
+/// - `OutOfMemory`: a request for memory was refused.
 pub fn front_with(alloc: Global, options: ReadOptions, bytes: &[u8]) -> Result<(Document, &[u8])>
     // What is read is in the grammar, and no key stands twice where the options refuse that.
     ensures ok { IfOk result
@@ -162,9 +187,15 @@ pub fn front_with(alloc: Global, options: ReadOptions, bytes: &[u8]) -> Result<(
     }
 }
 
-/// Whether the bytes are a document, as [`from_slice`] reads it, with nothing kept and no memory
-/// taken: where it answers, `from_slice` gives a document unless memory runs out, and where it
-/// fails, the same error.
+/// Checks whether the bytes are a document, as [`from_slice`] reads it. Nothing is kept, and no
+/// memory is requested.
+///
+/// # Errors
+///
+/// - `Malformed`: the bytes are not a document that nests at most `depth` deep. It has the first
+///   fault and its offset, as that of [`from_slice`].
+///
+/// `OutOfMemory` is never returned.
 ///
 /// ```
 /// println!(rt; "{:?}", is_document(b"\x05\0\0\0\0", DEPTH).is_ok())?; // true
@@ -183,8 +214,12 @@ pub fn is_document(bytes: &[u8], depth: usize) -> Result<()>
     }
 }
 
-/// Whether the bytes are a document, as [`from_slice`] reads it, and the bytes that it is written
-/// as: of all bytes of a document there are one such.
+/// Returns whether the bytes are a document, as [`from_slice`] reads it, and are the bytes as which
+/// it is written. Each document is written as one sequence of bytes.
+///
+/// # Errors
+///
+/// Returns `AllocError` if a request for memory is refused.
 pub fn is_canonical(alloc: Global, bytes: &[u8], depth: usize) -> Result<bool, AllocError>
     ensures { IfOk result (λ b. IsTrue b ↔ ((ps : Pairs) × IsCanonical depth bytes.now ps)) }
 {

@@ -1,5 +1,5 @@
 //! Concatenated documents, as in dumps.
-ghost use Rattle.std.specs.Prelude.{◌≡◌, ◌⊎◌, ◌↔◌, ℕ, List, ◌++◌, IfOk, IfErr, OnOk, IsTrue, false, string_bytes};
+ghost use Rattle.std.specs.Prelude.{◌≡◌, ◌⊎◌, ◌↔◌, ℕ, List, ◌++◌, IfOk, IfErr, OnOk, IsTrue, IsUtf8, false, string_bytes};
 ghost use Rattle.std.specs.Io.KnownBytes.{Appends};
 ghost use Rattle.bson_model.specs.Displayed.{display_text};
 ghost use Rattle.bson_model.specs.Value as model;
@@ -253,7 +253,8 @@ fn read(alloc: Global, run: Run, bytes: &[u8]) -> Result<Document, RunFault>
 
 // Returns the document's line with keys in ascending order.
 fn text_line(alloc: Global, run: Run, form: Form, document: Document) -> Result<Vec<u8>, RunFault>
-    ensures ok { IfOk result (λ line. WritesLine run.options (Text form) (document_view document) line.items) }
+    ensures ok { IfOk result
+        (λ line. WritesLine run.options (Text form) (document_view document) line.items × IsUtf8 line.items) }
     ensures fault { IfErr result (λ e. IsUnwritten e run.options (Text form) (document_view document)) }
 {
     match Bson::Document(document).into_text_with(alloc, run.options, form) {
@@ -291,7 +292,8 @@ fn fault_of(error: Error) -> RunFault
 
 // Returns the line of the document in the form, with its keys in their own order.
 fn value_line(alloc: Global, run: Run, form: Form, document: Document) -> Result<Vec<u8>, RunFault>
-    ensures ok { IfOk result (λ line. WritesLine run.options (TextInOrder form) (document_view document) line.items) }
+    ensures ok { IfOk result
+        (λ line. WritesLine run.options (TextInOrder form) (document_view document) line.items × IsUtf8 line.items) }
     ensures fault { IfErr result (λ e. IsUnwritten e run.options (TextInOrder form) (document_view document)) }
 {
     match Bson::Document(document).into_text_in_order(alloc, run.options, form) {
@@ -303,7 +305,8 @@ fn value_line(alloc: Global, run: Run, form: Form, document: Document) -> Result
 
 // Returns the line with the output of `Display`.
 fn shown_line(alloc: Global, document: Document) -> Result<Vec<u8>, RunFault>
-    ensures ok { IfOk result (λ line. line.items ≡ display_text (model.document (document_view document)) ++ newline) }
+    ensures ok { IfOk result (λ line. (line.items ≡ display_text (model.document (document_view document)) ++ newline)
+        × IsUtf8 line.items) }
     ensures fault { IfErr result (λ e. e ≡ OutOfMemory) }
 {
     match format!(in alloc; "{document}\n") {
@@ -314,7 +317,7 @@ fn shown_line(alloc: Global, document: Document) -> Result<Vec<u8>, RunFault>
 
 // Appends a newline.
 fn end_line(text: String) -> Result<Vec<u8>, RunFault>
-    ensures ok { IfOk result (λ line. line.items ≡ string_bytes text ++ newline) }
+    ensures ok { IfOk result (λ line. (line.items ≡ string_bytes text ++ newline) × IsUtf8 line.items) }
     ensures fault { IfErr result (λ e. e ≡ OutOfMemory) }
 {
     let mut line = text.into_bytes();

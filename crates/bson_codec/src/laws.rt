@@ -1,5 +1,5 @@
 //! Laws of the definitions.
-ghost use Rattle.std.specs.Prelude.{◌≡◌, ℕ, List, Option, Some};
+ghost use Rattle.std.specs.Prelude.{◌≡◌, ℕ, List, Option, Some, IsUtf8};
 ghost use Rattle.std.specs.Io.KnownBytes.{Appends};
 ghost use Rattle.bson_codec.specs.Documents.{Dump, EndsAt, EndsInside, IsOfBytes};
 ghost use Rattle.bson_codec.specs.declared.documents.Run.{Run};
@@ -10,6 +10,12 @@ pub fn one_dump()
     ensures { (run : Run) (bytes output other told tells : List ℕ) (number count refused left : ℕ)
         → Dump run bytes output told number refused → Dump run bytes other tells count left
         → (output ≡ other) × (told ≡ tells) × (number ≡ count) × (refused ≡ left) }
+{}
+
+/// Law: the output of a dump, and its report, are UTF-8.
+pub fn dumps_are_utf8()
+    ensures { (run : Run) (bytes output told : List ℕ) (number refused : ℕ)
+        → Dump run bytes output told number refused → IsUtf8 output × IsUtf8 told }
 {}
 
 /// Law: a run that ends inside the same bytes ends at one document, for one error. It has one

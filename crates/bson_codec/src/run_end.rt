@@ -57,7 +57,11 @@ pub struct RunEnd {
 }
 
 impl RunEnd {
-    /// The document and its fault, in words for people, and a newline.
+    /// Writes the document and its fault in words, and a newline.
+    ///
+    /// # Errors
+    ///
+    /// Returns `AllocError` if a request for memory is refused.
     pub fn to_line(&self, alloc: Global) -> Result<String, AllocError>
         ensures { IfOk result (λ told. string_bytes told ≡ told_of self.now.number self.now.start self.now.fault) }
     {

@@ -14,11 +14,18 @@ use std::alloc::Global;
 /// Bytes, or why a document has none.
 pub type Result<T, E = Error> = std::result::Result<T, E>;
 
-/// The bytes of the document (BSON 1.1): its pairs in their order, the elements of an array under
-/// the keys "0", "1", "2" and so on, and a binary under the byte of its subtype.
+/// Returns the bytes of the document (BSON 1.1), with its pairs in their order. The elements of an
+/// array have the keys "0", "1", "2" and so on, and a binary has the byte of its subtype.
 ///
-/// It is refused as `Key`, `Regex` or `Size` for the first of its parts, at any depth and a whole
-/// behind its parts, that has no bytes.
+/// # Errors
+///
+/// Returns the error of the first part, at any depth, that has no bytes. A whole comes after its
+/// parts.
+///
+/// - `Key`: a key contains a 0.
+/// - `Regex`: the pattern or the options of a regular expression contain a 0.
+/// - `Size`: a text, a binary, a document, an array, or code with its scope has 2^31 bytes or more.
+/// - `OutOfMemory`: a request for memory was refused.
 ///
 /// ```
 /// let mut document = Document::new(alloc);

@@ -74,13 +74,20 @@ pub enum WriterError {
     CannotWrite,
 }
 
-/// The document that stands at the front of what the reader has, as [`from_slice`] reads it. No
-/// byte behind the document is taken from the reader.
+/// Reads the document at the front of what the reader has, as [`from_slice`] reads it. No byte
+/// after the document is read.
 ///
-/// The length is read first, then as many bytes as it says, in pieces as they come: memory is that
-/// of the bytes that came, whatever the length says. A reader that ends before is the fault of
-/// what came. Any error of the reader, Interrupted too, is `CannotRead`; at each error the reader
-/// may have been read from.
+/// The length is read first, then as many bytes as it says, in pieces. Memory is that of the bytes
+/// that were read, whatever the length says.
+///
+/// # Errors
+///
+/// After each error the reader may have been read from.
+///
+/// - `Malformed`: the bytes that were read are not a document that nests at most `depth` deep. It
+///   has the first fault and its offset. The reader may have ended before the document.
+/// - `CannotRead`: the reader failed, `Interrupted` too.
+/// - `OutOfMemory`: a request for memory was refused.
 pub fn from_reader<R: Read>(
     alloc: Global,
     reader: &mut R,
@@ -105,9 +112,13 @@ pub fn from_reader<R: Read>(
     }
 }
 
-/// Writes the bytes of the document, as [`to_vec`] gives them; a document that has none writes
-/// nothing. Any error of the writer, Interrupted too, is `CannotWrite`, and so is a write that
-/// takes no byte; then no more than a beginning was written.
+/// Writes the bytes of the document, as [`to_vec`] returns them.
+///
+/// # Errors
+///
+/// - `NoBytes`: [`to_vec`] returns this error. Nothing was written.
+/// - `CannotWrite`: the writer failed, `Interrupted` too, or accepted no byte. Only a beginning was
+///   written, or nothing.
 pub fn to_writer<W: Write>(
     alloc: Global,
     document: &Document,

@@ -22,7 +22,7 @@ use Rattle.bson_scalar.proofs.Offered.{float_is_number, text_is}
 use Rattle.bson_model.specs.Texts.{IsTree, ItemsAreTrees, MembersAreTrees}
 
 mutual
-  numbers : (d : Data) → IsTree d → parsed.HasNumbers (outline d)
+  pub numbers : (d : Data) → IsTree d → parsed.HasNumbers (outline d)
   numbers tree.null t = tt
   numbers (tree.boolean b) t = tt
   numbers (tree.number (unsigned n)) t = IsNumber-decimal n t
@@ -87,9 +87,17 @@ nests_within n d j fit h =
     one_value j (outline d) (sym (append-nil (parsed.json_tokens j)) ∙ sym spelled ∙ printed) in
     omega (arith, value-depth n (tokens (text_of d)) [] j h, ap parsed.depth same, same_depth d)
 
-pub shallow : (D : Doubles) (f : Form) (d t : Data) → HasNoFloatIn D f d → IsTree d → read (tree_text D f d) ≡ Some t
-    → depth d ≤ max_depth
-shallow D f d t no_float is h =
-    let text = text_is D f d no_float in
-    let it = parsed_whole of_json (value max_depth (tokens (text_of d))) t (ap read (sym text) ∙ h) in
-    nests_within max_depth d it.0 (numbers d is) it.1
+module _ (D : Doubles) (f : Form) (d : Data) (no_float : HasNoFloatIn D f d) (fit : parsed.HasNumbers (outline d)) where
+  pub shallow : (t : Data) → read (tree_text D f d) ≡ Some t → depth d ≤ max_depth
+  shallow t h =
+      let text = text_is D f d no_float in
+      let it = parsed_whole of_json (value max_depth (tokens (text_of d))) t (ap read (sym text) ∙ h) in
+      nests_within max_depth d it.0 fit it.1
+
+  -- its tokens are one value, as deep as the tree
+  pub text_parsed : value (depth d) (tokens (tree_text D f d)) ≡ Some (outline d, [])
+  text_parsed =
+      let ts = parsed.json_tokens (outline d) in
+      let printed : tokens (print ts) ≡ ts = tokens-print ts (ArePrintable-json_tokens (outline d) fit) in
+      ap (λ s. value (depth d) (tokens s)) (text_is D f d no_float) ∙ ap (value (depth d)) (printed ∙ sym (append-nil ts))
+      ∙ value-json_tokens (outline d) (depth d) [] (omega (arith, same_depth d))

@@ -22,7 +22,7 @@ use Rattle.bson_convert.specs.declared.error.Error.{Error}
 use Rattle.bson_convert.specs.declared.mode.Mode.{Mode}
 use Rattle.bson_convert.specs.declared.mode.Mode.TheVariants.{Canonical, Relaxed, Show}
 use Rattle.bson_convert.proofs.Converting.{text_converts}
-use Rattle.bson_convert.proofs.Deep.{shallow}
+use Rattle.bson_convert.proofs.Deep.{numbers, shallow}
 use Rattle.bson_convert.proofs.Newline.{read_then}
 
 some_tree : (r : Result Data Refusal) → is_ok r ≡ true → (u : Data) × (r ≡ Ok u)
@@ -82,7 +82,7 @@ module _ (o : Options) (f : Form) where
           meaning = a.meaning;
           is_output = of a.value a.is_written;
         };
-        only = λ other is_text. shallow o.doubles f w.tree other a.no_float a.fits
+        only = λ other is_text. shallow o.doubles f w.tree a.no_float (numbers w.tree a.fits) other
             (sym (read_then _) ∙ ap read (sym w.line.text) ∙ is_text.tree_read);
       }
 

@@ -12,24 +12,28 @@ ghost use Rattle.bson_convert.specs.Convert.{default_options, IsConvertedText, I
 ghost use Rattle.bson.specs.TextMeaning.{IsTextOf, HasTextMeaningIn, IsTextFaultIn};
 ghost use Rattle.bson.specs.declared.extjson.text_error.TextError.{TextError};
 
-use crate::converted::{Tried, read_arranged, try_text};
+use crate::converted::{Tried, read_arranged, try_line, try_text};
 use crate::error::Error;
 use crate::mode::Mode;
 use bson::Bson;
 use bson::extjson::de::TextError;
 use bson::extjson::{Form, Options, WriteError};
+use json::Scratch;
 use std::alloc::Global;
 
-/// The text that the mode asks for of the one value that the bytes mean, and a newline.
+/// Returns the text of the one value that the bytes mean, as the mode says, and a newline.
 ///
-/// It is Ok exactly where the bytes are UTF-8 and as a whole one JSON text (nested at most 127
-/// deep), and its tree has a meaning in MongoDB Extended JSON v2; only running out of memory may
-/// come in its place. `NotJson` is answered where there is no such text, and `NotExtendedJson` with
-/// the first fault of its tree where that has no meaning. `CannotRead` and `CannotWrite` are never
-/// answered.
+/// The bytes must be UTF-8 and as a whole one JSON text, nested at most 127 deep. Its tree must
+/// have a meaning in MongoDB Extended JSON v2.
 ///
-/// The output is UTF-8. In a form it is accepted again, and its own output is the same bytes, unless
-/// it nests deeper than 127. An output can nest deeper than its input.
+/// The output is UTF-8. In a form it is accepted again, and its own output is the same bytes,
+/// unless it nests deeper than 127. An output can nest deeper than its input.
+///
+/// # Errors
+///
+/// - `NotJson`: the bytes are not UTF-8, or `serde_json` reads no tree from them.
+/// - `NotExtendedJson`: the tree has no meaning. It has the tree's first fault.
+/// - `OutOfMemory`: an allocation failed.
 ///
 /// ```
 /// if let Ok(line) = convert(alloc, Mode::Relaxed, br#"{"$numberLong": "5"}"#) {
@@ -55,7 +59,12 @@ pub fn default_options() -> Options
     Options::default()
 }
 
-/// [`convert`] with options: what a text means, and which values have one, is as they say.
+/// Returns the text of [`convert`] with options, which say what a text means and which values have
+/// one.
+///
+/// # Errors
+///
+/// The errors of [`convert`].
 pub fn convert_with(
     alloc: Global,
     options: Options,
@@ -71,12 +80,40 @@ pub fn convert_with(
         → MeansIn options.doubles tree value → IfErr result (λ fault. fault ≡ Error.OutOfMemory) }
     ensures fault { IfErr result (λ fault. IsRefusedIn options fault bytes.now) }
 {
-    let text = text_with(alloc, options, mode, bytes)?;
+    convert_line(alloc, options, mode, bytes, &mut Scratch::new(alloc))
+}
+
+/// Converts the bytes as [`convert_with`] does, with memory that serves one text after another.
+///
+/// # Errors
+///
+/// The errors of [`convert_with`].
+pub fn convert_line(
+    alloc: Global,
+    options: Options,
+    mode: Mode,
+    bytes: &[u8],
+    scratch: &mut Scratch,
+) -> Result<Vec<u8>, Error>
+    ensures ok { IfOk result (λ output. ConvertsIn options mode bytes.now output.items) }
+    ensures utf8 { IfOk result (λ output. IsUtf8 output.items) }
+    ensures again { IfOk result (λ output. IsKeptIn options mode output.items) }
+    ensures one { IfOk result (λ output. (other : List ℕ) → ConvertsIn options mode bytes.now other
+        → other ≡ output.items) }
+    ensures accepts { (tree : Data) (value : model.Value) → IsTextOf bytes.now tree
+        → MeansIn options.doubles tree value → IfErr result (λ fault. fault ≡ Error.OutOfMemory) }
+    ensures fault { IfErr result (λ fault. IsRefusedIn options fault bytes.now) }
+{
+    let text = line_text(alloc, options, mode, bytes, scratch)?;
     end_line(text)
 }
 
-/// [`convert_with`] of bytes that are let go once they are read or arranged, so that they take no
-/// memory beside the output of the arranged text.
+/// Returns the text of [`convert_with`], and frees the bytes once they are read or arranged. Then
+/// they need no memory in addition to the output of the arranged text.
+///
+/// # Errors
+///
+/// The errors of [`convert`].
 pub fn convert_whole(
     alloc: Global,
     options: Options,
@@ -96,7 +133,11 @@ pub fn convert_whole(
     end_line(text)
 }
 
-/// What [`convert_with`] gives, without the newline.
+/// Returns the text of [`convert_with`] without the newline.
+///
+/// # Errors
+///
+/// The errors of [`convert`].
 ///
 /// ```
 /// let bytes = br#"[{"$numberLong": "5"}]"#;
@@ -116,7 +157,24 @@ pub fn text_with(
         → MeansIn options.doubles tree value → IfErr result (λ fault. fault ≡ Error.OutOfMemory) }
     ensures fault { IfErr result (λ fault. IsRefusedIn options fault bytes.now) }
 {
-    let tried = try_text(alloc, options, mode, bytes)?;
+    line_text(alloc, options, mode, bytes, &mut Scratch::new(alloc))
+}
+
+// [`text_with`] with the memory of a run.
+fn line_text(
+    alloc: Global,
+    options: Options,
+    mode: Mode,
+    bytes: &[u8],
+    scratch: &mut Scratch,
+) -> Result<Vec<u8>, Error>
+    ensures ok { IfOk result (λ text. IsConvertedText options mode bytes.now text.items) }
+    ensures utf8 { IfOk result (λ text. IsUtf8 text.items) }
+    ensures accepts { (tree : Data) (value : model.Value) → IsTextOf bytes.now tree
+        → MeansIn options.doubles tree value → IfErr result (λ fault. fault ≡ Error.OutOfMemory) }
+    ensures fault { IfErr result (λ fault. IsRefusedIn options fault bytes.now) }
+{
+    let tried = try_line(alloc, options, mode, bytes, scratch)?;
     finish(alloc, options, mode, tried)
 }
 
@@ -184,7 +242,11 @@ pub(crate) fn value_text(
     }
 }
 
-/// The text that shows the value.
+/// Returns the text that shows the value.
+///
+/// # Errors
+///
+/// - `OutOfMemory`: an allocation failed.
 pub fn displayed_text(alloc: Global, value: &Bson) -> Result<Vec<u8>, Error>
     ensures ok { IfOk result (λ text. text.items ≡ display_text (bson_view value.now)) }
     ensures utf8 { IfOk result (λ text. IsUtf8 text.items) }
@@ -196,7 +258,11 @@ pub fn displayed_text(alloc: Global, value: &Bson) -> Result<Vec<u8>, Error>
     }
 }
 
-/// The bytes, and a newline.
+/// Appends a newline to the bytes.
+///
+/// # Errors
+///
+/// - `OutOfMemory`: an allocation failed.
 pub fn end_line(mut line: Vec<u8>) -> Result<Vec<u8>, Error>
     ensures ok { IfOk result (λ ended. ended.items ≡ line.items ++ newline) }
     ensures utf8 { IsUtf8 line.items → IfOk result (λ ended. IsUtf8 ended.items) }

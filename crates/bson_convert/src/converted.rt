@@ -19,6 +19,7 @@ use bson_distinct::arrangement::Arrangement;
 use bson_filter::filter::{show_text, sort_text};
 use bson_filter::stop::Stop;
 use bson_tokens::walk::first_fault_in;
+use json::Scratch;
 use std::alloc::Global;
 
 /// What a first reading gives.
@@ -37,9 +38,29 @@ pub enum Tried {
     Arranged(String),
 }
 
-/// The text that the mode asks for of the value that the bytes mean, written as they are read, or
-/// the arranged text of the bytes where they can't be.
+/// Writes the text of the value that the bytes mean, as the mode says, while they are read. If the
+/// text cannot be written so, the arranged text of the bytes is returned.
+///
+/// # Errors
+///
+/// - `NotJson`: the bytes are not UTF-8, or `serde_json` reads no tree from them.
+/// - `OutOfMemory`: an allocation failed.
 pub fn try_text(alloc: Global, options: Options, mode: Mode, bytes: &[u8]) -> Result<Tried, Error>
+    ensures ok { IfOk result (λ tried. IsTried options mode bytes.now tried) }
+    ensures utf8 { IfOk result IsUtf8Tried }
+    ensures fault { IfErr result (λ fault. IsRefusedIn options fault bytes.now) }
+{
+    try_line(alloc, options, mode, bytes, &mut Scratch::new(alloc))
+}
+
+/// [`try_text`] with the memory of a run.
+pub(crate) fn try_line(
+    alloc: Global,
+    options: Options,
+    mode: Mode,
+    bytes: &[u8],
+    scratch: &mut Scratch,
+) -> Result<Tried, Error>
     ensures ok { IfOk result (λ tried. IsTried options mode bytes.now tried) }
     ensures utf8 { IfOk result IsUtf8Tried }
     ensures fault { IfErr result (λ fault. IsRefusedIn options fault bytes.now) }
@@ -47,7 +68,7 @@ pub fn try_text(alloc: Global, options: Options, mode: Mode, bytes: &[u8]) -> Re
     let Ok(text) = simdutf8::compat::from_utf8(bytes) else {
         return Err(Error::NotJson);
     };
-    match stream_text(alloc, options, mode, text) {
+    match stream_text(alloc, options, mode, text, scratch) {
         Ok(written) => Ok(Tried::Written(written)),
         Err(Stop::OutOfMemory) => Err(Error::OutOfMemory),
         Err(_) => Ok(Tried::Arranged(arrange(alloc, Arrangement::Ascending, text)?)),
@@ -65,7 +86,7 @@ pub(crate) fn read_arranged(
     ensures utf8 { IfOk result (λ text. IsUtf8 text.items) }
     ensures fault { IfErr result (λ fault. IsRefusedIn options fault arranged.now) }
 {
-    match stream_text(alloc, options, mode, arranged) {
+    match stream_text(alloc, options, mode, arranged, &mut Scratch::new(alloc)) {
         Ok(written) => Ok(written),
         Err(Stop::OutOfMemory) => Err(Error::OutOfMemory),
         Err(_) => {
@@ -77,19 +98,29 @@ pub(crate) fn read_arranged(
 }
 
 // The text that the mode asks for of the value that the text means.
-fn stream_text(alloc: Global, options: Options, mode: Mode, text: &str) -> Result<Vec<u8>, Stop>
+fn stream_text(
+    alloc: Global,
+    options: Options,
+    mode: Mode,
+    text: &str,
+    scratch: &mut Scratch,
+) -> Result<Vec<u8>, Stop>
     ensures ok { IfOk result (λ written. IsConvertedText options mode text.now written.items) }
     ensures utf8 { IfOk result (λ written. IsUtf8 written.items) }
 {
     match mode {
-        Mode::Canonical => sort_text(alloc, options.doubles, Form::Canonical, text),
-        Mode::Relaxed => sort_text(alloc, options.doubles, Form::Relaxed, text),
-        Mode::Show => show_text(alloc, options.doubles, text),
+        Mode::Canonical => sort_text(alloc, options.doubles, Form::Canonical, text, scratch),
+        Mode::Relaxed => sort_text(alloc, options.doubles, Form::Relaxed, text, scratch),
+        Mode::Show => show_text(alloc, options.doubles, text, scratch),
     }
 }
 
-/// The JSON text of the text's tree with each key once in its object; a text that is no JSON text
-/// is refused as `NotJson`.
+/// Returns the JSON text of the text's tree with each key once in its object.
+///
+/// # Errors
+///
+/// - `NotJson`: `serde_json` reads no tree from the text.
+/// - `OutOfMemory`: an allocation failed.
 pub fn arrange(alloc: Global, arrangement: Arrangement, text: &str) -> Result<String, Error>
     ensures ok { IfOk result (λ arranged. IsArrangedText arrangement text.now (string_bytes arranged)) }
     ensures same { IfOk result (λ arranged. read (string_bytes arranged) ≡ read text.now) }
@@ -101,8 +132,13 @@ pub fn arrange(alloc: Global, arrangement: Arrangement, text: &str) -> Result<St
     }
 }
 
-/// Refuses a text that is not JSON or means nothing, with the first fault of its tree, of which no
-/// value is made.
+/// Checks that a text is JSON and has a meaning. No value is made.
+///
+/// # Errors
+///
+/// - `NotJson`: `serde_json` reads no tree from the text.
+/// - `NotExtendedJson`: the tree has no meaning. It has the tree's first fault.
+/// - `OutOfMemory`: an allocation failed.
 pub fn refuse(alloc: Global, options: Options, text: &str) -> Result<(), Error>
     ensures ok { OnOk result (IsAccepted options text.now) }
     ensures fault { IfErr result (λ fault. IsRefusedIn options fault text.now) }
@@ -111,8 +147,12 @@ pub fn refuse(alloc: Global, options: Options, text: &str) -> Result<(), Error>
     refuse_arranged(alloc, options, arranged.as_str())
 }
 
-/// The same of a text whose keys ascend: there code stands before its scope, so that no tree is
-/// made.
+/// Checks a text whose keys ascend, as [`refuse`] does. Code comes before its scope there, so no
+/// tree is made.
+///
+/// # Errors
+///
+/// The errors of [`refuse`].
 pub fn refuse_arranged(alloc: Global, options: Options, arranged: &str) -> Result<(), Error>
     ensures ok { OnOk result (IsAccepted options arranged.now) }
     ensures fault { IfErr result (λ fault. IsRefusedIn options fault arranged.now) }

@@ -7,7 +7,11 @@ use std::env::{self, Env};
 use std::io::ErrorKind;
 use std::process::ExitCode;
 
-/// The words behind the program's name. `None` where one of them is no UTF-8.
+/// Returns the words after the program's name, or `None` if one of them is not UTF-8.
+///
+/// # Errors
+///
+/// - `OutOfMemory`: an allocation failed.
 pub fn words_given<R: Env + AllocGlobal>(rt: &R) -> Result<Option<Vec<String>>, Fault>
     ensures { IfErr result (λ fault. fault ≡ Fault.OutOfMemory) }
 {

@@ -37,7 +37,11 @@ pub fn run<R: Read, W: Write>(
     run_with(alloc, default_options(), mode, reader, writer)
 }
 
-/// [`run`] with options: what a text means, and which values have one, is as they say.
+/// Runs as [`run`] with options, which say what a text means and which values have one.
+///
+/// # Errors
+///
+/// The errors of [`run`].
 pub fn run_with<R: Read, W: Write>(
     alloc: Global,
     options: Options,

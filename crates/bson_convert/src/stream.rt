@@ -10,7 +10,12 @@ use std::io::{Read, Write};
 /// As much as a pipe holds.
 const BUFFER: usize = 65536;
 
-/// Reads until the reader has nothing left. Any error of the reader, Interrupted too, is its fault.
+/// Reads until the reader is at its end.
+///
+/// # Errors
+///
+/// - `CannotRead`: the reader failed, `Interrupted` too.
+/// - `OutOfMemory`: an allocation failed.
 pub fn read_whole<R: Read>(alloc: Global, reader: &mut R) -> Result<Vec<u8>, Fault>
     ensures all { IfOk result (λ v. ReadsAll (R.remaining reader.old) (R.remaining reader.new) v.items) }
     ensures fault { IfErr result (λ e. (e ≡ Fault.CannotRead) ⊎ (e ≡ Fault.OutOfMemory)) }
@@ -30,8 +35,12 @@ pub fn read_whole<R: Read>(alloc: Global, reader: &mut R) -> Result<Vec<u8>, Fau
     }
 }
 
-/// Writes all bytes. Any error of the writer, Interrupted too, is its fault, and so is a write that
-/// takes no byte.
+/// Writes all bytes.
+///
+/// # Errors
+///
+/// - `CannotWrite`: the writer failed, `Interrupted` too, or accepted no byte. Only a beginning was
+///   written, or nothing.
 pub fn write_whole<W: Write>(writer: &mut W, bytes: &[u8]) -> Result<(), Fault>
     ensures ok { OnOk result (Appends (W.contents writer.old) (W.contents writer.new) bytes.now) }
     ensures cut { OnErr result (WritesBeginning (W.contents writer.old) (W.contents writer.new) bytes.now) }

@@ -175,10 +175,14 @@ impl<Y, M, D> DateTimeBuilder<Y, M, D> {
 impl DateTimeBuilder<Year, Month, Day> {
     ghost use Rattle.bson_datetime.specs.Builder.{civil_fields};
 
-    /// The moment with the date and time that were set, on the proleptic Gregorian calendar.
-    /// `InvalidTimestamp` exactly where one of them is out of its range, or the month hasn't that
-    /// day: with the message `NoSuchTime` where the time of day is out of range, else with
-    /// `NoSuchDay`.
+    /// Returns the moment with the date and time that were set, on the proleptic Gregorian
+    /// calendar.
+    ///
+    /// # Errors
+    ///
+    /// - `InvalidTimestamp` with `NoSuchTime`: the time of day is out of range.
+    /// - `InvalidTimestamp` with `NoSuchDay`: the time of day is in range, and the date is out of
+    ///   range or does not exist.
     pub fn build(self) -> Result<DateTime>
         ensures exists { IsOk result ↔ IsCivil (civil_fields self) }
         ensures value { IfOk result (λ ms. IsMoment ms (civil_fields self)) }

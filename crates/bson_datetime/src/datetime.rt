@@ -139,11 +139,14 @@ impl DateTime {
     ghost use Rattle.bson_datetime.specs.Errors.{IsCannotFormat, IsInvalidFor, IsInvalidTimestamp};
     ghost use Rattle.bson_datetime.specs.Errors.{IsOutOfMemory};
 
-    /// The RFC 3339 text (section 5.6) in UTC, as `1998-02-12T00:01:00.023Z`: the fraction without
-    /// zeros at its end, and none where it is zero. The text reads back as this moment.
+    /// Writes the RFC 3339 text (section 5.6) in UTC, for example `1998-02-12T00:01:00.023Z`. The
+    /// fraction has no zeros at its end, and a fraction of zero is not written. The text reads back
+    /// as this moment.
     ///
-    /// `CannotFormat` exactly outside the years 0000 to 9999; `OutOfMemory` only where a request
-    /// was refused.
+    /// # Errors
+    ///
+    /// - `CannotFormat`: the moment is outside the years 0000 to 9999.
+    /// - `OutOfMemory`: a request for memory was refused.
     pub fn try_to_rfc3339_string(self, alloc: Global) -> Result<String>
         ensures ok { IfOk result (λ text. string_bytes text ≡ rfc self) }
         ensures fields { IfOk result (λ text. (c : Civil) → IsMoment self c → string_bytes text ≡ rfc_text c) }
@@ -164,12 +167,16 @@ impl DateTime {
         }
     }
 
-    /// Reads an RFC 3339 text (section 5.6): `YYYY-MM-DDThh:mm:ss`, a fraction where there is one,
-    /// and `Z` or an offset.
+    /// Reads an RFC 3339 text (section 5.6): `YYYY-MM-DDThh:mm:ss`, an optional fraction, and `Z`
+    /// or an offset.
     ///
-    /// T and Z may be small letters. Of the fraction nine digits count, and the nanoseconds since
-    /// 1970-01-01T00:00:00Z are cut to milliseconds towards zero. `InvalidTimestamp` exactly for
-    /// every other text, a second of 60 among them.
+    /// T and Z may be small letters. Nine digits of the fraction count, and the nanoseconds since
+    /// 1970-01-01T00:00:00Z are cut to milliseconds towards zero.
+    ///
+    /// # Errors
+    ///
+    /// - `InvalidTimestamp` with `NotRfc3339`: the text has another form, or one of its parts is
+    ///   out of range. A second of 60 is out of range.
     pub fn parse_rfc3339_str(text: &str) -> Result<DateTime>
         ensures ok { IfOk result (λ ms. Names text.now ms) }
         ensures refused { IfErr result (λ e. IsInvalidTimestamp e × ((ms : ℤ) → ¬ (Names text.now ms))) }

@@ -18,12 +18,16 @@ use bson_tokens::number::number;
 use json::{Error, Reader, Scratch, Token};
 use std::alloc::Global;
 
-/// The compact text of the text's tree with each key once in its object, with its last value: at
-/// its first place, or by ascending bytes.
+/// Returns the compact text of the text's tree with each key once in its object, with its last
+/// value. Keys are in the order of their first places, or in ascending order of bytes.
 ///
-/// Keys are compared after their escapes are read. `Invalid` is answered where the text is no JSON
-/// text of at most 127 levels, or has a number out of range. No tree is made: memory is that of the
-/// text that is written, and of the members of the objects that are open their keys and places.
+/// Keys are compared after their escapes are read. No tree is made: memory is that of the written
+/// text, and of the keys and places of the members of the open objects.
+///
+/// # Errors
+///
+/// - `Invalid`: the text is not JSON of at most 127 levels, or has a number out of range.
+/// - `OutOfMemory`: a request for memory was refused.
 ///
 /// ```
 /// let text = arrange_text(alloc, Arrangement::FirstPlaces, r#"{"b": 1, "a": 2, "b": 3}"#)?;

@@ -11,12 +11,16 @@ use json::{Error, Reader, Scratch, Token};
 use std::alloc::Global;
 use std::collections::BTreeSet;
 
-/// The path to the first key of the text that stands in its object before, from the key outward; or
-/// nothing where no object, at any depth, has a key twice.
+/// Returns the path to the first duplicate key of the text, from the key outward. Returns `None` if
+/// no object at any depth has a duplicate key.
 ///
-/// Keys are compared after their escapes are read. `Invalid` is answered where the text is no JSON
-/// text of at most 127 levels. Memory is that of the keys of the objects that are open, and of the
-/// longest text with an escape.
+/// Keys are compared after their escapes are read. Memory is that of the keys of the open objects,
+/// and of the longest text with an escape.
+///
+/// # Errors
+///
+/// - `Invalid`: the text is not JSON of at most 127 levels.
+/// - `OutOfMemory`: a request for memory was refused.
 ///
 /// ```
 /// if let Some(path) = first_double_key(alloc, r#"{"a": [{"b": 1, "\u0062": 2}]}"#)? {

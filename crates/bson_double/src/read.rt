@@ -52,12 +52,14 @@ fn begins_a_word(unsigned: &[u8]) -> bool
     }
 }
 
-/// The pattern of the double nearest to the number that a text writes, of two as near the one whose
-/// pattern is even (IEEE 754-2008 section 4.3.1). `-0` is the negative zero, and so is a negative
-/// number that is nearer to zero than to any other double.
+/// Returns the pattern of the double nearest to the number that a text writes. If two doubles are
+/// equally near, it is the one with an even pattern (IEEE 754-2008 section 4.3.1). `-0` is the
+/// negative zero, and so is a negative number that is nearer to zero than to any other double.
 ///
-/// `NotANumber` comes where the text writes no number, and `OutOfRange` where the nearest double is
-/// an infinity.
+/// # Errors
+///
+/// - `NotANumber`: the text is not a number.
+/// - `OutOfRange`: the nearest double is an infinity.
 ///
 /// ```
 /// let pattern = double_of_text(b"0.5")?;

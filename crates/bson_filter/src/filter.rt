@@ -13,7 +13,7 @@ use crate::text::TextWriter;
 use crate::walk::write_text;
 use bson_distinct::arrangement::Arrangement;
 use bson_scalar::form::{Doubles, Form};
-use json::Writer;
+use json::{Scratch, Writer};
 use std::alloc::Global;
 
 // The room of a part, which most values fit, and that of the starts of members: a short text needs
@@ -34,7 +34,13 @@ const FIRST_STARTS: usize = 16;
 ///   means the same.
 /// - `GaveUp`: an object begins with `$scope`, or the mode is `Finite` and a double has no text.
 /// - `Fault`: the text is not JSON of at most 127 levels, or does not mean a value.
-pub fn filter_text(alloc: Global, doubles: Doubles, form: Form, text: &str) -> Result<Vec<u8>, Stop>
+pub fn filter_text(
+    alloc: Global,
+    doubles: Doubles,
+    form: Form,
+    text: &str,
+    scratch: &mut Scratch,
+) -> Result<Vec<u8>, Stop>
     ensures ok { IfOk result (λ written. IsFilteredText doubles form text.now written.items) }
     ensures utf8 { IfOk result (λ written. IsUtf8 written.items) }
     ensures accepts { IfErr result (IsRefusedText doubles (doubles ≡ Finite) ⊥ text.now) }
@@ -45,7 +51,7 @@ pub fn filter_text(alloc: Global, doubles: Doubles, form: Form, text: &str) -> R
         form,
         out: Writer::new(Vec::with_capacity(alloc, first_room(text))?),
     };
-    write_text(alloc, doubles, text, &mut writer)?;
+    write_text(alloc, doubles, text, scratch, &mut writer)?;
     Ok(writer.out.into_inner())
 }
 
@@ -57,7 +63,13 @@ pub fn filter_text(alloc: Global, doubles: Doubles, form: Form, text: &str) -> R
 /// The errors of [`filter_text`], except `DuplicateKey`. `GaveUp` is also the error if keys do not
 /// ascend and need more memory to be sorted than some nine times the text: not in the text that
 /// [`arrange_text`](bson_distinct::arrange::arrange_text) returns by ascending keys.
-pub fn sort_text(alloc: Global, doubles: Doubles, form: Form, text: &str) -> Result<Vec<u8>, Stop>
+pub fn sort_text(
+    alloc: Global,
+    doubles: Doubles,
+    form: Form,
+    text: &str,
+    scratch: &mut Scratch,
+) -> Result<Vec<u8>, Stop>
     ensures ok { IfOk result (λ written. IsSortedText doubles form text.now written.items) }
     ensures utf8 { IfOk result (λ written. IsUtf8 written.items) }
     ensures accepts { IfErr result (IsRefusedText doubles (doubles ≡ Finite) ⊤ text.now) }
@@ -72,7 +84,7 @@ pub fn sort_text(alloc: Global, doubles: Doubles, form: Form, text: &str) -> Res
         behind: false,
         most: memory_allowed(text.len()),
     };
-    write_text(alloc, doubles, text, &mut writer)?;
+    write_text(alloc, doubles, text, scratch, &mut writer)?;
     Ok(writer.text)
 }
 
@@ -82,12 +94,17 @@ pub fn sort_text(alloc: Global, doubles: Doubles, form: Form, text: &str) -> Res
 /// # Errors
 ///
 /// The errors of [`sort_text`].
-pub fn show_text(alloc: Global, doubles: Doubles, text: &str) -> Result<Vec<u8>, Stop>
+pub fn show_text(
+    alloc: Global,
+    doubles: Doubles,
+    text: &str,
+    scratch: &mut Scratch,
+) -> Result<Vec<u8>, Stop>
     ensures ok { IfOk result (λ written. IsShownText doubles text.now written.items) }
     ensures utf8 { IfOk result (λ written. IsUtf8 written.items) }
     ensures accepts { IfErr result (IsRefusedText doubles ⊥ ⊤ text.now) }
 {
-    show_by(alloc, doubles, Arrangement::Ascending, text)
+    show_by(alloc, doubles, Arrangement::Ascending, text, scratch)
 }
 
 /// [`show_text`] with each document's keys in the order of the text.
@@ -95,12 +112,17 @@ pub fn show_text(alloc: Global, doubles: Doubles, text: &str) -> Result<Vec<u8>,
 /// # Errors
 ///
 /// The errors of [`filter_text`].
-pub fn show_text_in_order(alloc: Global, doubles: Doubles, text: &str) -> Result<Vec<u8>, Stop>
+pub fn show_text_in_order(
+    alloc: Global,
+    doubles: Doubles,
+    text: &str,
+    scratch: &mut Scratch,
+) -> Result<Vec<u8>, Stop>
     ensures ok { IfOk result (λ written. IsShownTextInOrder doubles text.now written.items) }
     ensures utf8 { IfOk result (λ written. IsUtf8 written.items) }
     ensures accepts { IfErr result (IsRefusedText doubles ⊥ ⊤ text.now) }
 {
-    show_by(alloc, doubles, Arrangement::FirstPlaces, text)
+    show_by(alloc, doubles, Arrangement::FirstPlaces, text, scratch)
 }
 
 fn show_by(
@@ -108,6 +130,7 @@ fn show_by(
     doubles: Doubles,
     arrangement: Arrangement,
     text: &str,
+    scratch: &mut Scratch,
 ) -> Result<Vec<u8>, Stop>
     ensures ok { IfOk result (λ written. IsShownTextBy doubles arrangement text.now written.items) }
     ensures utf8 { IfOk result (λ written. IsUtf8 written.items) }
@@ -122,7 +145,7 @@ fn show_by(
         behind: false,
         most: memory_allowed(text.len()),
     };
-    write_text(alloc, doubles, text, &mut writer)?;
+    write_text(alloc, doubles, text, scratch, &mut writer)?;
     Ok(writer.text)
 }
 

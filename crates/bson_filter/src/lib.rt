@@ -1,12 +1,11 @@
-//! From the tokens of a text of MongoDB Extended JSON v2 to what its value is written to, with no
-//! value in memory.
+//! Writes the value of a text of MongoDB Extended JSON v2 from its tokens, with no value in memory.
 //!
 //! In reading order: `filter` (the text of the same value in a form, its keys in their order or in
-//! ascending order, and the text that shows it), `walk` (the way over the tokens), `ahead` (code that
-//! it is told of before it comes to it), `parts` (parts of a wrapper), `stop` (why the walk stops),
-//! `writer` (what is written to), `text` (a text that is),
-//! `distinct` (whether a key stands twice), `sorted_text` (a text whose keys are put in order),
-//! `shown_text` (one that shows values), `pieces` (the texts of an object's members, in order).
+//! ascending order, and the text that shows it), `walk` (the walk over the tokens), `ahead` (code
+//! that the walk knows before it comes to it), `parts` (parts of a wrapper), `stop` (why the walk
+//! stops), `writer` (a writer of values), `text` (a writer of a text), `distinct` (whether a key is
+//! duplicated), `sorted_text` (a text whose keys are sorted), `shown_text` (a text that shows
+//! values), `pieces` (the texts of an object's members, in order).
 #![tactic(auto)]
 
 pub mod ahead;

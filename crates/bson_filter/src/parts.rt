@@ -1,9 +1,13 @@
 //! Parts of a wrapper.
-ghost use Rattle.std.specs.Prelude.{◌≡◌, ◌∷◌, None, Some, IfOk, IfErr, string_bytes};
+ghost use Rattle.std.specs.Prelude.{◌≡◌, ◌<◌, ◌∷◌, length, None, Some, codes, OnOk, IfOk, IfErr, string_bytes};
+ghost use Rattle.json.specs.Json.{read_key};
+ghost use Rattle.json.specs.Token as token;
 ghost use Rattle.serde_json.specs.Data.{string};
 ghost use Rattle.serde_json.specs.Find.{as_str};
 ghost use Rattle.serde_json.specs.View.{view};
+ghost use Rattle.bson_filter.specs.Exact.{EndDenied};
 ghost use Rattle.bson_filter.specs.Parts.{scope_token, IsNoScope};
+ghost use Rattle.bson_filter.specs.Walked.{CodeEnds};
 ghost use Rattle.bson_filter.specs.declared.stop.Stop.TheVariants.{Fault};
 
 use crate::stop::Stop;
@@ -44,4 +48,39 @@ pub(crate) fn text_of(tree: Value) -> Result<String, Stop>
         Value::Array(_) => Err(Stop::Fault),
         Value::Object(_) => Err(Stop::Fault),
     }
+}
+
+// Reads the end of the object of code and its scope. If the code follows its scope, it is there.
+pub(crate) fn end_object(reader: &mut Reader<'_>, code: &str, is_behind: bool) -> Result<(), Stop>
+    ensures ok { OnOk result (CodeEnds code.now is_behind reader.old reader.new) }
+    ensures shorter { OnOk result (length reader.new < length reader.old) }
+    ensures stops { IfErr result (λ e. EndDenied e is_behind reader.old) }
+{
+    if is_behind {
+        pass_code(reader, code)?;
+    }
+    if reader.next_key()?.is_some() {
+        return Err(Stop::Fault);
+    }
+    Ok(())
+}
+
+// The key of code, and then this text.
+fn pass_code(reader: &mut Reader<'_>, code: &str) -> Result<(), Stop>
+    ensures ok { OnOk result (read_key reader.old ≡ Some (Some (codes "$code"), token.string code.now ∷ reader.new)) }
+    ensures fault { IfErr result (λ e. e ≡ Fault) }
+{
+    let Some(key) = reader.next_key()? else {
+        return Err(Stop::Fault);
+    };
+    if key != "$code" {
+        return Err(Stop::Fault);
+    }
+    let Some(Token::String(text)) = reader.next() else {
+        return Err(Stop::Fault);
+    };
+    if text != code {
+        return Err(Stop::Fault);
+    }
+    Ok(())
 }

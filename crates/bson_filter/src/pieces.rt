@@ -202,7 +202,7 @@ fn by_key(keys: &[&str], one: usize, other: usize) -> Ordering
     key_at(keys, one).cmp(key_at(keys, other))
 }
 
-// The key at the place, or the empty one behind all of them.
+// The key at the place, or the empty one after all of them.
 fn key_at<'a>(keys: &[&'a str], at: usize) -> &'a str
     ensures { result.now ≡ key_or keys.now at }
 {
@@ -232,7 +232,7 @@ fn common_bytes(one: &[u8], other: &[u8], most: usize) -> usize {
     most
 }
 
-// Eight bytes of the key behind its front as one number, with zeros for those that are missing.
+// Eight bytes of the key after its front as one number, with zeros for those that are missing.
 fn head_of(key: &str, front: usize) -> u64
     ensures { result ≡ head key.now (head_start front key.now) 8 }
 {
@@ -246,8 +246,8 @@ fn head_of(key: &str, front: usize) -> u64
     head
 }
 
-// The texts of the pieces at the places, as an object, of those of one key that stand side by side
-// the last; none where the keys do not ascend.
+// The texts of the pieces at the places, as an object. If neighbours have one key, it has the last
+// of them. There is no text if the keys do not ascend.
 fn join_pieces(
     alloc: Global,
     keys: &[&str],
@@ -285,7 +285,7 @@ fn join_pieces(
     Ok(Some(out))
 }
 
-// Where the text of the first member begins, a byte behind the start of the object.
+// The place where the text of the first member begins, a byte after the start of the object.
 fn first_start(starts: &[usize]) -> usize {
     starts.first().copied().unwrap_or(0)
 }

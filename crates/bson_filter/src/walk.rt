@@ -1,7 +1,6 @@
 //! The walk over the tokens of a text, which writes each value as it is read.
-ghost use Rattle.std.specs.Prelude.{◌≡◌, ◌<◌, ◌≤◌, ◌&&◌, [], length, ◌∷◌, Some, codes, is_some, option_map, OnOk, IfOk, IfErr, Ok};
-ghost use Rattle.json.specs.Json.{value, items, read_key};
-ghost use Rattle.json.specs.Token as token;
+ghost use Rattle.std.specs.Prelude.{◌≡◌, ◌<◌, ◌≤◌, ◌&&◌, [], length, Some, is_some, option_map, OnOk, IfOk, IfErr, Ok};
+ghost use Rattle.json.specs.Json.{value, items};
 ghost use Rattle.serde_json.specs.Read.{converted, number_of};
 ghost use Rattle.bson_scalar.specs.Reading.{number_read_in};
 ghost use Rattle.serde_json.specs.Data.{Num};
@@ -11,13 +10,12 @@ ghost use Rattle.bson_model.specs.Value.{Value as Meaning, array};
 ghost use Rattle.bson_order.specs.Kept.{kept, kept_items};
 ghost use Rattle.bson_order.specs.Texts.{HasMeaningInOrder};
 ghost use Rattle.bson_filter.specs.Walked.{TreeMeans, ItemsMean, ObjectMeans, MembersMean, ScopeMeans};
-ghost use Rattle.bson_filter.specs.Walked.{CodeMeans, CodeEnds, kept_object, inside, from_key};
+ghost use Rattle.bson_filter.specs.Walked.{CodeMeans, kept_object, inside, from_key};
 ghost use Rattle.bson_filter.specs.Exact.{TextDenied, ValueDenied, ItemsDenied, ObjectDenied, MembersDenied};
-ghost use Rattle.bson_filter.specs.Exact.{CodeDenied, ScopeDenied, EndDenied, NumberDenied};
-ghost use Rattle.bson_filter.specs.declared.stop.Stop.TheVariants.{Fault};
+ghost use Rattle.bson_filter.specs.Exact.{CodeDenied, ScopeDenied, NumberDenied};
 
 use crate::ahead::Ahead;
-use crate::parts::{Scope, read_scope, text_of};
+use crate::parts::{Scope, end_object, read_scope, text_of};
 use crate::stop::{Stop, behind, read_error};
 use crate::writer::ValueWriter;
 use bson_scalar::code::is_code_with_scope;
@@ -33,8 +31,37 @@ use itoa::Buffer;
 use json::{Reader, Scratch, Token};
 use std::alloc::Global;
 
-/// Writes the value of the whole text, under no name.
-pub(crate) fn write_text<W: ValueWriter>(
+// A longer text is read with memory of its own, which is freed with its reader.
+const LONG: usize = 1 << 16;
+
+/// Writes the value of the whole text, under no name. One scratch serves one text after another; a
+/// text of more than 64 KiB is read with a scratch of its own.
+///
+/// # Errors
+///
+/// - `OutOfMemory`: an allocation failed.
+/// - `DuplicateKey`: an object has two equal keys.
+/// - `GaveUp`: an object begins with `$scope`, or the writer cannot write a value of the text.
+/// - `Fault`: the text is not JSON of at most 127 levels, or does not mean a value.
+pub fn write_text<W: ValueWriter>(
+    alloc: Global,
+    doubles: Doubles,
+    text: &str,
+    scratch: &mut Scratch,
+    out: &mut W,
+) -> Result<(), Stop>
+    ensures ok { OnOk result ((v : Meaning) × HasMeaningInOrder doubles text.now v × W.wrote out.old [] v out.new) }
+    ensures stops { IfErr result (λ e. TextDenied doubles (W.leaves doubles) W.sorts e text.now) }
+{
+    if text.len() > LONG {
+        return write_long(alloc, doubles, text, out);
+    }
+    write_whole(alloc, doubles, text, scratch, out)
+}
+
+// The same with a scratch of its own.
+#[inline(never)]
+fn write_long<W: ValueWriter>(
     alloc: Global,
     doubles: Doubles,
     text: &str,
@@ -44,32 +71,58 @@ pub(crate) fn write_text<W: ValueWriter>(
     ensures stops { IfErr result (λ e. TextDenied doubles (W.leaves doubles) W.sorts e text.now) }
 {
     let mut scratch = Scratch::new(alloc);
-    let mut reader = Reader::new(text, &mut scratch)?;
-    let mut keys = Vec::new(alloc);
-    let mut ahead = Ahead::new(alloc, text);
-    write_value(
-        alloc,
-        doubles,
-        &mut reader,
-        MAX_DEPTH,
-        "",
-        &mut keys,
-        &mut ahead,
-        out,
-    )?;
+    write_whole(alloc, doubles, text, &mut scratch, out)
+}
+
+// The same of a text of any length, with this scratch.
+fn write_whole<W: ValueWriter>(
+    alloc: Global,
+    doubles: Doubles,
+    text: &str,
+    scratch: &mut Scratch,
+    out: &mut W,
+) -> Result<(), Stop>
+    ensures ok { OnOk result ((v : Meaning) × HasMeaningInOrder doubles text.now v × W.wrote out.old [] v out.new) }
+    ensures stops { IfErr result (λ e. TextDenied doubles (W.leaves doubles) W.sorts e text.now) }
+{
+    let mut reader = Reader::new(text, scratch)?;
+    write_first(alloc, doubles, text, &mut reader, out)?;
     if reader.next().is_some() {
         return Err(Stop::Fault);
     }
     Ok(())
 }
 
-/// Writes the value that stands next under the name.
+// Writes the first value of the text.
+fn write_first<W: ValueWriter>(
+    alloc: Global,
+    doubles: Doubles,
+    text: &str,
+    reader: &mut Reader<'_>,
+    out: &mut W,
+) -> Result<(), Stop>
+    ensures ok { OnOk result (TreeMeans doubles (converted kept (value 127 reader.old)) reader.new
+        (λ v. W.wrote out.old [] v out.new)) }
+    ensures stops { IfErr result (λ e. ValueDenied doubles (W.leaves doubles) W.sorts e (value 127 reader.old)) }
+{
+    let mut keys = Vec::new(alloc);
+    let mut ahead = Ahead::new(alloc, text);
+    write_value(
+        alloc, doubles, reader, MAX_DEPTH, "", &mut keys, &mut ahead, out,
+    )
+}
+
+/// Writes the next value under the name.
 ///
-/// Each error but `OutOfMemory` denies something of what was to be read: that it means a value, that
-/// its keys are unique, or that the writer and the walk can write it.
+/// The keys of the open objects are kept, each object's after those around it. If code follows its
+/// scope, what the text has ahead is kept too.
 ///
-/// The keys of the objects that are open are held, each object's behind those around it; of code
-/// behind its scope what the text has ahead.
+/// # Errors
+///
+/// - `OutOfMemory`: a request for memory was refused.
+/// - `DuplicateKey`: an object has two equal keys.
+/// - `GaveUp`: the writer or the walk does not write a part as it is read.
+/// - `Fault`: the next value is not JSON of at most `depth` levels, or has no meaning.
 #[cycle(walk)]
 pub fn write_value<'a, W: ValueWriter>(
     alloc: Global,
@@ -188,8 +241,12 @@ fn write_object<'a, W: ValueWriter>(
     write_document(alloc, doubles, reader, depth, first, true, keys, ahead, out)
 }
 
-/// Writes the document of an object from a key on that was read, or none of them: none stands
-/// twice, and no key of a document is a wrapper's, while a scope's may be.
+/// Writes the document of an object from its first key on, which was read, or an empty document. No
+/// key is a duplicate. A key of a document is not a wrapper key, and a key of a scope may be one.
+///
+/// # Errors
+///
+/// The errors of [`write_value`], for the members of the object.
 #[cycle(walk)]
 pub fn write_document<'a, W: ValueWriter>(
     alloc: Global,
@@ -340,39 +397,4 @@ fn write_scope<'a, W: ValueWriter>(
         ahead,
         out,
     )
-}
-
-// The end of the object of code and its scope. Where the code is behind, it is to stand there.
-fn end_object(reader: &mut Reader<'_>, code: &str, is_behind: bool) -> Result<(), Stop>
-    ensures ok { OnOk result (CodeEnds code.now is_behind reader.old reader.new) }
-    ensures shorter { OnOk result (length reader.new < length reader.old) }
-    ensures stops { IfErr result (λ e. EndDenied e is_behind reader.old) }
-{
-    if is_behind {
-        pass_code(reader, code)?;
-    }
-    if reader.next_key()?.is_some() {
-        return Err(Stop::Fault);
-    }
-    Ok(())
-}
-
-// The key of code, and then this text.
-fn pass_code(reader: &mut Reader<'_>, code: &str) -> Result<(), Stop>
-    ensures ok { OnOk result (read_key reader.old ≡ Some (Some (codes "$code"), token.string code.now ∷ reader.new)) }
-    ensures fault { IfErr result (λ e. e ≡ Fault) }
-{
-    let Some(key) = reader.next_key()? else {
-        return Err(Stop::Fault);
-    };
-    if key != "$code" {
-        return Err(Stop::Fault);
-    }
-    let Some(Token::String(text)) = reader.next() else {
-        return Err(Stop::Fault);
-    };
-    if text != code {
-        return Err(Stop::Fault);
-    }
-    Ok(())
 }

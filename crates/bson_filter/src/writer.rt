@@ -97,9 +97,9 @@ pub trait ValueWriter {
         ensures written { OnOk result (keyed self.old name.now self.new) }
         ensures stops { IfErr result (MayStop leaves) };
 
-    /// Ends the document that was begun, whose keys are these, in the order in which they came: of a
-    /// key that came twice the last value stands, at the place of the first. They may be put in
-    /// another order. A writer may give up such a document.
+    /// Ends the document that was begun, with these keys in their order. If a key is duplicated, its
+    /// last value wins, at its first position. The keys may be put in another order. A writer may
+    /// give up a document whose keys are not in order.
     fn end(&mut self, begun: Self::Open, keys: &mut [&str]) -> Result<(), Stop>
         requires { (start : Self) × (mid : Self) × (ps : Pairs) × opened start begun mid
             × PairsWritten wrote keyed ps mid self.old × (keys_of ps ≡ map (λ k. k.now) keys.old) }

@@ -14,7 +14,7 @@ use Rattle.bson_lines.specs.declared.arguments.Given.{Given}
 use Rattle.bson_lines.specs.declared.arguments.Taken as arguments
 use Rattle.bson_lines.specs.declared.arguments.Taken.TheVariants as taken
 use Rattle.bson_lines.specs.declared.order.Asked.{Asked}
-use Rattle.bson_lines.specs.declared.order.Asked.TheVariants.{Run, Help, Version, Nothing}
+use Rattle.bson_lines.specs.declared.order.Asked.TheVariants.{Run, Help, Version, Former, Nothing}
 
 -- ---- options leave a task its name
 
@@ -34,15 +34,15 @@ taken_name taking Encode = refl
 taken_name taking EncodeInOrder = refl
 taken_name taking (Taken other work) = refl
 
-chosen_name : (b : Bool) (task : Task) → task_name (cond b (in_order task) task) ≡ task_name task
-chosen_name true task = ordered_name task
-chosen_name false task = refl
+chosen_name : (b : Bool) (task : Task) → task_name (cond b task (in_order task)) ≡ task_name task
+chosen_name true task = refl
+chosen_name false task = ordered_name task
 
 named : (taking : Option Taking) (b : Bool) (task : Task)
-    → task_name (option_map_or (λ it. first_taken it (cond b (in_order task) task)) taking (cond b (in_order task) task))
+    → task_name (option_map_or (λ it. first_taken it (cond b task (in_order task))) taking (cond b task (in_order task)))
     ≡ task_name task
 named None b task = chosen_name b task
-named (Some it) b task = taken_name it (cond b (in_order task) task) ∙ chosen_name b task
+named (Some it) b task = taken_name it (cond b task (in_order task)) ∙ chosen_name b task
 
 -- ---- the answer
 
@@ -58,6 +58,7 @@ answered words given (Run order) are h is = (
 )
 answered words given Help are h is = absurd is
 answered words given Version are h is = absurd is
+answered words given Former are h is = absurd is
 answered words given Nothing are h is = tt
 
 pub still_there : (words : List (List ℕ)) (word : List ℕ) (old new : Option Task) → Contains words word
@@ -73,6 +74,7 @@ help_there words word taken.Word there h e = absurd cc
 help_there words word taken.Help there (inl is) e = inl (subst (Contains words) is there)
 help_there words word taken.Help there (inr is) e = inr (subst (Contains words) is there)
 help_there words word taken.Version there h e = absurd cc
+help_there words word taken.Former there h e = absurd cc
 help_there words word taken.Unknown there h e = absurd cc
 
 pub version_there : (words : List (List ℕ)) (word : List ℕ) (it : arguments.Taken) → Contains words word → IsTaken word it
@@ -81,7 +83,17 @@ version_there words word taken.Word there h e = absurd cc
 version_there words word taken.Help there h e = absurd cc
 version_there words word taken.Version there (inl is) e = inl (subst (Contains words) is there)
 version_there words word taken.Version there (inr is) e = inr (subst (Contains words) is there)
+version_there words word taken.Former there h e = absurd cc
 version_there words word taken.Unknown there h e = absurd cc
+
+pub former_there : (words : List (List ℕ)) (word : List ℕ) (it : arguments.Taken) → Contains words word → IsTaken word it
+    → it ≡ taken.Former → IsAskedBy words Former
+former_there words word taken.Word there h e = absurd cc
+former_there words word taken.Help there h e = absurd cc
+former_there words word taken.Version there h e = absurd cc
+former_there words word taken.Former there (inl is) e = inl (subst (Contains words) is there)
+former_there words word taken.Former there (inr is) e = inr (subst (Contains words) is there)
+former_there words word taken.Unknown there h e = absurd cc
 
 -- the word at a place is among the words
 pub word_there : {X : Type 0} (f : X → List ℕ) (all xs : List X) (i : ℕ) (x : X) (word : List ℕ) → xs ≡ all → i < length xs

@@ -1,6 +1,6 @@
 -- What the words after the program's name ask for.
 use Rattle.std.specs.Prelude.{◌≡◌, ◌≢◌, ◌⊎◌, ◌≤◌, ◌++◌, ℕ, Bool, true, false, List, [], ◌∷◌, Option, None, Some, IsSome, codes}
-use Rattle.std.specs.Prelude.{bytes_eq, ◌&&◌, ◌||◌, Contains, map, not, string_bytes, vec_len, if◌then◌else◌}
+use Rattle.std.specs.Prelude.{bytes_eq, ◌||◌, Contains, map, string_bytes, vec_len, if◌then◌else◌}
 use Rattle.std.specs.Option.{option_map_or}
 use Rattle.bson_run.specs.Words.{task_name}
 use Rattle.bson_run.specs.declared.order.OnRefusal.TheVariants.{KeepGoing, Stop}
@@ -12,7 +12,7 @@ use Rattle.bson_run.specs.declared.order.Task.TheVariants.{Write, WriteInOrder, 
 use Rattle.bson_run.specs.declared.order.Task.TheVariants.{Taken}
 use Rattle.bson_run.specs.declared.order.Work.TheVariants as work
 use Rattle.bson_lines.specs.declared.order.Asked.{Asked}
-use Rattle.bson_lines.specs.declared.order.Asked.TheVariants.{Run, Help, Version, Nothing}
+use Rattle.bson_lines.specs.declared.order.Asked.TheVariants.{Run, Help, Version, Former, Nothing}
 use Rattle.bson_lines.specs.declared.order.Input.{Input}
 use Rattle.bson_lines.specs.declared.order.Input.TheVariants.{Lines, Text, Documents}
 use Rattle.bson_lines.specs.declared.order.Order.{Order}
@@ -22,6 +22,7 @@ use Rattle.bson_lines.specs.declared.arguments.Taken.TheVariants as taken
 use Rattle.bson_lines.specs.declared.arguments.Next.{Next}
 use Rattle.bson_lines.specs.declared.arguments.Next.TheVariants.{Any, Output, Indent, Name}
 use Rattle.bson.specs.Doubles.TheVariants.{Finite, Special}
+use Rattle.bson.specs.declared.extjson.options.Options.{Options}
 
 -- ---- tasks
 
@@ -45,11 +46,10 @@ first_taken taking (WriteInOrder mode) = Taken taking (work.WriteInOrder mode)
 first_taken taking Check = Taken taking work.Check
 first_taken taking task = task
 
--- documents of BSON are written in their own order by themselves, and so are the bytes of a text
-abbrev pub has_own_order : Input → Task → Bool
-has_own_order Documents task = true
-has_own_order input Encode = true
-has_own_order input task = false
+-- all doubles have a text; or, if the run is strict, those of the specification
+abbrev pub options_of : (is_strict : Bool) → Options
+options_of true = record { doubles = Special }
+options_of false = record { doubles = Finite }
 
 -- ---- words
 
@@ -62,12 +62,11 @@ HasOutput file word = (word ≡ codes "--output=" ++ file) ⊎ (word ≡ codes "
 -- what a word sets where no option waits for it: each option sets its own part, and any other word none of these
 abbrev pub given_of : List ℕ → Given → Given
 given_of word given = record given {
-  options = if bytes_eq word (codes "--doubles") then record given.options { doubles = Finite } else given.options;
   keeps_going = bytes_eq word (codes "--keep-going") || given.keeps_going;
   input = if bytes_eq word (codes "--whole") then Text
       else (if bytes_eq word (codes "--bson") then Documents else given.input);
-  keeps_order = bytes_eq word (codes "--keep-order") || given.keeps_order;
   sorts_keys = bytes_eq word (codes "--sort-keys") || given.sorts_keys;
+  is_strict = bytes_eq word (codes "--strict") || given.is_strict;
   is_distinct = bytes_eq word (codes "--no-double-keys") || given.is_distinct;
   is_legacy = bytes_eq word (codes "--legacy") || given.is_legacy;
   next = if bytes_eq word (codes "--") then Name
@@ -98,11 +97,10 @@ Takes word old new = TakesFor old.next word old new
 abbrev pub IsFirst : Given → Type 0
 IsFirst given = given ≡ record given {
   task = None;
-  options = record { doubles = Special };
   keeps_going = false;
   input = Lines;
-  keeps_order = false;
   sorts_keys = false;
+  is_strict = false;
   is_distinct = false;
   is_legacy = false;
   indent = None;
@@ -133,13 +131,13 @@ FitsText given = given.input ≡ Text → (given.keeps_going ≡ false) × (vec_
 abbrev pub FitsIndent : Given → Task → Type 0
 FitsIndent given task = IsSome given.indent → IsForm task × (given.input ≡ Text)
 
--- keys are sorted in what keeps its order by itself
+-- a check writes no keys, and a BSON document is shown with its own order
 abbrev pub FitsSorting : Given → Task → Type 0
-FitsSorting given task = given.sorts_keys ≡ true → (task ≡ Encode) ⊎ (IsForm task × (given.input ≡ Documents))
+FitsSorting given task = given.sorts_keys ≡ true → (task ≢ Check) × ((given.input ≢ Documents) ⊎ IsForm task)
 
--- the order of texts is kept where a text is written
-abbrev pub FitsOrder : Given → Task → Type 0
-FitsOrder given task = given.keeps_order ≡ true → (task ≢ Check) × ¬ (IsBytes given task)
+-- a BSON document has any double, and only its forms reject one
+abbrev pub FitsStrict : Given → Task → Type 0
+FitsStrict given task = given.is_strict ≡ true → (given.input ≢ Documents) ⊎ IsForm task
 
 -- what texts are taken for stands where no bytes are
 abbrev pub FitsTaking : Given → Task → Type 0
@@ -162,7 +160,7 @@ pub record Fits (given : Given) (task : Task) : Type 0 where
   pub text : FitsText given
   pub indent : FitsIndent given task
   pub sorting : FitsSorting given task
-  pub order : FitsOrder given task
+  pub strict : FitsStrict given task
   pub taking : FitsTaking given task
   pub bytes : FitsBytes given task
   pub output : FitsOutput given task
@@ -170,11 +168,10 @@ pub record Fits (given : Given) (task : Task) : Type 0 where
 
 -- ---- what is asked for
 
--- the task of a verb with the options
+-- the task of a verb with the options: keys keep their order, unless they are sorted or the run is strict
 abbrev pub task_of : Given → (verb : Task) → Task
 task_of given verb =
-    let task = if given.keeps_order || (has_own_order given.input verb && not given.sorts_keys)
-    then in_order verb else verb in
+    let task = if given.sorts_keys || given.is_strict then verb else in_order verb in
     option_map_or (λ taking. first_taken taking task) (taking_of given.is_distinct given.is_legacy) task
 
 -- the files, or the standard stream where none is given
@@ -188,7 +185,7 @@ pub record IsGiven (given : Given) (order : Order) : Type 0 where
   pub is_verb : given.task ≡ Some verb
   pub fits : Fits given verb
   pub task : order.task ≡ task_of given verb
-  pub options : order.options ≡ given.options
+  pub options : order.options ≡ options_of given.is_strict
   pub on_refusal : order.on_refusal ≡ (if given.keeps_going then KeepGoing else Stop)
   pub input : order.input ≡ given.input
   pub indent : order.indent ≡ given.indent
@@ -201,15 +198,17 @@ abbrev pub IsAnswer : Given → Asked → Type 0
 IsAnswer given (Run order) = IsGiven given order
 IsAnswer given Help = ⊥
 IsAnswer given Version = ⊥
+IsAnswer given Former = ⊥
 IsAnswer given Nothing = (verb : Task) → given.task ≡ Some verb → ¬ Fits given verb
 
--- what each answer says of the words: those that ask for help or for the version are among them, and so is the name of
--- the run's task, whose options stand together
+-- what each answer says of the words: those that ask for help or for the version, or that were options, are among them,
+-- and so is the name of the run's task, whose options stand together
 abbrev pub IsAskedBy : (words : List (List ℕ)) → Asked → Type 0
 IsAskedBy words (Run order) =
     Contains words (task_name order.task) × ((given : Given) × AreGiven words given × IsGiven given order)
 IsAskedBy words Help = Contains words (codes "--help") ⊎ Contains words (codes "-h")
 IsAskedBy words Version = Contains words (codes "--version") ⊎ Contains words (codes "-v")
+IsAskedBy words Former = Contains words (codes "--doubles") ⊎ Contains words (codes "--keep-order")
 IsAskedBy words Nothing = Unit {0}
 
 -- ---- for private clauses
@@ -218,9 +217,11 @@ IsAskedBy words Nothing = Unit {0}
 abbrev pub IsTaken : (word : List ℕ) → arguments.Taken → Type 0
 IsTaken word taken.Help = (word ≡ codes "--help") ⊎ (word ≡ codes "-h")
 IsTaken word taken.Version = (word ≡ codes "--version") ⊎ (word ≡ codes "-v")
+IsTaken word taken.Former = (word ≡ codes "--doubles") ⊎ (word ≡ codes "--keep-order")
 IsTaken word other = Unit {0}
 
 abbrev pub IsNoHelp : arguments.Taken → Type 0
 IsNoHelp taken.Help = ⊥
 IsNoHelp taken.Version = ⊥
+IsNoHelp taken.Former = ⊥
 IsNoHelp other = Unit {0}

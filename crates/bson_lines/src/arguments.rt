@@ -2,7 +2,7 @@
 ghost use Rattle.std.specs.Prelude.{◌≡◌, ◌⊎◌, ◌<◌, ◌≤◌, ℕ, List, None, OnOk, IfOk, IfSome, map, string_bytes};
 ghost use Rattle.std.specs.Prelude.{◌==◌, ◌||◌, slice_index, if◌then◌else◌, true, vec_len};
 ghost use Rattle.std.specs.Fmt.{decimal};
-ghost use Rattle.bson_lines.specs.Order.{first_taken, has_own_order, in_order, or_standard, taking_of};
+ghost use Rattle.bson_lines.specs.Order.{first_taken, in_order, options_of, or_standard, taking_of};
 ghost use Rattle.bson_lines.specs.Order.{HasOutput, IsAnswer, IsFirst, IsNoHelp, IsTaken, Sets, Takes};
 ghost use Rattle.bson_run.specs.Words.{task_name};
 
@@ -17,11 +17,10 @@ use std::alloc::{AllocError, Global};
 pub struct Given {
     alloc: Global,
     task: Option<Task>,
-    options: Options,
     pub keeps_going: bool,
     pub input: Input,
-    pub keeps_order: bool,
     pub sorts_keys: bool,
+    pub is_strict: bool,
     pub is_distinct: bool,
     pub is_legacy: bool,
     pub indent: Option<usize>,
@@ -49,6 +48,8 @@ pub enum Taken {
     Word,
     Help,
     Version,
+    /// An option of an earlier version, which is the default now.
+    Former,
     /// One that can't stand here.
     Unknown,
 }
@@ -62,11 +63,10 @@ impl Given {
         Given {
             alloc,
             task: None,
-            options: Options::default(),
             keeps_going: false,
             input: Input::Lines,
-            keeps_order: false,
             sorts_keys: false,
+            is_strict: false,
             is_distinct: false,
             is_legacy: false,
             indent: None,
@@ -111,15 +111,11 @@ impl Given {
             "--keep-going" => Ok(set(&mut self.keeps_going)),
             "--whole" => self.take_input(Input::Text),
             "--bson" => self.take_input(Input::Documents),
-            "--keep-order" => Ok(set(&mut self.keeps_order)),
             "--sort-keys" => Ok(set(&mut self.sorts_keys)),
+            "--strict" => Ok(set(&mut self.is_strict)),
             "--no-double-keys" => Ok(set(&mut self.is_distinct)),
             "--legacy" => Ok(set(&mut self.is_legacy)),
-            "--doubles" => {
-                let is_first = self.options.doubles == Doubles::Special;
-                self.options.doubles = Doubles::Finite;
-                Ok(once(is_first))
-            }
+            "--doubles" | "--keep-order" => Ok(Taken::Former),
             STANDARD => self.take_name(word),
             _ => self.take_joined(word),
         }
@@ -213,11 +209,10 @@ impl Given {
         }
         let Given {
             alloc,
-            options,
             keeps_going,
             input,
-            keeps_order,
             sorts_keys,
+            is_strict,
             is_distinct,
             is_legacy,
             indent,
@@ -229,14 +224,17 @@ impl Given {
             Some(name) => name,
             None => String::from_str(alloc, STANDARD)?,
         };
-        let is_in_order = keeps_order || (has_own_order(input, task) && !sorts_keys);
-        let task = if is_in_order { in_order(task) } else { task };
+        let task = if sorts_keys || is_strict {
+            task
+        } else {
+            in_order(task)
+        };
         Ok(Asked::Run(Order {
             task: match taking_of(is_distinct, is_legacy) {
                 Some(taking) => first_taken(taking, task),
                 None => task,
             },
-            options,
+            options: options_of(is_strict),
             on_refusal: if keeps_going {
                 OnRefusal::KeepGoing
             } else {
@@ -250,14 +248,20 @@ impl Given {
     }
 }
 
-// Whether the keys of what is written stand in their own order by themselves.
-fn has_own_order(input: Input, task: Task) -> bool
-    ensures { result ≡ has_own_order input task }
+// Returns which doubles have a text: all, or those of the specification.
+fn options_of(is_strict: bool) -> Options
+    ensures { result ≡ options_of is_strict }
 {
-    input == Input::Documents || task == Task::Encode
+    Options {
+        doubles: if is_strict {
+            Doubles::Special
+        } else {
+            Doubles::Finite
+        },
+    }
 }
 
-// The task, with the keys of each document in their own order.
+// Returns the task that keeps the keys of each document in their order.
 fn in_order(task: Task) -> Task
     ensures { result ≡ in_order task }
 {

@@ -1,6 +1,6 @@
 //! Which options stand with a task, and with one another.
 ghost use Rattle.std.specs.Prelude.{◌≡◌, ◌⊎◌, ◌↔◌, IsTrue, MatchBool};
-ghost use Rattle.bson_lines.specs.Order.{Fits, FitsBytes, FitsIndent, FitsOrder, FitsOutput, FitsSorting, FitsTaking};
+ghost use Rattle.bson_lines.specs.Order.{Fits, FitsBytes, FitsIndent, FitsOutput, FitsSorting, FitsStrict, FitsTaking};
 ghost use Rattle.bson_lines.specs.Order.{FitsText, IsBytes, IsEnded, IsForm};
 
 use crate::arguments::{Given, Next};
@@ -15,7 +15,7 @@ pub fn fits(given: &Given, task: Task) -> bool
     if !fits_text(given) || !fits_indent(given, task) {
         return false;
     }
-    if !fits_sorting(given, task) || !fits_order(given, task) {
+    if !fits_sorting(given, task) || !fits_strict(given, task) {
         return false;
     }
     if !fits_taking(given, task) || !fits_bytes(given, task) {
@@ -38,19 +38,18 @@ fn fits_indent(given: &Given, task: Task) -> bool
     given.indent.is_none() || (is_form(task) && given.input == Input::Text)
 }
 
-// Keys are sorted in what keeps its order by itself: BSON bytes, which are made of texts, and the
-// forms of BSON documents.
+// A check writes no keys, and `show` writes those of a BSON document in their own order.
 fn fits_sorting(given: &Given, task: Task) -> bool
     ensures { MatchBool result (FitsSorting given.now task) (¬ FitsSorting given.now task) }
 {
-    !given.sorts_keys || task == Task::Encode || (is_form(task) && given.input == Input::Documents)
+    !given.sorts_keys || (task != Task::Check && (given.input != Input::Documents || is_form(task)))
 }
 
-// The order of texts is kept where a text is written.
-fn fits_order(given: &Given, task: Task) -> bool
-    ensures { MatchBool result (FitsOrder given.now task) (¬ FitsOrder given.now task) }
+// A BSON document has any double, and only its forms reject one.
+fn fits_strict(given: &Given, task: Task) -> bool
+    ensures { MatchBool result (FitsStrict given.now task) (¬ FitsStrict given.now task) }
 {
-    !given.keeps_order || (task != Task::Check && !is_bytes(given, task))
+    !given.is_strict || given.input != Input::Documents || is_form(task)
 }
 
 // What texts are taken for stands where no bytes are.

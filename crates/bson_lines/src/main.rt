@@ -22,7 +22,7 @@ mod words;
 use crate::messages::{line_of, summary};
 use crate::order::{Asked, Order, STANDARD, parse_arguments};
 use crate::run::{Stop, run};
-use crate::words::{HELP, OUT_OF_MEMORY, USAGE, VERSION};
+use crate::words::{FORMER, HELP, OUT_OF_MEMORY, USAGE, VERSION};
 use bson_convert::fault::Fault;
 use bson_convert::program::{exit_with, words_given};
 use std::alloc::AllocError;
@@ -40,6 +40,7 @@ fn main(rt: HostRuntime) -> ExitCode {
         Ok(Asked::Run(order)) => run_order(&rt, &order),
         Ok(Asked::Help) => print_text(&rt, HELP),
         Ok(Asked::Version) => print_text(&rt, VERSION),
+        Ok(Asked::Former) => exit_with(&rt, FORMER, 2),
         Ok(Asked::Nothing) => exit_with(&rt, USAGE, 2),
         Err(_) => exit_with(&rt, OUT_OF_MEMORY, 1),
     }

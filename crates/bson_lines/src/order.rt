@@ -20,6 +20,8 @@ pub enum Asked {
     Help,
     /// The line of `--version`.
     Version,
+    /// An option of an earlier version, which is the default now.
+    Former,
     /// Nothing that the program does.
     Nothing,
 }
@@ -82,6 +84,7 @@ pub fn parse_arguments(alloc: Global, words: Vec<String>) -> Result<Asked, Alloc
             Taken::Word => {}
             Taken::Help => return Ok(Asked::Help),
             Taken::Version => return Ok(Asked::Version),
+            Taken::Former => return Ok(Asked::Former),
             Taken::Unknown => return Ok(Asked::Nothing),
         }
     }

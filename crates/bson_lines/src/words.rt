@@ -1,65 +1,70 @@
-//! What the program writes of itself.
+//! The texts that the program writes about itself.
 
-/// Where the arguments ask for nothing that it does.
+/// The text for arguments that request nothing.
 pub const USAGE: &str =
-    "usage: bson_lines canonical|relaxed|show|check [--doubles] [--bson] [--keep-going|--whole] [-o FILE] [FILE ..]
-       bson_lines canonical|relaxed|show --keep-order [--doubles] [--keep-going|--whole] [-o FILE] [FILE ..]
-       bson_lines canonical|relaxed|show|check --no-double-keys|--legacy [--keep-order] [--doubles] [--keep-going] ..
-       bson_lines canonical|relaxed --bson --sort-keys [--doubles] [--keep-going] [-o FILE] [FILE ..]
-       bson_lines encode [--sort-keys] [--doubles] [--keep-going|--whole] [-o FILE] [FILE ..]
-       bson_lines canonical|relaxed --whole --indent N [--keep-order] [--doubles] [-o FILE] [FILE]
+    "usage: bson_lines canonical|relaxed|show [--sort-keys] [--strict] [--whole|--bson] [OPTION ..] [FILE ..]
+       bson_lines check [--strict] [--whole|--bson] [OPTION ..] [FILE ..]
+       bson_lines encode [--sort-keys] [--strict] [--whole] [OPTION ..] [FILE ..]
 see bson_lines --help";
 
-/// What stands on standard error where there is no memory for anything else.
+/// The message about an option of an earlier version.
+pub const FORMER: &str =
+    "bson_lines: --doubles and --keep-order are the default now; see bson_lines --help";
+
+/// The message if there is no memory for any other.
 pub const OUT_OF_MEMORY: &str = "bson_lines: out of memory";
 
 pub const VERSION: &str = "bson_lines 0.2.0";
 
 pub const HELP: &str =
-    "usage: bson_lines canonical|relaxed|show|check [--doubles] [--bson] [--keep-going|--whole] [-o FILE] [FILE ..]
-       bson_lines canonical|relaxed|show --keep-order [--doubles] [--keep-going|--whole] [-o FILE] [FILE ..]
-       bson_lines canonical|relaxed|show|check --no-double-keys|--legacy [--keep-order] [--doubles] [--keep-going] ..
-       bson_lines canonical|relaxed --bson --sort-keys [--doubles] [--keep-going] [-o FILE] [FILE ..]
-       bson_lines encode [--sort-keys] [--doubles] [--keep-going|--whole] [-o FILE] [FILE ..]
-       bson_lines canonical|relaxed --whole --indent N [--keep-order] [--doubles] [-o FILE] [FILE]
+    "usage: bson_lines canonical|relaxed|show [--sort-keys] [--strict] [--whole|--bson] [OPTION ..] [FILE ..]
+       bson_lines check [--strict] [--whole|--bson] [OPTION ..] [FILE ..]
+       bson_lines encode [--sort-keys] [--strict] [--whole] [OPTION ..] [FILE ..]
 
-Reads MongoDB Extended JSON v2, a document a line, from the files or from standard input, and writes of each line:
+Reads MongoDB Extended JSON v2, one document per line, from the files or from standard input, and writes for each line:
   canonical   its canonical form, which keeps every type
-  relaxed     its relaxed form, with plain numbers, and dates as texts
-  show        the value as the library prints it, which is no JSON
-  check       nothing; refused lines are told
-  encode      the bytes of its document (BSON 1.1), keys in the order of the text and no newline behind them
+  relaxed     its relaxed form, with plain numbers, and with dates as strings
+  show        the value as the library's Display writes it, which is not JSON
+  check       nothing; it only reports rejected lines
+  encode      the bytes of its document (BSON 1.1), without a newline after them
 
-  --doubles               finite doubles are taken: a number that is no whole one of 64 bits is read as the double
-                          nearest to it, and a double is written as its shortest decimal; without it they are refused
-  --keep-order            (not with check, encode or --bson) each document has its keys in the order of the text, at
-                          every depth, the last value of a key that stands twice at its first place; else keys ascend
-  --no-double-keys        (not with encode or --bson) a text is refused where an object has a key twice, at any depth, with
-                          the path to the first such key; keys are compared after their escapes are read
-  --legacy                (not with encode or --bson) objects of Extended JSON v1 are read as those of v2: $binary with
-                          $type and $regex with $options, each a text, and a $date whose offset is as +0100
-  --keep-going            a refused line is told and left out, and the run goes on; without it the run ends there
-  --bson                  the input is documents of BSON 1.1, one behind the other, as in a dump, and a line is written
-                          of each, with its keys in its own order at every depth; check only looks at them
-  --sort-keys             (with encode, and with --bson in both forms) keys come out in ascending order at every depth
-  --whole                 the input, one file at most, is one text on any number of lines, and not a text a line
-  --indent N              (with --whole, in both forms) the text goes over several lines, a member or an element each, N
-                          spaces further in for each bracket, N from 1 to 16; it is read as the very same tree
-  -o FILE, --output FILE  the output goes to FILE, and not to standard output: whole at the end, or not at all
+Keys keep the order of the input. A duplicate key has its last value at its first position. A number that is not a
+64-bit integer, such as 1.5, is read as the nearest double. A double is written as its shortest decimal.
+
+  --sort-keys             (not check, not show with --bson) writes keys in ascending order at every depth
+  --strict                (with --bson only in canonical and relaxed) does what the specified program bson_cli does.
+                          It accepts of all doubles only zeros, infinities and NaNs, and rejects numbers such as 1.5
+                          and 0.0. Keys are written in ascending order at every depth
+  --whole                 reads one document on any number of lines, from one file at most
+  --bson                  (not encode) reads concatenated documents of BSON 1.1, as in a dump, and writes a line for
+                          each; check only checks the bytes
+  --no-double-keys        (not encode, not --bson) rejects input in which an object has a duplicate key, at any depth,
+                          and reports the path to the first one; keys are compared after their escapes are decoded
+  --legacy                (not encode, not --bson) also reads three objects of Extended JSON v1, as those of v2:
+                          $binary with $type, $regex with $options, and a $date whose offset has no colon
+  --keep-going            (not --whole) skips a rejected line or document and reports it; without it the run ends there
+  --indent N              (--whole, canonical or relaxed) writes the document over several lines, one for each member
+                          and element, with N spaces for each bracket, N from 1 to 16; it reads as the same tree
+  -o FILE, --output FILE  (not check) writes the output to FILE, as a whole at the end, and not to standard output
   -h, --help; -v, --version
 
-Options stand anywhere before a word --, and FILE - is a standard stream. A file that is read and written is refused.
--o writes FILE.N.part beside FILE, N the process's number, and renames it at the end; where the run ends before, FILE
-stays as it was, and the part is removed (but not where a signal ends the program: ./bson does that).
+Options can be anywhere before a word --, and FILE - is standard input or output. If a file is both input and output,
+the run is rejected before anything is read. -o writes FILE.N.part next to FILE, for the process number N, and renames
+it at the end. If a run ends early, the part is removed, and FILE stays as it was. A signal leaves the part in place.
 
-Blank lines give nothing and count. A byte order mark at the start of a file is passed over. Lines are numbered from 1
-in each file, and told as FILE:LINE: where they come from a file. Columns count bytes from 1. Memory is that of the
-longest line. Of BSON, a refused document is told with its number from 1 and the number of bytes before it, and with
---keep-going passed over where all bytes of its length are there; else, or without it, the run ends. It may nest 100
-deep. Memory is that of the largest document. With encode a line is refused too that means another value than a
-document, and a document with a 0 byte in a key or a regular expression, or with a part of 2^31 bytes or more; and
-nothing is written to a terminal. On a terminal a line of progress stands below while files are read.
+Blank lines are counted, and write nothing. A byte order mark at the start of a file is skipped. Lines are numbered from
+1 in each file, and a rejected line of a file is reported as FILE:LINE:. Columns count bytes from 1. A run needs the
+memory of the longest line, or of the largest BSON document. A BSON document may nest 100 levels deep. A rejected one is
+reported with its number from 1 and with the number of bytes before it. With --keep-going it is skipped if all the bytes
+of its length are present. Otherwise the run ends.
 
-Status: 0 done, and no line was refused; 1 a line was refused, or the run could not go on, as standard error tells: the
-lines before it were written, and with --keep-going all others; 2 other arguments, and nothing was read; 141 nobody
-reads the output any more, which is told nowhere.";
+encode rejects a line if its value is not a document, or if a key or a regular expression has a 0 byte. Each part must
+have fewer than 2^31 bytes. Bytes are not written to a terminal. If standard error is a terminal, it has a line of
+progress while files are read.
+
+Status:
+  0    done; no line or document was rejected
+  1    a line or document was rejected, or the run could not continue; standard error has the reason. All lines before
+       it are in the output, and with --keep-going all that were not rejected
+  2    wrong arguments; nothing was read
+  141  nobody reads the output any more; nothing is reported";

@@ -1,4 +1,4 @@
-//! That encoding and decoding undo each other, told from the public contracts of `bson`,
+//! Proves that encoding and decoding undo each other, from the public contracts of `bson`,
 //! `bson_codec` and `bson_run` alone.
 ghost use Rattle.std.specs.Prelude.{◌≡◌, IfOk, IfErr, string_bytes};
 ghost use Rattle.bson.specs.Doubles.TheVariants.{Finite};

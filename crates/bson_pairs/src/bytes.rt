@@ -1,4 +1,4 @@
-//! BSON bytes to texts and texts to BSON bytes, told from the public contracts of `bson` and
+//! Converts BSON bytes to texts and texts to BSON bytes, by the public contracts of `bson` and
 //! `bson_codec` alone.
 ghost use Rattle.std.specs.Prelude.{◌≡◌, ℕ, suc, IfOk, IfErr, true, string_bytes};
 ghost use Rattle.bson.specs.Form.TheVariants.{Canonical};

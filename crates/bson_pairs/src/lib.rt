@@ -1,6 +1,5 @@
-//! Whether two values have one text, told from the public contracts of `bson` alone, BSON bytes and
-//! texts of each other, and a text that is converted twice: an example of callers whose contracts
-//! are proved.
+//! An example of callers whose contracts are proved from public contracts alone: whether two values
+//! have one text, BSON bytes and texts of each other, and a text that is converted twice.
 #![tactic(auto)]
 
 ghost use Rattle.std.specs.Prelude.{◌≡◌, ◌↔◌, IfOk, Err, true};

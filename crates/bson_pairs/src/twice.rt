@@ -1,4 +1,4 @@
-//! That a text is converted once and for all, told from the public contract of `bson_convert` alone.
+//! Proves that a second conversion changes nothing, from the public contract of `bson_convert` alone.
 ghost use Rattle.std.specs.Prelude.{◌≡◌, ◌≢◌, IfOk};
 
 use bson_convert::convert::convert;

@@ -58,8 +58,13 @@ pub struct Place {
 }
 
 impl Place {
-    /// The path from the tree inward: keys as they are and places in arrays by their numbers, with
-    /// points between, as `orders.3._id.$oid`. It is empty where the fault is the tree's own.
+    /// Writes the path from the tree inward: keys, and places in arrays by their numbers, separated
+    /// by points. An example is `orders.3._id.$oid`. The path is empty if the fault is the tree's
+    /// own.
+    ///
+    /// # Errors
+    ///
+    /// Returns `AllocError` if a request for memory is refused.
     pub fn path(&self, alloc: Global) -> Result<String, AllocError>
         ensures { IfOk result (λ text. string_bytes text ≡ dotted (path_of self.now)) }
     {

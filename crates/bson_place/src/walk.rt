@@ -29,11 +29,16 @@ use std::alloc::{AllocError, Global};
 /// Returns the first fault of the tree and the path to it, or `None` if the tree has a meaning in
 /// MongoDB Extended JSON v2.
 ///
-/// Faults are found in the order of reading: of an array's elements in their order, of a document's
-/// values in ascending key order. The path ends at a number that is not a 64-bit integer, at the key
-/// of a wrapper whose value is wrong, or at an object that has a wrapper key and the shape of no
-/// wrapper. With `Doubles::Finite` a number is a fault only if its nearest double is not finite. The
-/// only error is out of memory.
+/// Faults are found in the order of reading. An array's elements are read in their order, a
+/// document's values in ascending key order. The path ends at one of these:
+///
+/// - a number that is not a 64-bit integer (`Doubles::Finite`: whose nearest double is not finite),
+/// - the key of a wrapper whose value is wrong,
+/// - an object that has a wrapper key and the shape of no wrapper.
+///
+/// # Errors
+///
+/// Returns `AllocError` if a request for memory is refused.
 pub fn first_place(
     alloc: Global,
     doubles: Doubles,
@@ -48,10 +53,13 @@ pub fn first_place(
     }
 }
 
-/// What the builder makes of the value that the tree means, or the tree's first fault and the path
-/// to it.
+/// Builds the value that the tree means, or returns the tree's first fault and the path to it.
 ///
-/// The order of faults is that of `first_place`. The only other error is out of memory.
+/// The order of faults is that of `first_place`.
+///
+/// # Errors
+///
+/// Returns `AllocError` if a request for memory is refused.
 pub fn read_tree<B: ValueBuilder>(
     alloc: Global,
     doubles: Doubles,
@@ -63,8 +71,12 @@ pub fn read_tree<B: ValueBuilder>(
     read_value::<B>(alloc, doubles, tree)
 }
 
-/// What the builder makes of the pairs of a map, whose own keys are not tested, or the first fault
-/// in its values and the path to it.
+/// Builds the pairs of a map, whose own keys are not tested, or returns the first fault in its
+/// values and the path to it.
+///
+/// # Errors
+///
+/// Returns `AllocError` if a request for memory is refused.
 pub fn read_pairs<B: ValueBuilder>(
     alloc: Global,
     doubles: Doubles,

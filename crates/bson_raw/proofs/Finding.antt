@@ -1,35 +1,63 @@
--- The loop that finds the value of a key.
-use Rattle.std.proofs.Common.{◌≡◌, ℕ, ◌+◌, ◌-◌, ◌≤◌, ◌==◌, Bool, true, false, cond, if◌then◌else◌, List, length, drop, Option, Some, None, Result, Ok, Err}
-use Rattle.std.proofs.Common.{refl, sym, ap, ◌∙◌, subst}
-use Rattle.std.specs.Prelude.{option_map}
+-- The loop that finds the value of a key, and what a validated document gives to it.
+use Rattle.std.proofs.Common.{◌≡◌, ℕ, ◌-◌, ◌≤◌, ◌==◌, Bool, true, false, cond, if◌then◌else◌, List, length, take, drop}
+use Rattle.std.proofs.Common.{Option, Some, None, Result, Ok, Err, refl, sym, ap, ◌∙◌, subst}
+use Rattle.std.specs.Prelude.{option_map, IsSomeAnd}
 use Rattle.std.specs.Borrow.{Bor}
 use Rattle.std.specs.Result.{is_ok}
 use Rattle.std.specs.Str.{bytes_eq}
 use Rattle.std.proofs.lemmas.Bool.{le-ltb}
 use Rattle.bson_types.specs.declared.spec.ElementType.{ElementType}
-use Rattle.bson_model.specs.Value.{Value, Pairs, no_pairs, get}
+use Rattle.bson_model.specs.Value.{Value, Pairs, no_pairs, pair, get}
 use Rattle.bson_bytes.specs.declared.fault.Fault.{Fault}
-use Rattle.bson_bytes.specs.declared.keys.DuplicateKeys.TheVariants.{Replace}
 use Rattle.bson_bytes.specs.Grammar.{one_each}
+use Rattle.bson_bytes.specs.declared.keys.DuplicateKeys.TheVariants.{Replace}
 use Rattle.bson_bytes.specs.Fault.{at, ◌>>=◌}
 use Rattle.bson_bytes.specs.declared.fault.FaultKind.TheVariants.{Trailing}
-use Rattle.bson_bytes.specs.Reading.{document_at, settled, reads, reads_in}
-use Rattle.bson_bytes.proofs.Offered.{elements}
-use Rattle.bson_raw.specs.Raw.{pairs_read, last_of, BeginsWith, IsAt}
-use Rattle.bson_raw.specs.Skip.{element_at, skip, skip_value}
+use Rattle.bson_bytes.specs.Reading.{document_at, document_in, value_with, settled, reads, reads_in}
+use Rattle.bson_raw.specs.Elements.{HasValue, IsElement, IsFirst, IsFound, IsKept}
+use Rattle.bson_raw.specs.Raw.{pairs_read, value_read, last_of, BeginsWithDocument, BeginsWithElements, elements_at}
+use Rattle.bson_raw.specs.Skip.{element_at, skip, skip_value, IsPassed}
+use Rattle.bson_raw.specs.declared.element.RawElement.{RawElement}
 use Rattle.bson_raw.proofs.Found.{value_is}
-use Rattle.bson_raw.proofs.Skips.{ok_is, if_ok}
-use Rattle.bson_raw.proofs.Steps.{Opened, opened, Took, took, none_left}
+use Rattle.bson_raw.proofs.Passing.{sliced}
+use Rattle.bson_raw.proofs.Skips.{ok_is, if_ok, Ahead}
+use Rattle.bson_raw.proofs.Steps.{opened, took, none_left, some_is, is_last}
 
 -- what was read
-pub read_from : (r : Result (Pairs × List ℕ) Fault) → is_ok r ≡ true → (rest : List ℕ) × (r ≡ Ok (pairs_read r, rest))
+read_from : (r : Result (Pairs × List ℕ) Fault) → is_ok r ≡ true → (rest : List ℕ) × (r ≡ Ok (pairs_read r, rest))
 read_from (Ok x) e = (x.1, refl)
 read_from (Err f) e = absurd cc
 
-pub opened_from : (d : ℕ) (bytes : List ℕ) → is_ok (document_at d bytes) ≡ true
-    → (rest : List ℕ) × Opened d bytes (pairs_read (document_at d bytes)) rest
-opened_from d bytes e =
-    let r = read_from (document_at d bytes) e in (r.0, opened d bytes (pairs_read (document_at d bytes)) r.0 r.1)
+pub document_there : (d : ℕ) (bytes : List ℕ) → is_ok (document_at d bytes) ≡ true
+    → BeginsWithDocument d bytes (pairs_read (document_at d bytes))
+document_there d bytes e = read_from (document_at d bytes) e
+
+pub elements_there : (d : ℕ) (bytes : List ℕ) → is_ok (elements_at d bytes) ≡ true
+    → BeginsWithElements d bytes (pairs_read (elements_at d bytes))
+elements_there d bytes e = read_from (elements_at d bytes) e
+
+ok_from : (r : Result (Pairs × List ℕ) Fault) (x : Pairs × List ℕ) → r ≡ Ok x → (is_ok r ≡ true) × (pairs_read r ≡ x.0)
+ok_from r x e = (ap is_ok e, ap pairs_read e)
+
+pub elements_are : (d : ℕ) (bytes : List ℕ) (ps : Pairs) → BeginsWithElements d bytes ps
+    → (is_ok (elements_at d bytes) ≡ true) × (pairs_read (elements_at d bytes) ≡ ps)
+elements_are d bytes ps h = ok_from (elements_at d bytes) (ps, h.0) h.1
+
+-- the elements follow the length
+pub elements_after : (d : ℕ) (bytes : List ℕ) (ps : Pairs) → BeginsWithDocument d bytes ps
+    → (1 ≤ d) × (skip 4 bytes ≡ Some (drop 4 bytes)) × BeginsWithElements (d - 1) (drop 4 bytes) ps
+elements_after d bytes ps h =
+    let o = opened d bytes ps h.0 h.1 in
+    (o.deep, rw (le-ltb (length bytes) 4 o.first.1) refl, subst (λ (list : List ℕ). BeginsWithElements (d - 1) list ps) o.first.0 (h.0, o.read))
+
+pub elements_found : (o : Option (Bor (List ℕ))) (d : ℕ) (bytes : List ℕ) (ps : Pairs) → option_map (λ x. x.now) o ≡ skip 4 bytes
+    → BeginsWithDocument d bytes ps → (1 ≤ d) × IsSomeAnd o (λ list. BeginsWithElements (d - 1) list.now ps)
+elements_found None d bytes ps h doc =
+    let some = (elements_after d bytes ps doc).1 in absurd cc
+elements_found (Some c) d bytes ps h doc =
+    let a = elements_after d bytes ps doc in
+    let same : drop 4 bytes ≡ c.now = some_is (drop 4 bytes) c.now (sym a.1 ∙ sym h) in
+    (a.0, subst (λ (list : List ℕ). BeginsWithElements (d - 1) list ps) same a.2)
 
 -- what a call found, seen without its references
 pub some_found : (o : Option (ElementType × Bor (List ℕ) × Bor (List ℕ))) (e : Option (ElementType × List ℕ × List ℕ))
@@ -50,70 +78,146 @@ some_next o e c h is = sym h ∙ ap (λ (p : Option (Bor (List ℕ))). option_ma
 pub none_next : (o : Option (Bor (List ℕ))) (e : Option (List ℕ)) → option_map (λ x. x.now) o ≡ e → o ≡ None → e ≡ None
 none_next o e h is = sym h ∙ ap (λ (p : Option (Bor (List ℕ))). option_map (λ x. x.now) p) is
 
--- the last value of the key, of what was found and the elements that are left, is this one
-pub record Finds (d : ℕ) (key : List ℕ) (found : Option (ElementType × Bor (List ℕ))) (rest : List ℕ) (total : Option Value) : Type 0 where
-  pub turns : ℕ
-  pub left : Pairs
-  pub after : List ℕ
-  pub read : elements Replace d None turns rest ≡ Ok (left, after)
-  pub value : Option Value
-  pub here : IsAt d found value
-  pub last : last_of key value left ≡ total
+-- ---- the first element
 
--- a document has a length
-pub has_length : (d : ℕ) (bytes : List ℕ) → is_ok (document_at d bytes) ≡ true → skip 4 bytes ≡ Some (drop 4 bytes)
-has_length d bytes e = rw (le-ltb (length bytes) 4 (opened_from d bytes e).1.first.1) refl
+pub first_none : (d : ℕ) (bytes : List ℕ) (ps : Pairs) → BeginsWithElements d bytes ps → element_at bytes ≡ None → ps ≡ no_pairs
+first_none d bytes ps h none = none_left d bytes ps h none
 
-pub finds_first : (d : ℕ) (bytes key : List ℕ) → is_ok (document_at d bytes) ≡ true
-    → Finds (d - 1) key None (drop 4 bytes) (get key (one_each (pairs_read (document_at d bytes))))
-finds_first d bytes key e =
-    let o = opened_from d bytes e in
-    let ps = pairs_read (document_at d bytes) in
+pub first_skips : (d : ℕ) (bytes : List ℕ) (ps : Pairs) (k : ElementType) (s b : List ℕ) → BeginsWithElements d bytes ps
+    → element_at bytes ≡ Some (k, s, b) → skip_value k b ≡ None → ⊥
+first_skips d bytes ps k s b h found none =
+    let some = (took d bytes ps k s b h found).skips in absurd cc
+
+pub first_is_element : (d : ℕ) (bytes : List ℕ) (ps : Pairs) (k : ElementType) (s b c : Bor (List ℕ)) → BeginsWithElements d bytes ps
+    → element_at bytes ≡ Some (k, s.now, b.now) → skip_value k b.now ≡ Some c.now
+    → IsElement d (record { kind = k; key = s; value = b; rest = c }) ps
+first_is_element d bytes ps k s b c h found skips =
+    let t = took d bytes ps k s.now b.now h found in
+    let next : t.next ≡ c.now = some_is t.next c.now (sym t.skips ∙ skips) in
+    let last : c.now ≡ drop (length b.now - length c.now) b.now = is_last b.now c.now (subst (λ (x : List ℕ). Ahead b.now x) next t.ahead) in
     record {
-      turns = length o.1.list;
-      left = ps;
-      after = o.0;
-      read = subst (λ (list : List ℕ). elements Replace (d - 1) None (length o.1.list) list ≡ Ok (ps, o.0)) o.1.first.0 o.1.read;
-      value = None;
-      here = refl;
-      last = sym (value_is key ps);
+      value = t.value;
+      others = t.others;
+      pairs = t.pairs;
+      utf8 = t.utf8;
+      read = t.read ∙ ap (λ (rest : List ℕ). Ok (t.value, rest)) (next ∙ last);
+      more = subst (λ (rest : List ℕ). BeginsWithElements d rest t.others) next t.more;
     }
 
-pub finds_last : (d : ℕ) (key : List ℕ) (found : Option (ElementType × Bor (List ℕ))) (rest : List ℕ) (total : Option Value)
-    → Finds d key found rest total → element_at rest ≡ None → IsAt d found total
+-- ---- the loop
+
+-- the last value of the key, of what was found and the elements that are left, is this one
+pub record Finds (d : ℕ) (key : List ℕ) (found : Option (List ℕ)) (rest : List ℕ) (total : Option Value) : Type 0 where
+  pub left : Pairs
+  pub read : BeginsWithElements d rest left
+  pub value : Option Value
+  pub here : IsKept d found value
+  pub last : last_of key value left ≡ total
+
+-- the same of each document with which the bytes begin
+abbrev pub FindsIn : (bytes key : List ℕ) (found : Option (List ℕ)) (rest : List ℕ) → Type 0
+FindsIn bytes key found rest = (d : ℕ) (ps : Pairs) → BeginsWithDocument d bytes ps
+    → (1 ≤ d) × Finds (d - 1) key found rest (get key (one_each ps))
+
+pub finds_first : (key bytes : List ℕ) → FindsIn bytes key None (drop 4 bytes)
+finds_first key bytes d ps h =
+    let a = elements_after d bytes ps h in
+    (a.0, record { left = ps; read = a.2; value = None; here = refl; last = sym (value_is key ps) })
+
+pub finds_last : (d : ℕ) (key : List ℕ) (found : Option (List ℕ)) (rest : List ℕ) (total : Option Value)
+    → Finds d key found rest total → ((ps : Pairs) → BeginsWithElements d rest ps → ps ≡ no_pairs) → IsKept d found total
 finds_last d key found rest total h none =
-    let nothing = none_left d h.turns rest h.left h.after h.read none in
-    subst (IsAt d found) (ap (last_of key h.value) (sym nothing) ∙ h.last) h.here
+    subst (IsKept d found) (ap (last_of key h.value) (sym (none h.left h.read)) ∙ h.last) h.here
 
-found_by : (d : ℕ) (has : Bool) (x : Option (ElementType × Bor (List ℕ))) (k : ElementType) (b : Bor (List ℕ)) (o : Option Value)
-    (v : Value) → IsAt d x o → BeginsWith d k b.now v → IsAt d (cond has (Some (k, b)) x) (cond has (Some v) o)
-found_by d true x k b o v here read = (v, refl, read)
-found_by d false x k b o v here read = here
+kept_by : (d : ℕ) (has : Bool) (x : Option (List ℕ)) (bytes : List ℕ) (o : Option Value) (k : List ℕ) (v : Value) (ps : Pairs)
+    → IsKept d x o → BeginsWithElements d bytes (pair k v ps) → IsKept d (cond has (Some bytes) x) (cond has (Some v) o)
+kept_by d true x bytes o k v ps here read = (k, v, ps, refl, read)
+kept_by d false x bytes o k v ps here read = here
 
-pub took_from : (d : ℕ) (key : List ℕ) (found : Option (ElementType × Bor (List ℕ))) (rest : List ℕ) (total : Option Value)
-    (h : Finds d key found rest total) (k : ElementType) (s b : List ℕ) → element_at rest ≡ Some (k, s, b)
-    → Took d k s b rest h.left h.after
-took_from d key found rest total h k s b e = took d h.turns rest h.left h.after k s b h.read e
+later_kept : (has : Bool) (at : ℕ) (found : Option ℕ) (bytes : List ℕ)
+    → option_map (λ i. drop i bytes) (cond has (Some at) found) ≡ cond has (Some (drop at bytes)) (option_map (λ i. drop i bytes) found)
+later_kept true at found bytes = refl
+later_kept false at found bytes = refl
 
-pub finds_more : (d : ℕ) (key : List ℕ) (found : Option (ElementType × Bor (List ℕ))) (rest : List ℕ) (total : Option Value)
-    → Finds d key found rest total → (k : ElementType) (s : List ℕ) (b : Bor (List ℕ)) (c : List ℕ) (has : Bool)
-    → element_at rest ≡ Some (k, s, b.now) → skip_value k b.now ≡ Some c → has ≡ bytes_eq key s
-    → Finds d key (cond has (Some (k, b)) found) c total × (length c + 1 ≤ length rest)
-finds_more d key found rest total h k s b c has e f same =
-    let t = took_from d key found rest total h k s b.now e in
-    let next : t.next ≡ c = cc in
-    let step = ap (last_of key h.value) (sym t.pairs) ∙ h.last in (
-      record {
-        turns = t.turns;
-        left = t.others;
-        after = h.after;
-        read = subst (λ (x : List ℕ). elements Replace d None t.turns x ≡ Ok (t.others, h.after)) next t.more;
-        value = cond has (Some t.value) h.value;
-        here = found_by d has found k b h.value t.value h.here (t.next, t.read);
-        last = ap (λ (x : Bool). last_of key (cond x (Some t.value) h.value) t.others) same ∙ step;
-      },
-      subst (λ (x : List ℕ). length x + 1 ≤ length rest) next t.shorter,
-    )
+pub finds_next : (d : ℕ) (key bytes : List ℕ) (found : Option ℕ) (at : ℕ) (total : Option Value)
+    → Finds d key (option_map (λ i. drop i bytes) found) (drop at bytes) total → (name next : List ℕ)
+    → ((ps : Pairs) → BeginsWithElements d (drop at bytes) ps → IsPassed ps (drop at bytes) (Some (name, next)))
+    → (has : Bool) (later : Option ℕ) → has ≡ bytes_eq key name → later ≡ cond has (Some at) found
+    → Finds d key (option_map (λ i. drop i bytes) later) next total
+finds_next d key bytes found at total h name next is has later same chosen =
+    let rest = drop at bytes in
+    let p = is h.left h.read in
+    let t = took d rest h.left p.0 name p.1 h.read p.2 in
+    let more : t.next ≡ next = some_is t.next next (sym t.skips ∙ p.3) in
+    let here = kept_by d has (option_map (λ i. drop i bytes) found) rest h.value name t.value t.others h.here
+    (subst (BeginsWithElements d rest) t.pairs h.read) in
+    let kept : cond has (Some rest) (option_map (λ i. drop i bytes) found) ≡ option_map (λ i. drop i bytes) later =
+    sym (later_kept has at found bytes) ∙ ap (option_map (λ i. drop i bytes)) (sym chosen) in
+    record {
+      left = t.others;
+      read = subst (λ (list : List ℕ). BeginsWithElements d list t.others) more t.more;
+      value = cond has (Some t.value) h.value;
+      here = subst (λ (o : Option (List ℕ)). IsKept d o (cond has (Some t.value) h.value)) kept here;
+      last = ap (λ (x : Bool). last_of key (cond x (Some t.value) h.value) t.others) same ∙ ap (last_of key h.value) (sym t.pairs) ∙ h.last;
+    }
+
+pair_value : (k l : List ℕ) (v w : Value) (ps qs : Pairs) → pair k v ps ≡ pair l w qs → v ≡ w
+pair_value k l v w ps qs e = cc
+
+first_found : (d : ℕ) (o : Option Value) (r : Option RawElement) (k : List ℕ) (v : Value) (ps : Pairs) → o ≡ Some v
+    → IsFirst d r (pair k v ps) → IsFound d r o
+first_found d o None k v ps is h = absurd cc
+first_found d o (Some e) k v ps is h =
+    let same : v ≡ h.value = pair_value k e.key.now v h.value ps h.others h.pairs in (h.value, is ∙ ap Some same, h.read)
+
+kept_first : (d : ℕ) (o : Option Value) (bytes : List ℕ) (r : Option RawElement) → IsKept d (Some bytes) o
+    → ((ps : Pairs) → BeginsWithElements d bytes ps → IsFirst d r ps) → IsFound d r o
+kept_first d o bytes r h first = first_found d o r h.0 h.1 h.2 h.3 (first (pair h.0 h.1 h.2) h.4)
+
+pub kept_found : (d : ℕ) (o : Option Value) (bytes : List ℕ) (found : Option ℕ) (at : ℕ) (r : Option RawElement) → found ≡ Some at
+    → at ≤ length bytes → IsKept d (option_map (λ i. drop i bytes) found) o
+    → ((ps : Pairs) → BeginsWithElements d (take (length bytes - at) (drop at bytes)) ps → IsFirst d r ps) → IsFound d r o
+kept_found d o bytes found at r is le kept first =
+    kept_first d o (drop at bytes) r (subst (λ (x : Option ℕ). IsKept d (option_map (λ i. drop i bytes) x) o) is kept)
+    (subst (λ (list : List ℕ). (ps : Pairs) → BeginsWithElements d list ps → IsFirst d r ps) (sliced bytes at le) first)
+
+-- ---- a validated document
+
+pub got_none : (d : ℕ) (bytes name key : List ℕ) → is_ok (document_at d bytes) ≡ true → name ≡ key
+    → ((e : ℕ) (ps : Pairs) → BeginsWithDocument e bytes ps → (1 ≤ e) × (get name (one_each ps) ≡ None))
+    → get key (one_each (pairs_read (document_at d bytes))) ≡ None
+got_none d bytes name key read same h =
+    ap (λ (k : List ℕ). get k (one_each (pairs_read (document_at d bytes)))) (sym same)
+    ∙ (h d (pairs_read (document_at d bytes)) (document_there d bytes read)).1
+
+-- the value of the key, at its bytes
+pub record Got (d : ℕ) (e : RawElement) (total : Option Value) : Type 0 where
+  pub deep : 1 ≤ d
+  pub value : Value
+  pub is : total ≡ Some value
+  pub read : HasValue (d - 1) e value
+
+pub got : (d : ℕ) (bytes name key : List ℕ) → is_ok (document_at d bytes) ≡ true → name ≡ key → (x : RawElement)
+    → ((e : ℕ) (ps : Pairs) → BeginsWithDocument e bytes ps → (1 ≤ e) × IsFound (e - 1) (Some x) (get name (one_each ps)))
+    → Got d x (get key (one_each (pairs_read (document_at d bytes))))
+got d bytes name key read same x h =
+    let ps = pairs_read (document_at d bytes) in
+    let f = h d ps (document_there d bytes read) in
+    record {
+      deep = f.0;
+      value = f.1.0;
+      is = ap (λ (k : List ℕ). get k (one_each ps)) (sym same) ∙ f.1.1;
+      read = f.1.2;
+    }
+
+-- what is read again is the same value
+pub read_same : (d : ℕ) (e : RawElement) (v w : Value) → HasValue d e v
+    → value_read (value_with Replace (document_in Replace d) e.kind e.value.now) ≡ Ok w → v ≡ w
+read_same d e v w h g = ok_is v w (sym (ap value_read h) ∙ g)
+
+pub same_value : {d : ℕ} {e : RawElement} {total : Option Value} → Got d e total → (w : Value)
+    → value_read (value_with Replace (document_in Replace (d - 1)) e.kind e.value.now) ≡ Ok w → Some w ≡ total
+same_value {d} {e} g w h = ap Some (sym (read_same (d - 1) e g.value w g.read h)) ∙ sym g.is
 
 -- ---- a whole document
 

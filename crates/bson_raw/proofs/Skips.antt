@@ -113,7 +113,7 @@ size_follows bytes n rest e =
     let n-is : first ≡ n = first_is first (drop 4 bytes) n rest g.1 in
     (rw g.0 (ap Some n-is), number_follows w32 bytes n rest read)
 
-sized_follows : (n more : ℕ) (bytes rest : List ℕ) → length_at bytes ≡ Some n → Follows (n + more) bytes rest
+pub sized_follows : (n more : ℕ) (bytes rest : List ℕ) → length_at bytes ≡ Some n → Follows (n + more) bytes rest
     → skip_sized more bytes ≡ Some rest
 sized_follows n more bytes rest e h = ap (option_and_then (λ n. skip (n + more) bytes)) e ∙ skip_follows (n + more) bytes rest h
 
@@ -127,24 +127,30 @@ pub ahead_then : (n : ℕ) (a b c : List ℕ) → Follows n a b → Ahead b c �
 ahead_then n a b c h g = (n + g.0, follows_then n g.0 a b c h g.1)
 
 split_more : (b : ℕ) (bytes k rest : List ℕ) (o : Option (List ℕ × List ℕ))
-    → ((j r : List ℕ) → o ≡ Some (j, r) → Ahead bytes r) → option_map (behind b) o ≡ Some (k, rest) → Ahead (b ∷ bytes) rest
+    → ((j r : List ℕ) → o ≡ Some (j, r) → Follows (length j + 1) bytes r) → option_map (behind b) o ≡ Some (k, rest)
+    → Follows (length k + 1) (b ∷ bytes) rest
 split_more b bytes k rest None f e = absurd cc
 split_more b bytes k rest (Some p) f e =
     let same : ◌≡◌ {A = List ℕ × List ℕ} (b ∷ p.0, p.1) (k, rest) = cc in
-    subst (λ (q : List ℕ × List ℕ). Ahead (b ∷ bytes) q.1) same
-    (ahead_then 1 (b ∷ bytes) bytes p.1 (refl, omega arith) (f p.0 p.1 refl))
+    subst (λ (q : List ℕ × List ℕ). Follows (length q.0 + 1) (b ∷ bytes) q.1) same
+    (subst (λ (n : ℕ). Follows n (b ∷ bytes) p.1) (omega arith)
+    (follows_then 1 (length p.0 + 1) (b ∷ bytes) bytes p.1 (refl, omega arith) (f p.0 p.1 refl)))
 
 split_if : (z : Bool) (b : ℕ) (bytes k rest : List ℕ)
-    → ((j r : List ℕ) → split_zero bytes ≡ Some (j, r) → Ahead bytes r)
-    → cond z (Some ([], bytes)) (option_map (behind b) (split_zero bytes)) ≡ Some (k, rest) → Ahead (b ∷ bytes) rest
+    → ((j r : List ℕ) → split_zero bytes ≡ Some (j, r) → Follows (length j + 1) bytes r)
+    → cond z (Some ([], bytes)) (option_map (behind b) (split_zero bytes)) ≡ Some (k, rest) → Follows (length k + 1) (b ∷ bytes) rest
 split_if true b bytes k rest f e =
     let same : ◌≡◌ {A = List ℕ × List ℕ} ([], bytes) (k, rest) = cc in
-    (1, (sym (ap (λ (p : List ℕ × List ℕ). p.1) same), omega arith))
+    subst (λ (q : List ℕ × List ℕ). Follows (length q.0 + 1) (b ∷ bytes) q.1) same (refl, omega arith)
 split_if false b bytes k rest f e = split_more b bytes k rest (split_zero bytes) f e
 
-split_ahead : (bytes k rest : List ℕ) → split_zero bytes ≡ Some (k, rest) → Ahead bytes rest
-split_ahead [] k rest e = absurd cc
-split_ahead (b ∷ bytes) k rest e = split_if (eqb b 0) b bytes k rest (λ j r h. split_ahead bytes j r h) e
+-- the bytes after the 0 that ends a name
+pub split_follows : (bytes k rest : List ℕ) → split_zero bytes ≡ Some (k, rest) → Follows (length k + 1) bytes rest
+split_follows [] k rest e = absurd cc
+split_follows (b ∷ bytes) k rest e = split_if (eqb b 0) b bytes k rest (λ j r h. split_follows bytes j r h) e
+
+pub split_ahead : (bytes k rest : List ℕ) → split_zero bytes ≡ Some (k, rest) → Ahead bytes rest
+split_ahead bytes k rest e = (length k + 1, split_follows bytes k rest e)
 
 -- a name is the bytes before the first 0, and UTF-8
 pub name_split : (bytes k rest : List ℕ) → name_at bytes ≡ Ok (k, rest)
@@ -175,10 +181,8 @@ fixed_skips : (n : ℕ) (bytes rest : List ℕ) → Follows n bytes rest → (sk
 fixed_skips n bytes rest h = (skip_follows n bytes rest h, (n, h))
 
 none_skips : (bytes rest : List ℕ) (v w : Value) → done {A = Value × List ℕ} (v, bytes) ≡ done (w, rest)
-    → (◌≡◌ {A = Option (List ℕ)} (Some bytes) (Some rest)) × Ahead bytes rest
-none_skips bytes rest v w e =
-    let same = rest_is v bytes w rest e in
-    (ap Some same, (0, (sym same, omega arith)))
+    → (skip 0 bytes ≡ Some rest) × Ahead bytes rest
+none_skips bytes rest v w e = fixed_skips 0 bytes rest (sym (rest_is v bytes w rest e), omega arith)
 
 one_less : (n : ℕ) → (n ≡ 0 → ⊥) → 4 + (n - 1 + 1) ≡ n + 4
 one_less zero h = absurd (h refl)

@@ -1,11 +1,9 @@
 -- What is read in the bytes of a document.
 use Rattle.std.specs.Prelude.{◌≡◌, ℕ, List, length, Option, None, Some, Result, Ok, Err, cond}
 use Rattle.std.specs.Str.{bytes_eq}
-use Rattle.std.specs.Borrow.{Bor}
-use Rattle.bson_types.specs.declared.spec.ElementType.{ElementType}
 use Rattle.bson_model.specs.Value.{Value, Pairs, no_pairs, pair}
 use Rattle.bson_bytes.specs.Fault.{◌>>=◌}
-use Rattle.bson_bytes.specs.Reading.{list_at, value_with, document_in}
+use Rattle.bson_bytes.specs.Reading.{list_at, value_with, document_in, document_at}
 use Rattle.bson_bytes.specs.declared.fault.Fault.{Fault}
 use Rattle.bson_bytes.specs.declared.keys.DuplicateKeys.TheVariants.{Replace}
 
@@ -27,11 +25,10 @@ abbrev pub last_of : List ℕ → Option Value → Pairs → Option Value
 last_of k o no_pairs = o
 last_of k o (pair l v ps) = last_of k (cond (bytes_eq k l) (Some v) o) ps
 
--- the value is read as one of this type at the front of the bytes
-abbrev pub BeginsWith : ℕ → ElementType → List ℕ → Value → Type 0
-BeginsWith d kind bytes v = (rest : List ℕ) × (value_with Replace (document_in Replace d) kind bytes ≡ Ok (v, rest))
+-- the bytes begin with these elements, and with the byte 0 after them
+abbrev pub BeginsWithElements : ℕ → List ℕ → Pairs → Type 0
+BeginsWithElements d bytes ps = (rest : List ℕ) × (elements_at d bytes ≡ Ok (ps, rest))
 
--- the value's type and the bytes that begin with it, if there is a value
-abbrev pub IsAt : ℕ → Option (ElementType × Bor (List ℕ)) → Option Value → Type 0
-IsAt d None o = o ≡ None
-IsAt d (Some r) o = (v : Value) × (o ≡ Some v) × BeginsWith d r.0 r.1.now v
+-- the bytes begin with a document of these elements, in which a key may occur twice
+abbrev pub BeginsWithDocument : ℕ → List ℕ → Pairs → Type 0
+BeginsWithDocument d bytes ps = (rest : List ℕ) × (document_at d bytes ≡ Ok (ps, rest))

@@ -3,6 +3,7 @@ ghost use Rattle.std.specs.Prelude.{◌≡◌, true};
 ghost use Rattle.std.specs.Result.{is_ok};
 ghost use Rattle.bson_bytes.specs.Reading.{document_at};
 
+use crate::element::document_bytes;
 use bson_bytes::fault::Fault;
 use bson_source::nothing;
 
@@ -44,6 +45,16 @@ impl<'a> RawDocument<'a> {
         match nothing::is_document(bytes, depth) {
             Ok(()) => Ok(RawDocument { bytes, depth }),
             Err(fault) => Err(fault),
+        }
+    }
+
+    /// Returns the bytes of the document alone.
+    pub fn as_bytes(&self) -> &'a [u8]
+        ensures { reads self.now.depth result.now ≡ Ok (contents self.now) }
+    {
+        match document_bytes(self.bytes) {
+            Some(bytes) => bytes,
+            None => unreachable!(),
         }
     }
 }

@@ -1,60 +1,56 @@
 //! The value of a key.
-ghost use Rattle.std.specs.Prelude.{◌≡◌, ◌-◌, if◌then◌else◌, Some, option_map};
+ghost use Rattle.std.specs.Prelude.{◌≡◌, ◌-◌, ◌≤◌, ℕ, length, drop, IfSome, if◌then◌else◌, Option, Some, option_map};
 ghost use Rattle.std.specs.Str.{bytes_eq};
-ghost use Rattle.bson_model.specs.Value.{get};
-ghost use Rattle.bson_raw.specs.Raw.{IsAt};
-ghost use Rattle.bson_raw.specs.Contents.{contents};
-ghost use Rattle.bson_raw.specs.View.{raw_view};
+ghost use Rattle.bson_model.specs.Value.{Pairs, Value, get};
+ghost use Rattle.bson_bytes.specs.Grammar.{one_each};
+ghost use Rattle.bson_raw.specs.Raw.{BeginsWithDocument};
+ghost use Rattle.bson_raw.specs.Elements.{IsFound, IsKept};
 
-use crate::document::RawDocument;
-use crate::read::valid_value_at;
-use crate::skip::{element_at, skip, skip_value};
-use crate::value::RawBsonRef;
-use bson_types::spec::ElementType;
+use crate::element::{RawElement, first_element};
+use crate::skip::passed;
 
-impl<'a> RawDocument<'a> {
-    /// Returns the value of the key, or `None` if the document does not contain the key. If the key is
-    /// duplicated, its last value wins. It passes the other values by their lengths.
-    pub fn get(&self, key: &str) -> Option<RawBsonRef<'a>>
-        ensures { option_map raw_view result ≡ get key.now (contents self.now) }
-    {
-        let (kind, bytes) = self.find(key)?;
-        Some(valid_value_at(kind, bytes, self.depth - 1))
-    }
-
-    // Returns the type of the key's value, and the bytes that begin with the value.
-    fn find(&self, key: &str) -> Option<(ElementType, &'a [u8])>
-        ensures { IsAt (self.now.depth - 1) result (get key.now (contents self.now)) }
-    {
-        let mut found = None;
-        let mut rest = skip(4, self.bytes)?;
-        'elements: loop {
-            let Some((kind, name, value)) = element_at(rest) else {
-                return found;
-            };
-            let Some(next) = skip_value(kind, value) else {
-                unreachable!();
-            };
-            found = later(found, is_key(key, name), (kind, value));
-            rest = next;
-        }
+/// Returns the last element with the key, or `None` if no element has the key. The element is right
+/// if the bytes begin with a document. It passes the other values by their lengths.
+pub fn find<'a>(bytes: &'a [u8], key: &[u8]) -> Option<RawElement<'a>>
+    ensures found { (d : ℕ) (ps : Pairs) → BeginsWithDocument d bytes.now ps
+        → (1 ≤ d) × IsFound (d - 1) result (get key.now (one_each ps)) }
+    ensures value { IfSome result (λ e. length e.rest.now ≤ length e.value.now) }
+{
+    let mut found = None;
+    // The elements follow the length of the document.
+    let mut at = 4;
+    'elements: loop {
+        let Some((name, next)) = passed(bytes, at) else {
+            return element_of(bytes, found);
+        };
+        found = later(found, is_key(key, name), at);
+        at = next;
     }
 }
 
 // Returns whether the name is the key.
-fn is_key(key: &str, name: &[u8]) -> bool
+fn is_key(key: &[u8], name: &[u8]) -> bool
     ensures { result ≡ bytes_eq key.now name.now }
 {
-    key.as_bytes() == name
+    key == name
 }
 
-// Returns the later of the two if it has the key.
-fn later<'a>(
-    found: Option<(ElementType, &'a [u8])>,
-    has_key: bool,
-    value: (ElementType, &'a [u8]),
-) -> Option<(ElementType, &'a [u8])>
-    ensures { result ≡ if has_key then Some value.entry else found.entry }
+// Returns the later place if its element has the key.
+fn later(found: Option<usize>, has_key: bool, at: usize) -> Option<usize>
+    ensures { result ≡ if has_key then Some at else found }
 {
-    if has_key { Some(value) } else { found }
+    if has_key { Some(at) } else { found }
+}
+
+// Returns the element at the place.
+fn element_of(bytes: &[u8], found: Option<usize>) -> Option<RawElement<'_>>
+    requires { IfSome found (λ i. i ≤ length bytes.now) }
+    ensures found { (d : ℕ) (o : Option Value)
+        → IsKept d (option_map (λ i. drop i bytes.now) found) o → IsFound d result o }
+    ensures value { IfSome result (λ e. length e.rest.now ≤ length e.value.now) }
+{
+    match found {
+        Some(at) => first_element(&bytes[at..]),
+        None => None,
+    }
 }

@@ -1,5 +1,5 @@
 //! How a value in its bytes is read.
-ghost use Rattle.std.specs.Prelude.{◌≡◌, true, Ok};
+ghost use Rattle.std.specs.Prelude.{◌≡◌, ℕ, List, true, false, Ok, IfOk, MatchOption};
 ghost use Rattle.std.specs.Result.{is_ok};
 ghost use Rattle.bson_bytes.specs.Fault.{Gives};
 ghost use Rattle.bson_bytes.specs.Reading.{old_binary_at, plain_binary_at, binary_at, boolean_at, regex_at, pointer_at};
@@ -8,7 +8,9 @@ ghost use Rattle.bson_types.specs.declared.spec.ElementType.TheVariants as tag;
 ghost use Rattle.bson_bytes.specs.declared.keys.DuplicateKeys.TheVariants.{Replace};
 ghost use Rattle.bson_source.specs.Leaves.{double_read, date_read, int32_read, int64_read, string_read, symbol_read};
 ghost use Rattle.bson_source.specs.Leaves.{code_read, id_read, decimal_read};
+ghost use Rattle.bson_model.specs.Value.{Value};
 ghost use Rattle.bson_raw.specs.Raw.{value_read};
+ghost use Rattle.bson_raw.specs.Nested.{IsNested, is_nested_type};
 ghost use Rattle.bson_raw.specs.View.{raw_view};
 
 use crate::document::{RawArray, RawDocument};
@@ -215,10 +217,36 @@ fn value_at(kind: ElementType, bytes: &[u8], depth: usize) -> Result<RawBsonRef<
     ensures { Gives raw_view result (value_read (value_with Replace (document_in Replace depth) kind bytes.now)) }
 {
     match kind {
-        ElementType::Double => double_at(bytes),
-        ElementType::String => string_at(bytes),
         ElementType::EmbeddedDocument => Ok(embedded_at(bytes, depth)),
         ElementType::Array => Ok(array_at(bytes, depth)),
+        ElementType::JavaScriptCodeWithScope => scope_at(bytes, depth),
+        _ => read_scalar(kind, bytes),
+    }
+}
+
+/// Returns the value at the front of the bytes, unless it contains a document. The value is right if
+/// the bytes begin with a value of this type.
+pub fn scalar_at(kind: ElementType, bytes: &[u8]) -> Option<RawBsonRef<'_>>
+    ensures { (d : ℕ) (v : Value) (rest : List ℕ)
+        → value_with Replace (document_in Replace d) kind bytes.now ≡ Ok (v, rest)
+        → MatchOption result (IsNested v) (λ r. raw_view r ≡ v) }
+{
+    match read_scalar(kind, bytes) {
+        Ok(value) => Some(value),
+        Err(_) => None,
+    }
+}
+
+// Reads the value at the front of the bytes, unless it contains a document.
+#[tactic(auto, unfolding(bson_bytes::specs::Reading::value_with))]
+fn read_scalar(kind: ElementType, bytes: &[u8]) -> Result<RawBsonRef<'_>, Fault>
+    ensures scalar { (d : ℕ) → is_nested_type kind ≡ false
+        → Gives raw_view result (value_read (value_with Replace (document_in Replace d) kind bytes.now)) }
+    ensures nested { is_nested_type kind ≡ true → IfOk result (λ r. ⊥) }
+{
+    match kind {
+        ElementType::Double => double_at(bytes),
+        ElementType::String => string_at(bytes),
         ElementType::Binary => binary_at(bytes),
         ElementType::Undefined => Ok(RawBsonRef::Undefined),
         ElementType::ObjectId => id_at(bytes),
@@ -229,12 +257,13 @@ fn value_at(kind: ElementType, bytes: &[u8], depth: usize) -> Result<RawBsonRef<
         ElementType::DbPointer => pointer_at(bytes),
         ElementType::JavaScriptCode => code_at(bytes),
         ElementType::Symbol => symbol_at(bytes),
-        ElementType::JavaScriptCodeWithScope => scope_at(bytes, depth),
         ElementType::Int32 => int32_at(bytes),
         ElementType::Timestamp => timestamp_at(bytes),
         ElementType::Int64 => int64_at(bytes),
         ElementType::Decimal128 => decimal_at(bytes),
         ElementType::MaxKey => Ok(RawBsonRef::MaxKey),
         ElementType::MinKey => Ok(RawBsonRef::MinKey),
+        ElementType::EmbeddedDocument | ElementType::Array | ElementType::JavaScriptCodeWithScope =>
+            Err(fault_at(FaultKind::Tag, bytes)),
     }
 }

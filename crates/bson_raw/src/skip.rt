@@ -1,13 +1,66 @@
 //! How a value is passed by its length.
-ghost use Rattle.std.specs.Prelude.{◌≡◌, ◌<◌, ◌^◌, option_map, IfSome};
+ghost use Rattle.std.specs.Prelude.{◌≡◌, ◌+◌, ◌<◌, ◌≤◌, ◌^◌, ℕ, drop, length, option_map, IfSome};
+ghost use Rattle.bson_model.specs.Value.{Pairs};
+ghost use Rattle.bson_types.specs.Tags.{tag_of};
+ghost use Rattle.bson_types.specs.declared.spec.ElementType.{ElementType};
+ghost use Rattle.bson_raw.specs.Raw.{BeginsWithElements};
 ghost use Rattle.bson_raw.specs.Skip.{skip, length_at, skip_sized, skip_name, skip_regex, skip_value, element_at};
+ghost use Rattle.bson_raw.specs.Skip.{size_in, skip_by, IsPassed};
 
 use bson_bytes::parts::{kind_of, split_zero};
 use bson_types::spec::ElementType;
 
-// Returns the bytes after so many, if there are so many.
+// How many bytes a value has.
+#[derive(Clone, Copy)]
+enum Size {
+    // This many.
+    Fixed(u8),
+    // The number in the first four, and this many more.
+    Counted(u8),
+    // Two strings that each end in a 0 byte.
+    Names,
+}
+
+// By the tag of the type. The two types with greater tags have no bytes.
+static SIZES: [Size; 20] = [
+    Size::Fixed(0), // no tag
+    Size::Fixed(8), // Double
+    Size::Counted(4), // String
+    Size::Counted(0), // EmbeddedDocument
+    Size::Counted(0), // Array
+    Size::Counted(5), // Binary
+    Size::Fixed(0), // Undefined
+    Size::Fixed(12), // ObjectId
+    Size::Fixed(1), // Boolean
+    Size::Fixed(8), // DateTime
+    Size::Fixed(0), // Null
+    Size::Names, // RegularExpression
+    Size::Counted(16), // DbPointer
+    Size::Counted(4), // JavaScriptCode
+    Size::Counted(4), // Symbol
+    Size::Counted(0), // JavaScriptCodeWithScope
+    Size::Fixed(4), // Int32
+    Size::Fixed(8), // Timestamp
+    Size::Fixed(8), // Int64
+    Size::Fixed(16), // Decimal128
+];
+
+// Returns the size of a value of the type with this tag. A table needs no jump per type.
+#[inline(always)]
+fn size_of(tag: u8) -> Size
+    ensures { (k : ElementType) → tag_of k ≡ tag → result ≡ size_in k }
+{
+    if tag < 20 {
+        SIZES[tag as usize]
+    } else {
+        Size::Fixed(0)
+    }
+}
+
+// Returns the bytes after the first `count`, if there are that many.
 pub(crate) fn skip(count: usize, bytes: &[u8]) -> Option<&[u8]>
-    ensures { option_map (λ x. x.now) result ≡ skip count bytes.now }
+    ensures given { option_map (λ x. x.now) result ≡ skip count bytes.now }
+    ensures shorter { IfSome result (λ x. length x.now ≤ length bytes.now) }
 {
     if bytes.len() < count {
         return None;
@@ -15,71 +68,91 @@ pub(crate) fn skip(count: usize, bytes: &[u8]) -> Option<&[u8]>
     Some(&bytes[count..])
 }
 
-// Returns the length at the front of the bytes.
-fn length_at(bytes: &[u8]) -> Option<usize>
-    ensures given { result ≡ length_at bytes.now }
+// Returns the length at a place.
+#[inline(always)]
+fn length_at(bytes: &[u8], at: usize) -> Option<usize>
+    requires { at ≤ length bytes.now }
+    ensures given { result ≡ length_at (drop at bytes.now) }
     ensures small { IfSome result (λ n. n < 2 ^ 32) }
 {
+    let bytes = &bytes[at..];
     if bytes.len() < 4 {
         return None;
     }
     Some(u32::from_le_bytes([bytes[0], bytes[1], bytes[2], bytes[3]]) as usize)
 }
 
-// Passes as many bytes as the length at their front says, and `more`.
-fn skip_sized(more: usize, bytes: &[u8]) -> Option<&[u8]>
-    requires { more < 64 }
-    ensures { option_map (λ x. x.now) result ≡ skip_sized more bytes.now }
+// Passes as many bytes as the length at their front says.
+pub(crate) fn skip_sized(bytes: &[u8]) -> Option<&[u8]>
+    ensures given { option_map (λ x. x.now) result ≡ skip_sized 0 bytes.now }
+    ensures shorter { IfSome result (λ x. length x.now ≤ length bytes.now) }
 {
-    skip(length_at(bytes)? + more, bytes)
+    skip(length_at(bytes, 0)?, bytes)
 }
 
 fn skip_name(bytes: &[u8]) -> Option<&[u8]>
-    ensures { option_map (λ x. x.now) result ≡ skip_name bytes.now }
+    ensures given { option_map (λ x. x.now) result ≡ skip_name bytes.now }
+    ensures shorter { IfSome result (λ x. length x.now ≤ length bytes.now) }
 {
     let (_, rest) = split_zero(bytes)?;
     Some(rest)
 }
 
 fn skip_regex(bytes: &[u8]) -> Option<&[u8]>
-    ensures { option_map (λ x. x.now) result ≡ skip_regex bytes.now }
+    ensures given { option_map (λ x. x.now) result ≡ skip_regex bytes.now }
+    ensures shorter { IfSome result (λ x. length x.now ≤ length bytes.now) }
 {
     skip_name(skip_name(bytes)?)
 }
 
-// Returns the bytes after a value of this type, by its length alone.
-pub(crate) fn skip_value(kind: ElementType, bytes: &[u8]) -> Option<&[u8]>
-    ensures { option_map (λ x. x.now) result ≡ skip_value kind bytes.now }
+// Returns the place after a regular expression. It is not inlined, since few values are regular
+// expressions.
+#[inline(never)]
+fn regex_end(bytes: &[u8], at: usize) -> Option<usize>
+    requires { at ≤ length bytes.now }
+    ensures given { option_map (λ i. drop i bytes.now) result ≡ skip_regex (drop at bytes.now) }
+    ensures within { IfSome result (λ i. (at ≤ i) × (i ≤ length bytes.now)) }
 {
-    match kind {
-        ElementType::Double => skip(8, bytes),
-        ElementType::String => skip_sized(4, bytes),
-        ElementType::EmbeddedDocument => skip_sized(0, bytes),
-        ElementType::Array => skip_sized(0, bytes),
-        ElementType::Binary => skip_sized(5, bytes),
-        ElementType::Undefined => Some(bytes),
-        ElementType::ObjectId => skip(12, bytes),
-        ElementType::Boolean => skip(1, bytes),
-        ElementType::DateTime => skip(8, bytes),
-        ElementType::Null => Some(bytes),
-        ElementType::RegularExpression => skip_regex(bytes),
-        ElementType::DbPointer => skip_sized(16, bytes),
-        ElementType::JavaScriptCode => skip_sized(4, bytes),
-        ElementType::Symbol => skip_sized(4, bytes),
-        ElementType::JavaScriptCodeWithScope => skip_sized(0, bytes),
-        ElementType::Int32 => skip(4, bytes),
-        ElementType::Timestamp => skip(8, bytes),
-        ElementType::Int64 => skip(8, bytes),
-        ElementType::Decimal128 => skip(16, bytes),
-        ElementType::MaxKey => Some(bytes),
-        ElementType::MinKey => Some(bytes),
+    match skip_regex(&bytes[at..]) {
+        Some(rest) => Some(bytes.len() - rest.len()),
+        None => None,
     }
+}
+
+// Returns the place after a value of this size.
+#[inline(always)]
+fn value_end(size: Size, bytes: &[u8], at: usize) -> Option<usize>
+    requires { at ≤ length bytes.now }
+    ensures given { option_map (λ i. drop i bytes.now) result ≡ skip_by size (drop at bytes.now) }
+    ensures within { IfSome result (λ i. (at ≤ i) × (i ≤ length bytes.now)) }
+{
+    let count = match size {
+        Size::Fixed(count) => count as usize,
+        Size::Counted(more) => length_at(bytes, at)? + more as usize,
+        Size::Names => return regex_end(bytes, at),
+    };
+    if bytes.len() - at < count {
+        return None;
+    }
+    Some(at + count)
+}
+
+// Returns the bytes after a value of this type, by its length alone.
+#[inline(always)]
+pub(crate) fn skip_value(kind: ElementType, bytes: &[u8]) -> Option<&[u8]>
+    ensures given { option_map (λ x. x.now) result ≡ skip_value kind bytes.now }
+    ensures shorter { IfSome result (λ x. length x.now ≤ length bytes.now) }
+{
+    let end = value_end(size_of(kind.tag()), bytes, 0)?;
+    Some(&bytes[end..])
 }
 
 // Returns the type of the element at the front, its name, and the bytes that begin with its value, or
 // `None` at the end of the elements.
+#[inline(always)]
 pub(crate) fn element_at(bytes: &[u8]) -> Option<(ElementType, &[u8], &[u8])>
-    ensures { option_map (λ x. (x.0, x.1.now, x.2.now)) result ≡ element_at bytes.now }
+    ensures given { option_map (λ x. (x.0, x.1.now, x.2.now)) result ≡ element_at bytes.now }
+    ensures shorter { IfSome result (λ x. length x.2.now < length bytes.now) }
 {
     match bytes {
         [] => None,
@@ -89,4 +162,28 @@ pub(crate) fn element_at(bytes: &[u8]) -> Option<(ElementType, &[u8], &[u8])>
             Some((kind, name, value))
         }
     }
+}
+
+// Returns the name of the element at a place, and the place after its value, or `None` at the end of
+// the elements. Places need fewer instructions than slices.
+#[inline(always)]
+pub(crate) fn passed(bytes: &[u8], at: usize) -> Option<(&[u8], usize)>
+    ensures given { (d : ℕ) (ps : Pairs) → BeginsWithElements d (drop at bytes.now) ps
+        → IsPassed ps (drop at bytes.now) (option_map (λ x. (x.0.now, drop x.1 bytes.now)) result) }
+    ensures within { IfSome result (λ x. (at < x.1) × (x.1 ≤ length bytes.now)) }
+{
+    if bytes.len() <= at {
+        return None;
+    }
+    let tag = bytes[at];
+    if tag == 0 {
+        return None;
+    }
+    let Some((name, _)) = split_zero(&bytes[at + 1..]) else {
+        return None;
+    };
+    let Some(end) = value_end(size_of(tag), bytes, at + name.len() + 2) else {
+        return None;
+    };
+    Some((name, end))
 }

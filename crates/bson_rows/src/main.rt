@@ -21,6 +21,7 @@ mod fnv;
 mod getters;
 mod held;
 mod ids;
+mod json_texts;
 mod kinds;
 mod ordered;
 mod row;

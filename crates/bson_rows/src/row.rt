@@ -4,7 +4,7 @@ use crate::stop::Outcome;
 use crate::words::cut;
 use crate::{
     binaries, bytes, conversions, dates, decimals, documents, doubles, errors, extended_json,
-    finite, getters, ids, kinds, ordered, small_kinds, stores, tables, texts, vectors,
+    finite, getters, ids, json_texts, kinds, ordered, small_kinds, stores, tables, texts, vectors,
 };
 use std::alloc::Global;
 
@@ -44,6 +44,7 @@ fn called(alloc: Global, row: &str, out: &mut Answer) -> Outcome {
         "decimal" => decimals::call(rest, out),
         "double" => doubles::call(rest, out),
         "id" => ids::call(alloc, rest, out),
+        "json" => json_texts::call(alloc, rest, out),
         "uuid" => binaries::uuid_call(alloc, rest, out),
         "binary" => binaries::call(alloc, rest, out),
         "bytes" => bytes::call(alloc, rest, out),

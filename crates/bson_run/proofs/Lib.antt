@@ -4,9 +4,10 @@ mod Explaining
 mod Indenting
 pub mod LinesLaws
 pub mod LinesRuns
+pub mod Offered
 mod OneOutcome
 mod OneOutput
-mod OneRead
+pub mod OneRead
 mod OneText
 mod Ordered
 mod Parts

@@ -55,7 +55,7 @@ mutual
       let ds = members_read ms (put k d.0 found) h.1 in
       (ds.0, ap (option_and_then (λ x. of_members ms (put k x found))) d.1 ∙ ds.1)
 
-is_read : (text written : List ℕ) → IsArrangedText FirstPlaces text written → (d : Data) × (read text ≡ Some d)
+pub is_read : (text written : List ℕ) → IsArrangedText FirstPlaces text written → (d : Data) × (read text ≡ Some d)
 is_read text written is =
     let d = tree_read is.tree is.numbers in
     (d.0, ap (option_and_then of_json) is.is_tree ∙ d.1)

@@ -31,7 +31,8 @@ rules_told : (words_broken rule.Utf8 ≡ codes "bytes that are no UTF-8")
     × (words_broken rule.Depth ≡ codes "it nests deeper than 127")
     × (words_broken rule.MoreBehind ≡ codes "more stands behind the value")
     × (words_broken rule.OutOfRange ≡ codes "a number is out of range")
-rules_told = (refl, refl, refl, refl, refl, refl, refl, refl, refl, refl, refl, refl, refl)
+    × (words_broken rule.RewrittenDepth ≡ codes "the rewritten text nests deeper than 127 levels")
+rules_told = (refl, refl, refl, refl, refl, refl, refl, refl, refl, refl, refl, refl, refl, refl)
 
 -- ---- characters as they are told
 

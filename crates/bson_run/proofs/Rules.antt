@@ -1,12 +1,14 @@
 -- Which rule bytes break that are no text.
-use Rattle.std.proofs.Common.{◌≡◌, ◌≢◌, ◌+◌, ◌<◌, ◌++◌, ℕ, List, [], ◌∷◌, None, IsUtf8, refl, sym, ap, ◌∙◌}
-use Rattle.std.proofs.Common.{inl, inr, arith, append_assoc, sum_by, subst}
+use Rattle.std.proofs.Common.{◌≡◌, ◌≢◌, ◌+◌, ◌<◌, ◌++◌, ℕ, List, [], ◌∷◌, None, Option, Some, IsUtf8, refl, sym, ap, ◌∙◌}
+use Rattle.std.proofs.Common.{inl, inr, arith, append_assoc, option_and_then, option_map, sum_by, subst}
 use Rattle.std.proofs.lemmas.List.Sums.{sum_by_push}
-use Rattle.json.specs.Json.{skip_value, value}
+use Rattle.json.specs.Json.{Json, if_last, skip_value, value}
 use Rattle.json.specs.Lex.{tokens}
 use Rattle.json.specs.Token.{Token, bad}
-use Rattle.serde_json.specs.Read.{max_depth}
-use Rattle.bson_run.specs.Place.{Breaks, HasMoreBehind, IsOfBad, IsOfToken, IsOfValue, NestsDeeper, HasBad}
+use Rattle.serde_json.specs.Data.{Data}
+use Rattle.serde_json.specs.Read.{max_depth, of_json}
+use Rattle.bson_run.specs.Place.{Breaks, HasGrammar, HasMoreBehind, HasTree, IsOfBad, IsOfToken, IsOfValue, NestsDeeper}
+use Rattle.bson_run.specs.Place.{HasBad}
 use Rattle.bson_run.specs.Place.{closes, opens}
 use Rattle.bson_run.specs.declared.rule.Rule.{Rule}
 use Rattle.bson_run.specs.declared.rule.Rule.TheVariants.{EndsEarly, MoreBehind}
@@ -24,12 +26,24 @@ has_one : (front : List Token) (t : Token) (rest : List Token) → ¬ (front ++ 
 has_one [] t rest e = absurd cc
 has_one (x ∷ xs) t rest e = absurd cc
 
+-- ---- a text that has the grammar
+
+all_read : (v : Option (Json × List Token)) (t : Data)
+    → option_and_then of_json (option_and_then (λ p. if_last p.0 p.1) v) ≡ Some t → option_map (λ p. p.1) v ≡ Some []
+all_read None t e = absurd cc
+all_read (Some (j, [])) t e = refl
+all_read (Some (j, x ∷ xs)) t e = absurd cc
+
+has_grammar : (bytes : List ℕ) → HasTree bytes → HasGrammar bytes
+has_grammar bytes (t, is) = (is.utf8, all_read (value max_depth (tokens bytes)) t is.tree_read)
+
 -- ---- more behind a value
 
 pub more_behind : (bytes : List ℕ) → HasMoreBehind bytes → Breaks bytes MoreBehind
 more_behind bytes m = record {
   utf8 = (λ e. absurd cc, λ n. absurd (n m.0));
-  number = (λ e. absurd cc, λ g. let one = g.1 in let other = m.1.2 in absurd cc);
+  number = (λ e. absurd cc, λ g. let one = g.0.1 in let other = m.1.2 in absurd cc);
+  rewritten = (λ e. absurd cc, λ h. let one = (has_grammar bytes h).1 in let other = m.1.2 in absurd cc);
   more = (λ e. m, λ x. refl);
   blank = λ u e. let one = m.1.2 in let none = of_none bytes e in absurd cc;
   depth = λ e. absurd cc;
@@ -43,7 +57,8 @@ module _ (bytes : List ℕ) (u : IsUtf8 bytes) (none : skip_value max_depth (tok
       → (rule ≡ Depth → NestsDeeper (tokens bytes)) → (IsOfBad rule → HasBad (tokens bytes)) → Breaks bytes rule
   of_value rule other blank depth no_token = record {
     utf8 = (λ e. absurd (other.0 e), λ n. absurd (n u));
-    number = (λ e. absurd (other.1 e), λ g. let one = g.1 in absurd cc);
+    number = (λ e. absurd (other.1 e), λ g. let one = g.0.1 in absurd cc);
+    rewritten = (λ e. absurd (other.3 e), λ h. let one = (has_grammar bytes h).1 in absurd cc);
     more = (λ e. absurd (other.2 e), λ m. let one = m.1.2 in absurd cc);
     blank = λ x e. blank e;
     depth = depth;
@@ -51,7 +66,7 @@ module _ (bytes : List ℕ) (u : IsUtf8 bytes) (none : skip_value max_depth (tok
   }
 
   pub at_end : Breaks bytes EndsEarly
-  at_end = of_value EndsEarly (λ e. absurd cc, λ e. absurd cc, λ e. absurd cc) (λ e. refl) (λ e. absurd cc) (λ h. absurd h)
+  at_end = of_value EndsEarly (λ e. absurd cc, λ e. absurd cc, λ e. absurd cc, λ e. absurd cc) (λ e. refl) (λ e. absurd cc) (λ h. absurd h)
 
   pub at_bad : (rule : Rule) (front rest : List Token) → tokens bytes ≡ front ++ bad ∷ rest
       → IsOfValue rule × (rule ≢ Depth) → Breaks bytes rule
@@ -71,11 +86,11 @@ module _ (bytes : List ℕ) (u : IsUtf8 bytes) (none : skip_value max_depth (tok
   pub at_token : (rule : Rule) (depth : ℕ) (t : Token) (front rest : List Token) → tokens bytes ≡ front ++ t ∷ rest
       → depth + sum_by closes front ≡ sum_by opens front → IsOfToken depth t rule → Breaks bytes rule
   at_token rule depth t front rest e count (inl is) = subst (λ r. Breaks bytes r) (sym is)
-      (of_value Quotes (λ f. absurd cc, λ f. absurd cc, λ f. absurd cc) (λ n. absurd (has_one front t rest (sym e ∙ n))) (λ f. absurd cc) (λ h. absurd h))
+      (of_value Quotes (λ f. absurd cc, λ f. absurd cc, λ f. absurd cc, λ f. absurd cc) (λ n. absurd (has_one front t rest (sym e ∙ n))) (λ f. absurd cc) (λ h. absurd h))
   at_token rule depth t front rest e count (inr (inl is)) = subst (λ r. Breaks bytes r) (sym is)
-      (of_value Separator (λ f. absurd cc, λ f. absurd cc, λ f. absurd cc) (λ n. absurd (has_one front t rest (sym e ∙ n))) (λ f. absurd cc) (λ h. absurd h))
+      (of_value Separator (λ f. absurd cc, λ f. absurd cc, λ f. absurd cc, λ f. absurd cc) (λ n. absurd (has_one front t rest (sym e ∙ n))) (λ f. absurd cc) (λ h. absurd h))
   at_token rule depth t front rest e count (inr (inr (inl is))) = subst (λ r. Breaks bytes r) (sym is)
-      (of_value BehindKey (λ f. absurd cc, λ f. absurd cc, λ f. absurd cc) (λ n. absurd (has_one front t rest (sym e ∙ n))) (λ f. absurd cc) (λ h. absurd h))
+      (of_value BehindKey (λ f. absurd cc, λ f. absurd cc, λ f. absurd cc, λ f. absurd cc) (λ n. absurd (has_one front t rest (sym e ∙ n))) (λ f. absurd cc) (λ h. absurd h))
   at_token rule depth t front rest e count (inr (inr (inr h))) = subst (λ r. Breaks bytes r) (sym h.0)
-      (of_value Depth (λ f. absurd cc, λ f. absurd cc, λ f. absurd cc) (λ n. absurd (has_one front t rest (sym e ∙ n)))
+      (of_value Depth (λ f. absurd cc, λ f. absurd cc, λ f. absurd cc, λ f. absurd cc) (λ n. absurd (has_one front t rest (sym e ∙ n)))
       (λ f. deeper depth t front rest e count h.1 h.2) (λ x. absurd x))

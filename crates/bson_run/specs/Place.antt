@@ -9,7 +9,9 @@ use Rattle.std.specs.Str.{chars}
 use Rattle.json.specs.Json.{skip_value}
 use Rattle.json.specs.Lex.{tokens}
 use Rattle.json.specs.Token.{Token, begin_object, end_object, begin_array, end_array, bad}
+use Rattle.serde_json.specs.Data.{Data}
 use Rattle.serde_json.specs.Read.{max_depth}
+use Rattle.bson.specs.TextMeaning.{IsNoText, IsTextOf}
 use Rattle.bson_place.specs.Place.{dotted, path_of}
 use Rattle.bson_place.specs.declared.place.Place.{Place}
 use Rattle.bson_place.specs.declared.place.Reason.{Reason}
@@ -19,7 +21,7 @@ use Rattle.bson_convert.specs.declared.error.Error.TheVariants.{NotJson, NotExte
 use Rattle.bson_run.specs.declared.rule.Rule.{Rule}
 use Rattle.bson_run.specs.declared.rule.Rule.TheVariants.{Utf8, EndsEarly, MoreBehind, OutOfRange}
 use Rattle.bson_run.specs.declared.rule.Rule.TheVariants.{NoValue, Number, ControlCharacter, Escape, BehindComma}
-use Rattle.bson_run.specs.declared.rule.Rule.TheVariants.{Quotes, Separator, BehindKey, Depth}
+use Rattle.bson_run.specs.declared.rule.Rule.TheVariants.{Quotes, Separator, BehindKey, Depth, RewrittenDepth}
 use Rattle.bson_run.specs.Words.{words_broken}
 
 -- a path that has no word is left out
@@ -75,6 +77,10 @@ IsPlaced text place words =
 abbrev pub HasGrammar : List ℕ → Type 0
 HasGrammar bytes = IsUtf8 bytes × (skip_value max_depth (tokens bytes) ≡ Some [])
 
+-- the bytes are the text of a tree: they have the grammar, and each number is in range
+abbrev pub HasTree : List ℕ → Type 0
+HasTree bytes = (t : Data) × IsTextOf bytes t
+
 -- one value stands at the beginning of a text, and more behind it
 abbrev pub HasMoreBehind : List ℕ → Type 0
 HasMoreBehind bytes =
@@ -111,10 +117,12 @@ IsOfBad BehindComma = Unit {0}
 IsOfBad rule = ⊥
 
 -- which rule bytes break that are no text: three are told exactly where they are broken; of a text of blanks it is told
--- that it ends too early; that it nests too deep, and of what is no token, where there is such a place
+-- that it ends too early; that it nests too deep, and of what is no token, where there is such a place. Of bytes that are
+-- a text, and of no others, it is told that the text which is read in their place nests too deep
 pub record Breaks (bytes : List ℕ) (rule : Rule) : Type 0 where
   pub utf8 : rule ≡ Utf8 ↔ ¬ (IsUtf8 bytes)
-  pub number : rule ≡ OutOfRange ↔ HasGrammar bytes
+  pub number : rule ≡ OutOfRange ↔ HasGrammar bytes × IsNoText bytes
+  pub rewritten : rule ≡ RewrittenDepth ↔ HasTree bytes
   pub more : rule ≡ MoreBehind ↔ HasMoreBehind bytes
   pub blank : IsUtf8 bytes → tokens bytes ≡ [] → rule ≡ EndsEarly
   pub depth : rule ≡ Depth → NestsDeeper (tokens bytes)
@@ -149,7 +157,7 @@ IsWhere text other words = words ≡ []
 
 -- a rule that a text breaks which is UTF-8 and begins with no value
 abbrev pub IsOfValue : Rule → Type 0
-IsOfValue rule = (rule ≢ Utf8) × (rule ≢ OutOfRange) × (rule ≢ MoreBehind)
+IsOfValue rule = (rule ≢ Utf8) × (rule ≢ OutOfRange) × (rule ≢ MoreBehind) × (rule ≢ RewrittenDepth)
 
 -- one that a token breaks where it stands, so many brackets being open
 abbrev pub IsOfToken : ℕ → Token → Rule → Type 0

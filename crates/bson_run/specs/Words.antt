@@ -36,3 +36,4 @@ words_broken rule.BehindKey = codes "behind a key a colon and a value are wanted
 words_broken rule.Depth = codes "it nests deeper than 127"
 words_broken rule.MoreBehind = codes "more stands behind the value"
 words_broken rule.OutOfRange = codes "a number is out of range"
+words_broken rule.RewrittenDepth = codes "the rewritten text nests deeper than 127 levels"

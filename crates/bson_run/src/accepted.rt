@@ -11,6 +11,7 @@ use bson_convert::converted::{Tried, arrange, refuse, refuse_arranged, try_text}
 use bson_convert::error::Error;
 use bson_convert::mode::Mode;
 use bson_distinct::arrangement::Arrangement;
+use json::Scratch;
 use std::alloc::Global;
 
 /// What a text gives that was accepted: the text itself is no longer needed for it.
@@ -36,10 +37,17 @@ pub enum Accepted {
 }
 
 impl Accepted {
-    /// What bytes give in the mode, or why they are refused, as
-    /// [`convert_with`](bson_convert::convert::convert_with) says. A caller who needs the bytes where
-    /// they are refused need not hold them beside the output. Those that can't be written as they are
-    /// read are looked at for a fault at once, which takes one more walk over their tokens.
+    /// Reads bytes in the mode, as [`convert_with`](bson_convert::convert::convert_with) does. A
+    /// caller who needs rejected bytes need not keep them in memory next to the output.
+    ///
+    /// Bytes that cannot be written as they are read are checked for a fault at once. The check
+    /// needs one more walk over their tokens.
+    ///
+    /// # Errors
+    ///
+    /// - `NotJson`: the bytes are not UTF-8, or `serde_json` reads no tree from them.
+    /// - `NotExtendedJson`: the tree has no meaning. It has the tree's first fault.
+    /// - `OutOfMemory`: an allocation failed.
     pub fn of(alloc: Global, options: Options, mode: Mode, bytes: &[u8]) -> Result<Accepted, Error>
         ensures ok { IfOk result (HasOutput options (ConvertsIn options mode bytes.now)) }
         ensures utf8 { IfOk result IsUtf8Accepted }
@@ -56,6 +64,10 @@ impl Accepted {
 
     /// [`Accepted::of`] in the order of the keys, as
     /// [`convert_in_order`](crate::in_order::convert_in_order) gives it.
+    ///
+    /// # Errors
+    ///
+    /// The errors of [`Accepted::of`].
     ///
     /// ```
     /// let options = Options::default();
@@ -79,7 +91,8 @@ impl Accepted {
         let Ok(text) = simdutf8::compat::from_utf8(bytes) else {
             return Err(Error::NotJson);
         };
-        match filter_once(alloc, options, mode, text)? {
+        let found = filter_once(alloc, options, mode, text, &mut Scratch::new(alloc))?;
+        match found {
             Some(written) => Ok(Accepted::Output(end_line(written)?)),
             None => {
                 refuse(alloc, options, text)?;
@@ -89,7 +102,12 @@ impl Accepted {
         }
     }
 
-    /// The output. Of what was accepted with the same options only memory can be wanting for it.
+    /// Returns the output.
+    ///
+    /// # Errors
+    ///
+    /// - `OutOfMemory`: an allocation failed. No other error is possible with the options with
+    ///   which the bytes were accepted.
     pub fn output(self, alloc: Global, options: Options) -> Result<Vec<u8>, Error>
         ensures ok { IfOk result (λ output. Outputs options self output.items) }
         ensures utf8 { IsUtf8Accepted self → IfOk result (λ output. IsUtf8 output.items) }

@@ -21,14 +21,19 @@ use bson_convert::error::Error;
 use bson_convert::no_bytes::NoBytes;
 use bson_filter::stop::Stop;
 use bson_pack::pack::pack_text;
+use json::Scratch;
 use std::alloc::Global;
 
-/// The canonical bytes of the document that the text means, its keys in ascending order at every
-/// depth, as [`convert_with`](bson_convert::convert::convert_with) has them.
+/// Returns the canonical bytes of the document that the text means, its keys in ascending order at
+/// every depth, as [`convert_with`](bson_convert::convert::convert_with) has them.
 ///
-/// A text that means nothing is refused as there. One that means another value than a document, or
-/// a document that has no bytes, is refused as `NoBytes` for the first of its parts, in the order of
-/// writing, that has none.
+/// # Errors
+///
+/// - `NotJson`: the bytes are not UTF-8, or `serde_json` reads no tree from them.
+/// - `NotExtendedJson`: the tree has no meaning. It has the tree's first fault.
+/// - `NoBytes`: the text means another value than a document, or a part of the document has no
+///   bytes. It is that of the first of these parts, in the order of writing.
+/// - `OutOfMemory`: an allocation failed.
 ///
 /// ```
 /// if let Ok(bytes) = encode_with(alloc, Options::default(), br#"{"n": 5, "a": 2}"#) {
@@ -50,8 +55,12 @@ pub fn encode_with(alloc: Global, options: Options, bytes: &[u8]) -> Result<Vec<
     }
 }
 
-/// [`encode_with`] where each document has its keys in the order of the text, at every depth. Of a
-/// key that stands twice the last value counts, at the place of the first.
+/// Returns the bytes of [`encode_with`], but each document has its keys in the order of the text,
+/// at every depth. If a key is duplicated, its last value wins, at its first position.
+///
+/// # Errors
+///
+/// The errors of [`encode_with`].
 ///
 /// ```
 /// if let Ok(bytes) = encode_in_order(alloc, Options::default(), br#"{"n": 5, "a": 2}"#) {
@@ -68,21 +77,44 @@ pub fn encode_in_order(alloc: Global, options: Options, bytes: &[u8]) -> Result<
         → IfErr result (λ fault. fault ≡ Error.OutOfMemory) }
     ensures fault { IfErr result (λ fault. IsUnencodedInOrder options fault bytes.now) }
 {
-    match pack_document(alloc, options, bytes)? {
+    encode_line_in_order(alloc, options, bytes, &mut Scratch::new(alloc))
+}
+
+/// [`encode_in_order`] with the memory of a run.
+pub(crate) fn encode_line_in_order(
+    alloc: Global,
+    options: Options,
+    bytes: &[u8],
+    scratch: &mut Scratch,
+) -> Result<Vec<u8>, Error>
+    ensures ok { IfOk result (λ out. EncodesInOrder options bytes.now out.items) }
+    ensures one { IfOk result (λ out. (other : List ℕ) → EncodesInOrder options bytes.now other
+        → other ≡ out.items) }
+    ensures accepts { (tree : Data) (ps : Pairs) → IsUtf8 bytes.now → read_kept bytes.now ≡ Some tree
+        → MeansInOrder options.doubles tree (document ps) → FitsDocument ps
+        → IfErr result (λ fault. fault ≡ Error.OutOfMemory) }
+    ensures fault { IfErr result (λ fault. IsUnencodedInOrder options fault bytes.now) }
+{
+    match pack_document(alloc, options, bytes, scratch)? {
         Some(document) => Ok(document),
         None => encode_whole(alloc, options, bytes),
     }
 }
 
 // The bytes that are written as the text is read; none where it is to be read whole.
-fn pack_document(alloc: Global, options: Options, bytes: &[u8]) -> Result<Option<Vec<u8>>, Error>
+fn pack_document(
+    alloc: Global,
+    options: Options,
+    bytes: &[u8],
+    scratch: &mut Scratch,
+) -> Result<Option<Vec<u8>>, Error>
     ensures ok { IfOk result (λ found. IfSome found (λ out. EncodesInOrder options bytes.now out.items)) }
     ensures fault { IfErr result (λ fault. fault ≡ Error.OutOfMemory) }
 {
     let Ok(text) = simdutf8::compat::from_utf8(bytes) else {
         return Ok(None);
     };
-    match pack_text(alloc, options.doubles, text) {
+    match pack_text(alloc, options.doubles, text, scratch) {
         Ok(document) => Ok(Some(document)),
         Err(Stop::OutOfMemory) => Err(Error::OutOfMemory),
         Err(_) => Ok(None),

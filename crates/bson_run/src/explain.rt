@@ -14,21 +14,25 @@ use std::alloc::{AllocError, Global};
 /// How many characters are told of a path, and of a message.
 const MOST: usize = 300;
 
-/// Where the fault of a refused text lies, to be put behind the words for it; empty for a fault
-/// that no text has.
+/// Returns the place of the fault of a rejected text, in words that follow those of the error. They
+/// are empty for a fault that no text has.
 ///
-/// For `NotJson` it is ` at column N (RULE)`: the column in its line, counted from 1, of the byte at
-/// which the text stops to be JSON, and the words of the `Rule` that it breaks; where it has the
-/// grammar of JSON, those of the first number whose nearest double is not finite. For
-/// `NotExtendedJson` it is ` at orders.3.at.$date (EXPECTED; found VALUE)`: the path to the first
-/// fault, its keys and places in arrays counted from 0, what was expected there, and the value that
-/// stands there in the text, as it is, with `..` behind its first 60 characters where it has more; of
-/// an object id what is wrong with it, and of a key that stands twice this alone. Where the fault is
-/// that of the whole text no path is told.
+/// - `NotJson`: ` at column N (RULE)`. The column, counted from 1, is that of the byte at which the
+///   text stops to be JSON. `RULE` is the message of the `Rule` that it breaks. If the text has the
+///   grammar of JSON, it is the first number whose nearest double is not finite. If the text is
+///   JSON, it is column 1: the rewritten text that is read instead nests deeper than 127.
+/// - `NotExtendedJson`: ` at orders.3.at.$date (EXPECTED; found VALUE)`. The path leads to the
+///   first fault, with places in arrays counted from 0. The value is the one in the text, or its
+///   first 60 characters and `..`. An object id has its own fault instead, and so has a duplicate
+///   key. A fault of the whole text has no path.
 ///
-/// A control character (`\u001b`) and a separator of lines (`\u2028`) or of paragraphs, which could
-/// break a line or steer a terminal, is told by its escape in JSON, and every other character as it
-/// is. Of a path or a message of more than 300 characters these are told, and `..` for the others.
+/// A control character (`\u001b`) and a separator of lines (`\u2028`) or of paragraphs is written
+/// as its escape in JSON. It could break a line or control a terminal. A path or a message has at
+/// most 300 characters, and then `..`.
+///
+/// # Errors
+///
+/// Returns `AllocError` if a request for memory is refused.
 pub fn explain(alloc: Global, fault: &Error, text: &[u8]) -> Result<String, AllocError>
     ensures place { IfOk result (λ words. IsWhere text.now fault.now (string_bytes words)) }
 {

@@ -14,15 +14,16 @@ ghost use Rattle.bson_run.specs.declared.order.Task.{Task};
 ghost use Rattle.bson_run.specs.declared.order.Task.TheVariants.{Taken};
 ghost use Rattle.bson.specs.declared.extjson.options.Options.{Options};
 
-use crate::encode::{encode_in_order, encode_with};
+use crate::encode::{encode_line_in_order, encode_with};
 use crate::explain::explain_under;
-use crate::in_order::convert_in_order;
+use crate::in_order::convert_line_in_order;
 use crate::order::{OnRefusal, Taking, Task, Work};
 use crate::taken::take_as;
 use bson::extjson::Options;
-use bson_convert::convert::convert_with;
+use bson_convert::convert::convert_line;
 use bson_convert::error::Error;
 use bson_convert::mode::Mode;
+use json::Scratch;
 use memchr::memchr;
 use std::alloc::{AllocError, Global};
 
@@ -51,6 +52,8 @@ pub struct Gathered {
     pub told: Vec<u8>,
     pub lines: u64,
     pub refused: u64,
+    /// The memory for reading a line, made once in a run.
+    pub scratch: Scratch,
 }
 
 // Where the first newline stands.
@@ -81,7 +84,12 @@ fn is_blank(text: &[u8]) -> bool
 }
 
 // What is written of the text, or nothing for one that is blank.
-fn judge(alloc: Global, asked: Asked, text: &[u8]) -> Result<Option<Vec<u8>>, Error>
+fn judge(
+    alloc: Global,
+    asked: Asked,
+    text: &[u8],
+    scratch: &mut Scratch,
+) -> Result<Option<Vec<u8>>, Error>
     ensures blank { result ≡ Ok None → IsBlank text.now }
     ensures ok { IfOk result (λ some. IfSome some (λ output. WritesIn asked.options asked.task text.now output.items)) }
     ensures utf8 { WritesText asked.task → IfOk result (λ some. IfSome some (λ output. IsUtf8 output.items)) }
@@ -92,15 +100,19 @@ fn judge(alloc: Global, asked: Asked, text: &[u8]) -> Result<Option<Vec<u8>>, Er
     }
     let options = asked.options;
     match asked.task {
-        Task::Write(mode) => Ok(Some(convert_with(alloc, options, mode, text)?)),
-        Task::WriteInOrder(mode) => Ok(Some(convert_in_order(alloc, options, mode, text)?)),
+        Task::Write(mode) => Ok(Some(convert_line(alloc, options, mode, text, scratch)?)),
+        Task::WriteInOrder(mode) => {
+            Ok(Some(convert_line_in_order(alloc, options, mode, text, scratch)?))
+        }
         Task::Check => {
-            convert_with(alloc, options, Mode::Canonical, text)?;
+            convert_line(alloc, options, Mode::Canonical, text, scratch)?;
             Ok(Some(Vec::new(alloc)))
         }
         Task::Encode => Ok(Some(encode_with(alloc, options, text)?)),
-        Task::EncodeInOrder => Ok(Some(encode_in_order(alloc, options, text)?)),
-        Task::Taken(taking, work) => Ok(Some(judge_taken(alloc, options, taking, work, text)?)),
+        Task::EncodeInOrder => Ok(Some(encode_line_in_order(alloc, options, text, scratch)?)),
+        Task::Taken(taking, work) => {
+            Ok(Some(judge_taken(alloc, options, taking, work, text, scratch)?))
+        }
     }
 }
 
@@ -111,6 +123,7 @@ fn judge_taken(
     taking: Taking,
     work: Work,
     text: &[u8],
+    scratch: &mut Scratch,
 ) -> Result<Vec<u8>, Error>
     requires { ¬ IsBlank text.now }
     ensures ok { IfOk result (λ output. WritesIn options (Taken taking work) text.now output.items) }
@@ -118,21 +131,27 @@ fn judge_taken(
     ensures fault { IfErr result (λ fault. IsJudged options (Taken taking work) fault text.now) }
 {
     match take_as(alloc, taking, text)? {
-        Some(modern) => work_on(alloc, options, work, modern.as_bytes()),
-        None => work_on(alloc, options, work, text),
+        Some(modern) => work_on(alloc, options, work, modern.as_bytes(), scratch),
+        None => work_on(alloc, options, work, text, scratch),
     }
 }
 
-fn work_on(alloc: Global, options: Options, work: Work, text: &[u8]) -> Result<Vec<u8>, Error>
+fn work_on(
+    alloc: Global,
+    options: Options,
+    work: Work,
+    text: &[u8],
+    scratch: &mut Scratch,
+) -> Result<Vec<u8>, Error>
     ensures ok { IfOk result (λ output. WorksIn options work text.now output.items) }
     ensures utf8 { IfOk result (λ output. IsUtf8 output.items) }
     ensures fault { IfErr result (λ fault. IsRefusedIn options fault text.now) }
 {
     match work {
-        Work::Write(mode) => convert_with(alloc, options, mode, text),
-        Work::WriteInOrder(mode) => convert_in_order(alloc, options, mode, text),
+        Work::Write(mode) => convert_line(alloc, options, mode, text, scratch),
+        Work::WriteInOrder(mode) => convert_line_in_order(alloc, options, mode, text, scratch),
         Work::Check => {
-            convert_with(alloc, options, Mode::Canonical, text)?;
+            convert_line(alloc, options, Mode::Canonical, text, scratch)?;
             Ok(Vec::new(alloc))
         }
     }
@@ -181,6 +200,7 @@ impl Gathered {
             told: Vec::new(alloc),
             lines: 0,
             refused: 0,
+            scratch: Scratch::new(alloc),
         }
     }
 
@@ -219,7 +239,8 @@ impl Gathered {
             // A count that no run reaches.
             return Err(Error::CannotRead);
         }
-        match judge(alloc, asked, text(self.lines, &self.line)) {
+        let line = text(self.lines, &self.line);
+        match judge(alloc, asked, line, &mut self.scratch) {
             Ok(None) => {}
             Ok(Some(output)) => self.add(output)?,
             Err(fault) => self.refuse(alloc, asked, fault)?,

@@ -18,12 +18,18 @@ use bson_convert::mode::Mode;
 use bson_distinct::arrangement::Arrangement;
 use bson_filter::filter::{filter_text, show_text_in_order};
 use bson_filter::stop::Stop;
+use json::Scratch;
 use std::alloc::Global;
 
-/// [`convert_with`](bson_convert::convert::convert_with) where each document of the text has its keys in
-/// the order of the text, at every depth. Of a key that stands twice the last value counts, at the
-/// place of the first. With the order forgotten it is what `convert_with` gives, and the same bytes
-/// are refused, for the same fault.
+/// Returns the text of [`convert_with`](bson_convert::convert::convert_with), but each document has
+/// its keys in the order of the text, at every depth.
+///
+/// If a key is duplicated, its last value wins, at its first position. Apart from the order of keys
+/// it is the text of `convert_with`.
+///
+/// # Errors
+///
+/// The errors of `convert_with`, for the same bytes.
 ///
 /// ```
 /// let text = br#"{"find": "orders", "batchSize": {"$numberInt": "10"}}"#;
@@ -46,7 +52,27 @@ pub fn convert_in_order(
         → MeansIn options.doubles tree value → IfErr result (λ fault. fault ≡ Error.OutOfMemory) }
     ensures fault { IfErr result (λ fault. IsRefusedIn options fault bytes.now) }
 {
-    let text = text_in_order(alloc, options, mode, bytes)?;
+    convert_line_in_order(alloc, options, mode, bytes, &mut Scratch::new(alloc))
+}
+
+/// [`convert_in_order`] with the memory of a run.
+pub(crate) fn convert_line_in_order(
+    alloc: Global,
+    options: Options,
+    mode: Mode,
+    bytes: &[u8],
+    scratch: &mut Scratch,
+) -> Result<Vec<u8>, Error>
+    ensures ok { IfOk result (λ output. ConvertsInOrder options mode bytes.now output.items) }
+    ensures utf8 { IfOk result (λ output. IsUtf8 output.items) }
+    ensures again { IfOk result (λ output. IsKeptInOrder options mode output.items) }
+    ensures one { IfOk result (λ output. (other : List ℕ) → ConvertsInOrder options mode bytes.now other
+        → other ≡ output.items) }
+    ensures accepts { (tree : Data) (value : model.Value) → IsTextOf bytes.now tree
+        → MeansIn options.doubles tree value → IfErr result (λ fault. fault ≡ Error.OutOfMemory) }
+    ensures fault { IfErr result (λ fault. IsRefusedIn options fault bytes.now) }
+{
+    let text = text_in_order(alloc, options, mode, bytes, scratch)?;
     end_line(text)
 }
 
@@ -62,7 +88,8 @@ pub(crate) fn convert_whole_in_order(
     ensures accepts { (tree : Data) (value : model.Value) → IsTextOf (string_bytes text) tree
         → MeansIn options.doubles tree value → IfErr result (λ fault. fault ≡ Error.OutOfMemory) }
 {
-    if let Some(written) = filter_once(alloc, options, mode, text.as_str())? {
+    let mut scratch = Scratch::new(alloc);
+    if let Some(written) = filter_once(alloc, options, mode, text.as_str(), &mut scratch)? {
         return end_line(written);
     }
     let arranged = arrange(alloc, Arrangement::FirstPlaces, text.as_str())?;
@@ -77,6 +104,7 @@ pub(crate) fn text_in_order(
     options: Options,
     mode: Mode,
     bytes: &[u8],
+    scratch: &mut Scratch,
 ) -> Result<Vec<u8>, Error>
     ensures ok { IfOk result (λ text. IsConvertedTextInOrder options mode bytes.now text.items) }
     ensures utf8 { IfOk result (λ text. IsUtf8 text.items) }
@@ -87,7 +115,7 @@ pub(crate) fn text_in_order(
     let Ok(text) = simdutf8::compat::from_utf8(bytes) else {
         return Err(Error::NotJson);
     };
-    match filter_once(alloc, options, mode, text)? {
+    match filter_once(alloc, options, mode, text, scratch)? {
         Some(written) => Ok(written),
         None => arranged_text(alloc, options, mode, text),
     }
@@ -116,7 +144,7 @@ fn text_of_distinct(
     ensures utf8 { IfOk result (λ written. IsUtf8 written.items) }
     ensures fault { IfErr result (λ fault. IsRefusedIn options fault text.now) }
 {
-    match filter_once(alloc, options, mode, text)? {
+    match filter_once(alloc, options, mode, text, &mut Scratch::new(alloc))? {
         Some(written) => Ok(written),
         None => {
             refuse(alloc, options, text)?;
@@ -131,13 +159,14 @@ pub(crate) fn filter_once(
     options: Options,
     mode: Mode,
     text: &str,
+    scratch: &mut Scratch,
 ) -> Result<Option<Vec<u8>>, Error>
     ensures ok { IfOk result
         (λ found. IfSome found (λ written. IsConvertedTextInOrder options mode text.now written.items)) }
     ensures utf8 { IfOk result (λ found. IfSome found (λ written. IsUtf8 written.items)) }
     ensures fault { IfErr result (λ fault. fault ≡ Error.OutOfMemory) }
 {
-    match filter(alloc, options, mode, text) {
+    match filter(alloc, options, mode, text, scratch) {
         Ok(written) => Ok(Some(written)),
         Err(Stop::OutOfMemory) => Err(Error::OutOfMemory),
         Err(_) => Ok(None),
@@ -145,14 +174,20 @@ pub(crate) fn filter_once(
 }
 
 // The text that the mode asks for of the value that the text means in order.
-fn filter(alloc: Global, options: Options, mode: Mode, text: &str) -> Result<Vec<u8>, Stop>
+fn filter(
+    alloc: Global,
+    options: Options,
+    mode: Mode,
+    text: &str,
+    scratch: &mut Scratch,
+) -> Result<Vec<u8>, Stop>
     ensures ok { IfOk result (λ written. IsConvertedTextInOrder options mode text.now written.items) }
     ensures utf8 { IfOk result (λ written. IsUtf8 written.items) }
 {
     match mode {
-        Mode::Canonical => filter_text(alloc, options.doubles, Form::Canonical, text),
-        Mode::Relaxed => filter_text(alloc, options.doubles, Form::Relaxed, text),
-        Mode::Show => show_text_in_order(alloc, options.doubles, text),
+        Mode::Canonical => filter_text(alloc, options.doubles, Form::Canonical, text, scratch),
+        Mode::Relaxed => filter_text(alloc, options.doubles, Form::Relaxed, text, scratch),
+        Mode::Show => show_text_in_order(alloc, options.doubles, text, scratch),
     }
 }
 

@@ -10,13 +10,17 @@ ghost use Rattle.bson_run.specs.Indent.{indented, HasSameTokens, line, gap, last
 use json::{Reader, Scratch, Token, Writer};
 use std::alloc::{AllocError, Global};
 
-/// The JSON text over several lines, for people: each member and each element on a line of its own,
-/// indented by `spaces` for each bracket that it stands in, a space behind the colon of a key, and
-/// an empty array or object as `[]` or `{}`. No newline ends it.
+/// Writes the JSON text over several lines, for people. Each member and each element is on a line
+/// of its own, indented by `spaces` for each open bracket. A space follows the colon of a key, and
+/// an empty array or object is `[]` or `{}`. No newline ends the text.
 ///
-/// It has the tokens of the text, so that whatever reads it finds the same tree: the same keys in
-/// the same order, the same strings, and the same digits of each number. Of a text that is no JSON
-/// the tokens before its fault are laid out.
+/// It has the tokens of the text, so each reader finds the same tree. Keys are in the same order,
+/// strings are the same, and each number has the same digits. If the text is not JSON, the tokens
+/// before its fault are written.
+///
+/// # Errors
+///
+/// Returns `AllocError` if a request for memory is refused.
 ///
 /// ```
 /// let laid = indent_text(alloc, 2, r#"{"a":[1,{}]}"#)?;

@@ -15,12 +15,16 @@ use bson::extjson::{Form, Options};
 use bson_convert::convert::{end_line, text_with};
 use bson_convert::error::Error;
 use bson_convert::mode::Mode;
+use json::Scratch;
 use std::alloc::Global;
 
-/// [`convert_with`](bson_convert::convert::convert_with) in a form, its text over several lines, as
-/// [`indent_text`](crate::indent::indent_text) lays it out with `spaces` for each bracket.
+/// Returns the text of [`convert_with`](bson_convert::convert::convert_with) in a form, over
+/// several lines. [`indent_text`](crate::indent::indent_text) makes its layout with `spaces` for
+/// each bracket. The text and its layout are in memory together.
 ///
-/// The same bytes are refused, for the same fault. The text and its layout are in memory together.
+/// # Errors
+///
+/// The errors of `convert_with`, for the same bytes.
 ///
 /// ```
 /// let text = br#"{"a": {"$numberLong": "5"}, "b": []}"#;
@@ -51,8 +55,12 @@ pub fn convert_indented(
     lay_out(alloc, spaces, &text)
 }
 
-/// [`convert_in_order`](crate::in_order::convert_in_order) in a form, its text over several lines in
-/// the same way.
+/// Returns the text of [`convert_in_order`](crate::in_order::convert_in_order) in a form, over
+/// several lines in the same way.
+///
+/// # Errors
+///
+/// The errors of `convert_in_order`, for the same bytes.
 ///
 /// ```
 /// let text = br#"{"b": "x", "a": null}"#;
@@ -115,7 +123,8 @@ fn text_of_ordered(
         → MeansIn options.doubles tree value → IfErr result (λ fault. fault ≡ Error.OutOfMemory) }
     ensures fault { IfErr result (λ fault. IsRefusedIn options fault bytes.now) }
 {
-    Ok(into_string(text_in_order(alloc, options, mode_of(form), bytes)?))
+    let mut scratch = Scratch::new(alloc);
+    Ok(into_string(text_in_order(alloc, options, mode_of(form), bytes, &mut scratch)?))
 }
 
 // The text as a string.

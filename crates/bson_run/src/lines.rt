@@ -73,20 +73,28 @@ impl LineRun {
         }
     }
 
-    /// Reads lines until the reader has nothing left, each as one JSON text, and writes the output
-    /// of each in the order of the lines. A newline ends a line; what stands behind the last
-    /// newline is a line too, unless it is empty. Lines of spaces, tabs and carriage returns give
-    /// nothing, and count. A byte order mark at the start of the input is passed over.
+    /// Reads lines until the reader is at its end, each as one JSON text. Writes the output of
+    /// each, in the order of the lines.
     ///
-    /// A line that is refused ends the run, or is told to `report` and left out, as `on_refusal`
-    /// says. Where the run stops, `number` is that of the first line that was not done; all that
-    /// the lines before it gave was written, and nothing of the line itself. At `CannotWrite` not
-    /// all of it was written: either verdicts are missing, or they were all told and output is. A
-    /// fault of the reader or of a writer, Interrupted too, is `CannotRead` or `CannotWrite`, and
-    /// so is a write that takes no byte.
+    /// A newline ends a line. The bytes after the last newline are a line too, unless there are
+    /// none. Lines of spaces, tabs and carriage returns have no output, and count. A byte order
+    /// mark at the start of the input is passed over.
     ///
-    /// Memory is that of the longest line and of a block of 64 KiB with its output. The output of a
-    /// block is written before the next is read.
+    /// A rejected line ends the run, or is reported and left out, as `on_refusal` says. Memory is
+    /// that of the longest line and of a block of 64 KiB with its output. The output of a block is
+    /// written before the next is read.
+    ///
+    /// # Errors
+    ///
+    /// `number` is that of the first line that was not done. All output of the lines before it was
+    /// written, and nothing of the line itself.
+    ///
+    /// - `NotJson`, `NotExtendedJson` or `NoBytes`: the line is rejected, and `on_refusal` stops
+    ///   the run.
+    /// - `CannotRead`: the reader failed, `Interrupted` too.
+    /// - `CannotWrite`: the writer or the report failed, `Interrupted` too, or accepted no byte.
+    ///   Either not all lines were reported, or all of them were and not all output was written.
+    /// - `OutOfMemory`: an allocation failed.
     pub fn run<R: Read, W: Write, T: Write>(
         &mut self,
         alloc: Global,

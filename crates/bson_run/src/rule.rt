@@ -38,6 +38,8 @@ pub enum Rule {
     MoreBehind,
     /// The text has the grammar of JSON, but a number in it has no finite nearest double.
     OutOfRange,
+    /// The text is JSON, but the rewritten text that is read instead nests deeper than 127.
+    RewrittenDepth,
 }
 
 impl Rule {
@@ -59,6 +61,7 @@ impl Rule {
             Rule::Depth => "it nests deeper than 127",
             Rule::MoreBehind => "more stands behind the value",
             Rule::OutOfRange => "a number is out of range",
+            Rule::RewrittenDepth => "the rewritten text nests deeper than 127 levels",
         }
     }
 }

@@ -1,9 +1,12 @@
 //! Where bytes stop to be a JSON text.
-ghost use Rattle.std.specs.Prelude.{◌≡◌, ◌↔◌, IfOk, IsTrue, string_bytes};
-ghost use Rattle.bson_run.specs.Place.{Breaks, HasGrammar, at_column, before_stop, column_at, line_at};
+ghost use Rattle.std.specs.Prelude.{◌≡◌, ◌↔◌, IfOk, IsTrue, false, string_bytes};
+ghost use Rattle.bson.specs.TextMeaning.{IsNoText};
+ghost use Rattle.bson_run.specs.Place.{Breaks, HasGrammar, HasTree, at_column, before_stop, column_at, line_at};
 
 use crate::broken::rule_of;
 use crate::rule::Rule;
+use bson_distinct::arrange::arrange_text;
+use bson_distinct::arrangement::Arrangement;
 use bson_tokens::MAX_DEPTH;
 use bson_tokens::number::number;
 use json::{Reader, Scratch, Token};
@@ -27,12 +30,21 @@ pub struct Stop {
 }
 
 impl Stop {
-    /// The first byte that is no UTF-8, or else the first token that can't stand where it does, or
-    /// what is behind a bracket that nests deeper than 127; where the bytes have the grammar of
-    /// JSON, the first number whose nearest double is not finite; and the rule that is broken there.
-    /// It makes no tree; of memory it takes as much as the bytes.
+    /// Finds the place at which a text stops to be JSON, and the rule that it breaks there.
+    ///
+    /// It is the first byte that is not UTF-8. If all are, it is the first token that its place does
+    /// not allow, or the token after a bracket that nests deeper than 127. If the bytes have the
+    /// grammar of JSON, it is the first number whose nearest double is not finite. No tree is made,
+    /// and memory is that of the bytes.
+    ///
+    /// If the bytes are JSON, it is their first byte. Their rule is `RewrittenDepth`, since they are
+    /// rejected as not JSON only if a rewritten text is read instead, and nests too deep.
+    ///
+    /// # Errors
+    ///
+    /// Returns `AllocError` if a request for memory is refused.
     pub fn of(alloc: Global, bytes: &[u8]) -> Result<Stop, AllocError>
-        ensures grammar { IfOk result (λ stop. IsTrue stop.is_number ↔ HasGrammar bytes.now) }
+        ensures grammar { IfOk result (λ stop. IsTrue stop.is_number ↔ HasGrammar bytes.now × IsNoText bytes.now) }
         ensures rule { IfOk result (λ stop. Breaks bytes.now stop.rule) }
     {
         match simdutf8::compat::from_utf8(bytes) {
@@ -84,7 +96,7 @@ impl Stop {
 
 // Where the text stops to be JSON.
 fn stop_in(alloc: Global, text: &str) -> Result<Stop, AllocError>
-    ensures grammar { IfOk result (λ stop. IsTrue stop.is_number ↔ HasGrammar text.now) }
+    ensures grammar { IfOk result (λ stop. IsTrue stop.is_number ↔ HasGrammar text.now × IsNoText text.now) }
     ensures rule { IfOk result (λ stop. Breaks text.now stop.rule) }
 {
     let mut scratch = Scratch::new(alloc);
@@ -104,11 +116,30 @@ fn stop_in(alloc: Global, text: &str) -> Result<Stop, AllocError>
             rule: Rule::MoreBehind,
         });
     }
+    if has_tree(alloc, text)? {
+        return Ok(Stop {
+            offset: 0,
+            is_number: false,
+            rule: Rule::RewrittenDepth,
+        });
+    }
     Ok(Stop {
         offset: number_out_of_range(text, &mut scratch)?,
         is_number: true,
         rule: Rule::OutOfRange,
     })
+}
+
+// Whether a text is that of a tree: it has the grammar of JSON, and its numbers are in range.
+fn has_tree(alloc: Global, text: &str) -> Result<bool, AllocError>
+    ensures yes { IfOk result (λ has. IsTrue has → HasTree text.now) }
+    ensures no { IfOk result (λ has. has ≡ false → IsNoText text.now) }
+{
+    match arrange_text(alloc, Arrangement::FirstPlaces, text) {
+        Ok(_) => Ok(true),
+        Err(json::Error::Invalid) => Ok(false),
+        Err(_) => Err(AllocError),
+    }
 }
 
 // How many bytes stand before the first number that has no finite double, or 0 if there is none.

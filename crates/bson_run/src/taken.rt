@@ -13,13 +13,17 @@ use std::alloc::Global;
 /// What is told of a key that stands twice.
 pub(crate) const DOUBLE_KEY: &str = "a key that stands twice in its object";
 
-/// The text that is read in the place of the bytes, or nothing where they are read themselves.
+/// Returns the text that is read instead of the bytes, or `None` if the bytes themselves are read.
 ///
-/// With `Distinct` and `DistinctLegacy` a JSON text is refused in which an object has a key twice,
-/// at any depth and in wrappers too, as `NotExtendedJson` with the path to the first key that
-/// stands in its object before. Keys are compared after their escapes are read. With `Legacy` and
-/// `DistinctLegacy` the text is [`modern_text`]'s. Bytes that are no JSON text are left to the
-/// reader.
+/// With `Distinct` and `DistinctLegacy` a JSON text may have no duplicate key, at any depth and in
+/// wrappers too. Keys are compared after their escapes are read. With `Legacy` and `DistinctLegacy`
+/// the text is that of [`modern_text`]. Bytes that are not a JSON text are left to the reader.
+///
+/// # Errors
+///
+/// - `NotExtendedJson`: the text may have no duplicate key, and has one. It has the path to the
+///   first key that is in its object before.
+/// - `OutOfMemory`: an allocation failed.
 ///
 /// ```
 /// let text = br#"{"$regex": "^a", "$options": "i"}"#;

@@ -25,7 +25,11 @@ pub fn is_scope(key: &str) -> bool
     key == "$scope"
 }
 
-/// The tree of code with its scope's map.
+/// Makes the tree of code with its scope's map.
+///
+/// # Errors
+///
+/// Returns `AllocError` if a request for memory is refused.
 pub fn wrapped_code(
     alloc: Global,
     code: String,
@@ -40,7 +44,11 @@ pub fn wrapped_code(
     Ok(Value::Object(members))
 }
 
-/// Writes what stands before the scope in the text of code with its scope.
+/// Writes the part of the text of code with its scope that is before the scope.
+///
+/// # Errors
+///
+/// Returns `AllocError` if a request for memory is refused.
 pub fn put_code(code: &str, out: &mut Writer) -> Result<(), AllocError>
     ensures put { OnOk result (out.new.tokens ≡ out.old.tokens ++ code_tokens code.now) }
     ensures before { out.new.before ≡ out.old.before }

@@ -112,8 +112,13 @@ fn narrowest_number(number: i64) -> Scalar
     }
 }
 
-/// What a JSON number means: a whole one the Int32 where it fits, else the Int64. One that is no
-/// i64 is refused, or where finite doubles are read it is the double nearest to it.
+/// Returns the meaning of a JSON number. An i64 is an Int32 if it fits, else an Int64. With
+/// `Doubles::Finite` any other number is the double nearest to it.
+///
+/// # Errors
+///
+/// - `DeserializationError` with `Doubles::Special`: the number is not an i64.
+/// - `DeserializationError` with `Doubles::Finite`: the double nearest to the number is not finite.
 pub fn read_number(doubles: Doubles, number: &Number) -> Result<Scalar, Error>
     ensures { Gives scalar_view result (number_read_in doubles (number_view number.now)) }
 {

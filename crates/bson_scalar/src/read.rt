@@ -22,10 +22,13 @@ use crate::wrapper::{Wrapper, wrapper_named};
 use serde_json::Value;
 use std::alloc::Global;
 
-/// What the value under this wrapper's key means.
+/// Returns the meaning of the value under this wrapper's key.
 ///
-/// `InvalidObjectId` comes where the text of an object id alone is wrong, `DeserializationError`
-/// for every other tree that this wrapper does not hold.
+/// # Errors
+///
+/// - `InvalidObjectId`: the text of an object id is wrong, and everything else is right.
+/// - `DeserializationError`: this wrapper does not accept the value for another reason.
+/// - `OutOfMemory`: a request for memory was refused.
 pub fn read_wrapper(
     alloc: Global,
     doubles: Doubles,
@@ -54,7 +57,14 @@ pub fn read_wrapper(
     }
 }
 
-/// What an object of this one key means, where it is a wrapper key; any other key is refused.
+/// Returns the meaning of an object with this one key.
+///
+/// # Errors
+///
+/// - `InvalidObjectId`: the text of an object id is wrong, and everything else is right.
+/// - `DeserializationError`: the key is not a wrapper key, or its wrapper does not accept the value
+///   for another reason.
+/// - `OutOfMemory`: a request for memory was refused.
 pub fn read_single_in(
     alloc: Global,
     doubles: Doubles,

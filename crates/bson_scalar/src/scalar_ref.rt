@@ -240,7 +240,11 @@ fn show_double<W: fmt::Write>(pattern: u64, f: &mut fmt::Formatter<W>) -> fmt::R
 }
 
 impl<'a> ScalarRef<'a> {
-    /// The same scalar, in memory of its own.
+    /// Returns a copy of the scalar, in memory of its own.
+    ///
+    /// # Errors
+    ///
+    /// Returns `AllocError` if a request for memory is refused.
     pub fn to_owned(&self, alloc: Global) -> Result<Scalar, AllocError>
         ensures { IfOk result (λ x. scalar_view x ≡ scalar_of self.now) }
     {

@@ -67,10 +67,12 @@ fn write_to<S: Sink>(
     Ok(written?)
 }
 
-/// The tree of a scalar in a form (MongoDB Extended JSON v2). Texts are moved into it.
+/// Makes the tree of a scalar in a form (MongoDB Extended JSON v2). Texts are moved into it.
 ///
-/// `FiniteDouble` comes exactly for a double that is finite and no zero, where finite doubles are
-/// not written.
+/// # Errors
+///
+/// - `FiniteDouble`: the scalar is a finite double other than zero, with `Doubles::Special`.
+/// - `OutOfMemory`: a request for memory was refused.
 pub fn write_scalar_in(
     alloc: Global,
     doubles: Doubles,
@@ -83,7 +85,12 @@ pub fn write_scalar_in(
     write_to(alloc, doubles, form, value, &mut Trees::new(alloc))
 }
 
-/// Writes the tree of a scalar, as `write_scalar_in` makes it, with no tree.
+/// Writes the tree of a scalar, as `write_scalar_in` makes it, without the tree.
+///
+/// # Errors
+///
+/// - `FiniteDouble`: the scalar is a finite double other than zero, with `Doubles::Special`.
+/// - `OutOfMemory`: a request for memory was refused.
 pub fn print_scalar_in(
     alloc: Global,
     doubles: Doubles,
@@ -98,7 +105,11 @@ pub fn print_scalar_in(
     write_to(alloc, doubles, form, value, out)
 }
 
-/// Writes the tree of a binary, as `write_scalar_in` makes it, with no tree.
+/// Writes the tree of a binary, as `write_scalar_in` makes it, without the tree.
+///
+/// # Errors
+///
+/// Returns `AllocError` if a request for memory is refused.
 pub fn put_binary(alloc: Global, binary: &Binary, out: &mut Writer) -> Result<(), AllocError>
     ensures put { OnOk result (out.new.tokens ≡ out.old.tokens
         ++ tokens_of (binary_tree binary.now.subtype binary.now.bytes.items)) }

@@ -57,8 +57,10 @@ fn run_one<V: Drop, S: PairStore<V>>(
 
 /// Runs the commands in turn, and returns their replies in the same order.
 ///
-/// Where memory is refused, for the replies or for a new key, it stops: the store is then as it is
-/// after the first `done` commands.
+/// # Errors
+///
+/// Returns `Stopped` if a request for memory is refused, for the replies or for a new key. The
+/// store is then as it is after the first `done` commands.
 pub fn replay<V: Drop, S: PairStore<V>>(
     alloc: Global,
     store: &mut S,

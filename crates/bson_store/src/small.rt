@@ -94,7 +94,12 @@ impl<V> SmallPairs<V> {
 }
 
 impl<V: Drop> SmallPairs<V> {
-    /// A store of no pairs, with room for so many. An index is made by the push that needs it.
+    /// Makes a store without pairs, with room for this many pairs. The push that needs an index
+    /// makes it.
+    ///
+    /// # Errors
+    ///
+    /// Returns `AllocError` if a request for memory is refused.
     pub fn with_capacity(alloc: Global, pairs: usize) -> Result<SmallPairs<V>, AllocError>
         ensures { IfOk result (λ store. store ≡ []) }
     {

@@ -11,7 +11,7 @@ ghost use Rattle.bson_store.specs.Small.{stored_pairs, keyed, KeysAscend, AreSor
 use crate::small::Pair;
 use std::alloc::{AllocError, Global};
 
-// The key at the place, or the empty one behind the pairs.
+// The key at the place, or the empty one after the pairs.
 fn key_at<V>(pairs: &Vec<Pair<V>>, at: usize) -> &str
     ensures { result.now ≡ slice_index_or (keys (stored_pairs pairs.now.items)) at [] }
 {

@@ -19,9 +19,16 @@ const LEVELS: usize = 2;
 // How many keys an object has that a wrapper reads.
 const MAX_KEYS: usize = 2;
 
-/// A tree that each wrapper reads as it would read the value that stands next, nested at most
-/// `depth` deep. Elements of arrays, members of objects that have more keys than any wrapper reads,
-/// and those of objects that lie deeper, are passed over.
+/// Reads the next value, nested at most `depth` deep, as far as a wrapper reads it. Each wrapper
+/// reads the tree as it reads the value.
+///
+/// These parts are passed over: elements of arrays, members of objects with more keys than any
+/// wrapper reads, and members of objects that lie deeper.
+///
+/// # Errors
+///
+/// - `Invalid`: the next value is not valid, nests deeper, or has a number out of range.
+/// - `OutOfMemory`: a request for memory was refused.
 pub fn read_held(alloc: Global, reader: &mut Reader<'_>, depth: usize) -> Result<Value, Error>
     ensures ok { IfOk result
         (λ held. IsHeldAs (converted of_json (value depth reader.old)) (view held) reader.new) }
@@ -54,7 +61,13 @@ fn held_value(
     }
 }
 
-/// Passes over the elements of an array whose bracket was read, each nested at most `depth` deep.
+/// Passes over the elements of an array after its bracket, each nested at most `depth` deep.
+///
+/// # Errors
+///
+/// - `Invalid`: an element is not valid, nests deeper, or has a number out of range, or the array
+///   does not end.
+/// - `OutOfMemory`: a request for memory was refused.
 #[cycle(held)]
 pub fn pass_items(alloc: Global, reader: &mut Reader<'_>, depth: usize) -> Result<(), Error>
     ensures ok { OnOk result

@@ -31,8 +31,13 @@ pub enum Start<'a> {
     Object,
 }
 
-/// How the value starts that stands next, nested at most `depth` deep: its first token is taken.
-/// `Invalid` is answered where no such value starts there.
+/// Reads the first token of the next value, nested at most `depth` deep, and returns how the value
+/// starts.
+///
+/// # Errors
+///
+/// - `Invalid`: the next token starts no value, is a number out of range, or is the bracket or
+///   brace of a value that nests deeper.
 #[inline(always)]
 pub fn read_start<'a>(reader: &mut Reader<'a>, depth: usize) -> Result<Start<'a>, Error>
     ensures ok { IfOk result (λ start. Starts depth reader.old start reader.new) }

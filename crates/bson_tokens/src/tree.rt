@@ -11,7 +11,12 @@ use json::{Error, Reader};
 use serde_json::{Map, Value};
 use std::alloc::Global;
 
-/// The tree of the value that stands next, nested at most `depth` deep.
+/// Reads the tree of the next value, nested at most `depth` deep.
+///
+/// # Errors
+///
+/// - `Invalid`: the next value is not valid, nests deeper, or has a number out of range.
+/// - `OutOfMemory`: a request for memory was refused.
 #[cycle(tree)]
 pub fn read_tree(alloc: Global, reader: &mut Reader<'_>, depth: usize) -> Result<Value, Error>
     ensures ok { IfOk result (λ t. converted of_json (value depth reader.old) ≡ Some (view t, reader.new)) }
@@ -92,7 +97,13 @@ fn read_member(
     Ok(found)
 }
 
-/// The members of the object, beside those that were found, from one on whose key was read.
+/// Reads the rest of an object after its key, and adds the members to those that were found.
+///
+/// # Errors
+///
+/// - `Invalid`: the rest of the object is not valid, a value nests more than `depth` deep, or a
+///   number is out of range.
+/// - `OutOfMemory`: a request for memory was refused.
 pub fn read_from(
     alloc: Global,
     reader: &mut Reader<'_>,

@@ -29,16 +29,24 @@ use serde_json::{Map, Value};
 use std::alloc::{AllocError, Global};
 use std::collections::BTreeMap;
 
-/// Returns the first fault of the text's tree and the path to it, or `None` if the tree has a
+/// Returns the first fault of the text's tree and the path to it. Returns `None` if the tree has a
 /// meaning in MongoDB Extended JSON v2.
 ///
-/// It is the place that `first_place` finds in the tree, and no tree of the whole is made: of an
-/// array the first fault is kept, of an object the faults by key, since a later value of a key
-/// takes the place of an earlier one. A text is read as a tree only in two cases: `$code` follows a
-/// `$scope` that its object begins with, or a faulty key's value gives way to a later one without a
-/// fault after the place of the object's next fault was dropped. `Invalid` is returned if the text
-/// has no tree: it is not a JSON text of at most 127 levels, or has a number whose nearest double is
-/// not finite.
+/// The place is the one that `first_place` finds in the tree. No tree of the whole text is made:
+/// the first fault of an array and the faults by key of an object are kept. A later value of a key
+/// replaces an earlier one.
+///
+/// A text is read as a tree only in two cases:
+///
+/// - `$code` follows a `$scope` with which its object begins.
+/// - A key's faulty value is replaced by a later one without a fault, after the place of the
+///   object's next fault was dropped.
+///
+/// # Errors
+///
+/// - `Invalid`: the text is not JSON of at most 127 levels, or has a number whose nearest double is
+///   not finite.
+/// - `OutOfMemory`: a request for memory was refused.
 pub fn first_fault_in(alloc: Global, doubles: Doubles, text: &str) -> Result<Option<Place>, Error>
     ensures place { IfOk result (λ found. IsTextPlaceIn doubles text.now found) }
     ensures broken { IfErr result (IsBroken (read text.now)) }

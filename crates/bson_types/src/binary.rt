@@ -64,9 +64,14 @@ pub struct Binary {
 }
 
 impl Binary {
-    /// Decodes a base64 text (RFC 4648 section 4): with its padding, with zeros in the bits that
-    /// the last digit leaves over, and nothing else in it, as blanks or line ends. Any other text
-    /// is refused as `DecodingError`. The subtype is Generic where none is given.
+    /// Decodes a base64 text (RFC 4648 section 4) with its padding. The bits that the last digit
+    /// leaves over must be zeros, and blanks or line ends are not accepted. The default subtype is
+    /// Generic.
+    ///
+    /// # Errors
+    ///
+    /// - `DecodingError`: the text is not padded base64 of this form.
+    /// - `OutOfMemory`: a request for memory was refused.
     pub fn from_base64(alloc: Global, text: &str, subtype: Option<BinarySubtype>) -> Result<Binary>
         ensures subtype { IfOk result (λ b. b.subtype ≡ unwrap_or subtype BinarySubtype.Generic) }
         ensures ok { IfOk result (λ b. IsBase64 text.now b.bytes.items) }
@@ -93,7 +98,11 @@ impl Binary {
         }
     }
 
-    /// The binary of a UUID, in the standard representation.
+    /// Makes the binary of a UUID, in the standard representation.
+    ///
+    /// # Errors
+    ///
+    /// Returns `AllocError` if a request for memory is refused.
     pub fn from_uuid(alloc: Global, id: Uuid) -> Result<Binary, AllocError>
         ensures subtype { IfOk result (λ b. b.subtype ≡ BinarySubtype.Uuid) }
         ensures bytes { IfOk result (λ b. b.bytes.items ≡ id) }
@@ -106,8 +115,12 @@ impl Binary {
         })
     }
 
-    /// The binary of a UUID in a representation: its subtype, and the bytes in its order.
-    /// `to_uuid_with_representation` gives the UUID back.
+    /// Makes the binary of a UUID in a representation: its subtype, and the bytes in its order.
+    /// `to_uuid_with_representation` reads the UUID back.
+    ///
+    /// # Errors
+    ///
+    /// Returns `AllocError` if a request for memory is refused.
     #[tactic(auto, using(crate::proofs::OrderLemmas::ordered_twice))]
     pub fn from_uuid_with_representation(
         alloc: Global,
@@ -128,8 +141,12 @@ impl Binary {
         })
     }
 
-    /// The bytes of a vector, under the subtype Vector. `Vector::from_binary` gives the vector
-    /// back.
+    /// Makes the binary of a vector: its bytes, with the subtype Vector. `Vector::from_binary`
+    /// reads the vector back.
+    ///
+    /// # Errors
+    ///
+    /// Returns `AllocError` if a request for memory is refused.
     pub fn from_vector(alloc: Global, vector: &Vector) -> Result<Binary, AllocError>
         ensures subtype { IfOk result (λ b. b.subtype ≡ BinarySubtype.Vector) }
         ensures bytes { IfOk result (λ b. b.bytes.items ≡ vector_bytes vector.now) }
@@ -152,7 +169,11 @@ impl Binary {
         })
     }
 
-    /// The same binary, in memory of its own.
+    /// Returns a copy of the binary, in memory of its own.
+    ///
+    /// # Errors
+    ///
+    /// Returns `AllocError` if a request for memory is refused.
     pub fn clone(&self, alloc: Global) -> Result<Binary, AllocError>
         ensures subtype { IfOk result (λ b. b.subtype ≡ self.now.subtype) }
         ensures bytes { IfOk result (λ b. b.bytes.items ≡ self.now.bytes.items) }
@@ -167,8 +188,13 @@ impl Binary {
 impl Binary {
     ghost use Rattle.bson_types.specs.Orders.{IsInvalidLength, IsMismatch};
 
-    /// The UUID of a binary in the standard representation, as `to_uuid_with_representation` reads
-    /// it.
+    /// Returns the UUID of a binary in the standard representation, as
+    /// `to_uuid_with_representation` reads it.
+    ///
+    /// # Errors
+    ///
+    /// - `RepresentationMismatch`: the subtype is not `Uuid`.
+    /// - `InvalidLength`: the subtype is `Uuid`, and the number of bytes is not 16.
     pub fn to_uuid(&self) -> uuid_value::Result<Uuid>
         ensures ok { IfOk result (λ id. id ≡ self.now.bytes.items) }
         ensures succeeds { IsOk result ↔ ((self.now.subtype ≡ BinarySubtype.Uuid) × (vec_len self.now.bytes ≡ 16)) }
@@ -180,9 +206,13 @@ impl Binary {
         self.to_uuid_with_representation(UuidRepresentation::Standard)
     }
 
-    /// The UUID of a binary in a representation. A subtype other than that of the representation is
-    /// refused first, as `RepresentationMismatch`, and then another number of bytes than 16, as
-    /// `InvalidLength`. Subtypes are compared as values: `UserDefined(4)` is not `Uuid`.
+    /// Returns the UUID of a binary in a representation. Subtypes are compared as values:
+    /// `UserDefined(4)` is not `Uuid`.
+    ///
+    /// # Errors
+    ///
+    /// - `RepresentationMismatch`: the subtype is not that of the representation.
+    /// - `InvalidLength`: the subtype is right, and the number of bytes is not 16.
     pub fn to_uuid_with_representation(
         &self,
         representation: UuidRepresentation,

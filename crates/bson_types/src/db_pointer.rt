@@ -51,7 +51,11 @@ impl DbPointer {
         (namespace, id)
     }
 
-    /// The same pointer, in memory of its own.
+    /// Returns a copy of the pointer, in memory of its own.
+    ///
+    /// # Errors
+    ///
+    /// Returns `AllocError` if a request for memory is refused.
     pub fn clone(&self, alloc: Global) -> Result<DbPointer, AllocError>
         ensures namespace { IfOk result (λ p. namespace_of p ≡ namespace_of self.now) }
         ensures id { IfOk result (λ p. id_of p ≡ id_of self.now) }

@@ -93,12 +93,17 @@ impl ObjectId {
         }
     }
 
-    /// Reads 24 hexadecimal digits of either case. A valid text takes no memory.
+    /// Reads 24 hexadecimal digits of either case. A valid text needs no memory.
     ///
-    /// Where several faults are in one text, the first of these is told: an odd number of bytes
-    /// (`InvalidHexStringLength`), a byte that is no digit (`InvalidHexStringCharacter`), another
-    /// number of bytes than 24 (`InvalidHexStringLength`). Each carries a copy of the text, and is
-    /// `OutOfMemory` where that copy finds no memory.
+    /// # Errors
+    ///
+    /// Returns the first of these errors that applies, with a copy of the text:
+    ///
+    /// - `InvalidHexStringLength`: the number of bytes is odd.
+    /// - `InvalidHexStringCharacter`: a byte is not a hexadecimal digit.
+    /// - `InvalidHexStringLength`: the number of bytes is not 24.
+    ///
+    /// Returns `OutOfMemory` instead if the request for memory for the copy is refused.
     pub fn parse_str(alloc: Global, text: &str) -> Result<ObjectId>
         ensures ok { IfOk result (λ id. IsOidText text.now id) }
         ensures valid { (id : List ℕ) → IsOidText text.now id → result ≡ Ok id }
@@ -132,7 +137,11 @@ impl ObjectId {
         in_range(self.bytes)
     }
 
-    /// The 24 lower-case hexadecimal digits, as Display writes them.
+    /// Writes the 24 lower-case hexadecimal digits, as `Display` writes them.
+    ///
+    /// # Errors
+    ///
+    /// Returns `AllocError` if a request for memory is refused.
     pub fn to_hex(&self, alloc: Global) -> Result<String, AllocError>
         ensures { IfOk result (λ text. string_bytes text ≡ encode_lower self.now) }
     {

@@ -33,9 +33,12 @@ pub struct PackedBitVector {
 impl PackedBitVector {
     ghost use Rattle.bson_types.specs.Packed.{packed_bytes, packed_padding};
 
-    /// The vector of these bytes and this padding, 0 where none is given. A padding above 7, or of
-    /// a vector without bytes another than 0, is refused as `Vector`, and so are ignored bits that
-    /// are not zero.
+    /// Makes the vector of these bytes and this padding. The default padding is 0.
+    ///
+    /// # Errors
+    ///
+    /// - `Vector`: the padding is above 7, there is a padding without bytes, or an ignored bit is
+    ///   not zero.
     pub fn new(bytes: Vec<u8>, padding: Option<u8>) -> Result<PackedBitVector>
         ensures bytes { IfOk result (λ v. packed_bytes v ≡ bytes.items) }
         ensures padding { IfOk result (λ v. packed_padding v ≡ unwrap_or padding 0) }
@@ -93,7 +96,11 @@ impl PackedBitVector {
         self.padding
     }
 
-    /// The same bits, in memory of their own.
+    /// Returns a copy of the bits, in memory of its own.
+    ///
+    /// # Errors
+    ///
+    /// Returns `AllocError` if a request for memory is refused.
     pub fn clone(&self, alloc: Global) -> std::result::Result<PackedBitVector, AllocError>
         ensures bytes { IfOk result (λ v. packed_bytes v ≡ packed_bytes self.now) }
         ensures padding { IfOk result (λ v. packed_padding v ≡ packed_padding self.now) }

@@ -23,7 +23,11 @@ pub struct Regex {
 }
 
 impl Regex {
-    /// The pattern, with the options sorted by character.
+    /// Makes the regular expression of a pattern and options, with the options sorted by character.
+    ///
+    /// # Errors
+    ///
+    /// Returns `AllocError` if a request for memory is refused.
     pub fn new(alloc: Global, pattern: &str, options: &str) -> Result<Regex, AllocError>
         ensures pattern { IfOk result (λ r. string_bytes r.pattern ≡ pattern.now) }
         ensures options { IfOk result (λ r. string_bytes r.options ≡ sorted_text options.now) }
@@ -37,7 +41,11 @@ impl Regex {
         })
     }
 
-    /// The same pattern and options, in memory of their own.
+    /// Returns a copy of the pattern and the options, in memory of its own.
+    ///
+    /// # Errors
+    ///
+    /// Returns `AllocError` if a request for memory is refused.
     pub fn clone(&self, alloc: Global) -> Result<Regex, AllocError>
         ensures pattern { IfOk result (λ r. string_bytes r.pattern ≡ string_bytes self.now.pattern) }
         ensures options { IfOk result (λ r. string_bytes r.options ≡ string_bytes self.now.options) }
@@ -59,7 +67,11 @@ impl fmt::Display for Regex {
     }
 }
 
-/// The characters of the text in ascending order.
+/// Returns the characters of the text in ascending order.
+///
+/// # Errors
+///
+/// Returns `AllocError` if a request for memory is refused.
 pub fn sort_characters(alloc: Global, text: &str) -> Result<String, AllocError>
     ensures { IfOk result (λ s. string_bytes s ≡ sorted_text text.now) }
 {

@@ -95,9 +95,13 @@ impl Uuid {
         Uuid { bytes }
     }
 
-    /// Reads 32 hexadecimal digits of either case (RFC 9562 section 4): alone, hyphenated as
-    /// 8-4-4-4-12, and hyphenated in braces or after `urn:uuid:`, whose letters may be of either
-    /// case too (RFC 8141 section 3.1). Any other text is `InvalidUuidString`.
+    /// Reads 32 hexadecimal digits of either case (RFC 9562 section 4). They are alone, hyphenated
+    /// as 8-4-4-4-12, or hyphenated in braces or after `urn:uuid:`. The letters of `urn:uuid:` may
+    /// be of either case too (RFC 8141 section 3.1).
+    ///
+    /// # Errors
+    ///
+    /// - `InvalidUuidString`: the text has none of these forms.
     pub fn parse_str(text: &str) -> Result<Uuid>
         ensures ok { IfOk result (λ id. IsUuidText text.now id) }
         ensures valid { (id : List ℕ) → IsUuidText text.now id → result ≡ Ok id }

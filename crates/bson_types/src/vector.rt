@@ -48,10 +48,20 @@ impl Vector {
     /// Reads the bytes of a vector: its type, its padding and its data. Writing the vector gives
     /// the same bytes again, and no other vector has them.
     ///
-    /// Refused as `Vector` are fewer than 2 bytes, a type other than 0x03 (int8), 0x10 (packed
-    /// bits) and 0x27 (float32), a padding other than 0 of another type than packed bits, float32
-    /// data whose length is no multiple of 4, and packed bits with a padding above 7, or without
-    /// data and with a padding, or with an ignored bit that is not zero.
+    /// # Errors
+    ///
+    /// - `Vector`: the bytes are not those of a vector.
+    /// - `OutOfMemory`: a request for memory was refused.
+    ///
+    /// The bytes are not those of a vector in these cases:
+    ///
+    /// - There are fewer than 2 bytes.
+    /// - The type is not 0x03 (int8), 0x10 (packed bits) or 0x27 (float32).
+    /// - The type is int8 or float32, and the padding is not 0.
+    /// - The type is float32, and the length of the data is not a multiple of 4.
+    /// - The type is packed bits, and the padding is above 7.
+    /// - The type is packed bits, and there is a padding and no data, or an ignored bit that is not
+    ///   zero.
     pub fn from_bytes(alloc: Global, bytes: &[u8]) -> Result<Vector>
         ensures ok { IfOk result (λ v. vector_bytes v ≡ bytes.now) }
         ensures ranged { IfOk result (λ v. IsInRange (vector_view v)) }
@@ -69,9 +79,14 @@ impl Vector {
         }
     }
 
-    /// Reads the bytes of a vector as `from_bytes` does, whatever its ignored bits hold, and makes
-    /// these zero: the vector written again is the input with the ignored bits zero. Where
-    /// `from_bytes` accepts, the two answers are equal.
+    /// Reads the bytes of a vector as `from_bytes` does, and sets its ignored bits to zero. Writing
+    /// the vector gives the input with the ignored bits zero. If `from_bytes` accepts the bytes,
+    /// both calls return the same vector.
+    ///
+    /// # Errors
+    ///
+    /// - `Vector`: the bytes are not those of a vector, whatever its ignored bits are.
+    /// - `OutOfMemory`: a request for memory was refused.
     pub fn from_bytes_clearing(alloc: Global, bytes: &[u8]) -> Result<Vector>
         ensures ok { IfOk result (λ v. vector_bytes v ≡ cleared_vector bytes.now) }
         ensures ranged { IfOk result (λ v. IsInRange (vector_view v)) }
@@ -93,8 +108,12 @@ impl Vector {
         }
     }
 
-    /// Reads the bytes of a binary of subtype Vector. Another subtype is refused as `Vector`, and
-    /// the bytes as `from_bytes` refuses them.
+    /// Reads the bytes of a binary of subtype Vector.
+    ///
+    /// # Errors
+    ///
+    /// - `Vector`: the subtype is not Vector, or the bytes are rejected by `from_bytes`.
+    /// - `OutOfMemory`: a request for memory was refused.
     pub fn from_binary(alloc: Global, binary: &Binary) -> Result<Vector>
         ensures subtype { OnOk result (binary.now.subtype ≡ BinarySubtype.Vector) }
         ensures ok { IfOk result (λ v. vector_bytes v ≡ binary.now.bytes.items) }
@@ -114,7 +133,11 @@ impl Vector {
         Vector::from_bytes(alloc, binary.bytes.as_slice())
     }
 
-    /// The same vector, in memory of its own.
+    /// Returns a copy of the vector, in memory of its own.
+    ///
+    /// # Errors
+    ///
+    /// Returns `AllocError` if a request for memory is refused.
     pub fn clone(&self, alloc: Global) -> Result<Vector, AllocError>
         ensures { IfOk result (λ v. vector_view v ≡ vector_view self.now) }
     {

@@ -1,11 +1,17 @@
 -- What a run over the documents of a block gave.
-use Rattle.std.proofs.Common.{◌≡◌, inr, ℕ, List, [], ◌++◌, Option, Some, sym, ap, subst, ◌∙◌}
-use Rattle.bson_codec.proofs.Offered.{ends_inside}
+use Rattle.std.proofs.Common.{◌≡◌, ◌-◌, inl, inr, ℕ, IsUtf8, List, [], ◌++◌, Option, Some, arith, length, length-append}
+use Rattle.std.proofs.Common.{take, sym, ap, subst, ◌∙◌}
+use Rattle.std.proofs.lemmas.List.{take_at}
+use Rattle.std.proofs.lemmas.Str.{IsUtf8-append}
+use Rattle.bson_codec.proofs.Offered.{dump_utf8, ends_inside, told_utf8}
 use Rattle.bson_codec.specs.Documents.{EndsAt, EndsInside, IsOfBytes}
 use Rattle.bson_codec.specs.Told.{told_of}
 use Rattle.bson_codec.specs.declared.documents.Run.{Run}
 use Rattle.bson_codec.specs.declared.run_end.RunFault.{RunFault}
+use Rattle.bson_convert.specs.Convert.{newline}
 use Rattle.vbson.specs.Dumps.{GivesDocuments}
+use Rattle.vbson.specs.Text.{IsText}
+use Rattle.vbson.specs.declared.text.Text.{Text}
 
 -- a writer that held nothing holds what was written
 wrote : (had holds output : List ℕ) → holds ≡ had ++ output → had ≡ [] → output ≡ holds
@@ -28,3 +34,21 @@ cut_block run block had output held diagnostics all after fault number refused s
           (subst (λ x. EndsInside run block out x fault number refused start) (wrote held diagnostics tells reported also) inside);
       said = said;
     })
+
+-- what a block gives is UTF-8
+pub gives_utf8 : (run : Run) (block output verdicts : List ℕ) (count consumed : ℕ)
+    → GivesDocuments run block output verdicts count consumed → IsUtf8 output × IsUtf8 verdicts
+gives_utf8 run block output verdicts count consumed (inl all) = dump_utf8 all.documents
+gives_utf8 run block output verdicts count consumed (inr it) =
+    let before = dump_utf8 it.cut.documents in
+    let told = told_utf8 count consumed it.fault in
+    (before.0, subst IsUtf8 (sym it.said) (IsUtf8-append it.diagnostics _ before.1 told))
+
+-- the text of a line
+pub of_line : (text line : List ℕ) (out : Text) → line ≡ text ++ newline → IsText (take (length line - 1) line) out
+    → IsText text out
+of_line text line out is left =
+    let n = length line - 1 in
+    let all : length line ≡ length (text ++ newline) = ap length is in
+    let first = take_at text newline n (omega (arith, all, length-append text newline)) in
+    subst (λ t. IsText t out) (ap (take n) is ∙ first) left

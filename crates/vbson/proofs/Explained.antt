@@ -1,5 +1,6 @@
 -- The line that tells why a text is refused.
-use Rattle.std.proofs.Common.{◌≡◌, ◌≢◌, inl, inr, ℕ, List, [], ◌++◌, refl}
+use Rattle.std.proofs.Common.{◌≡◌, ◌≢◌, inl, inr, ℕ, IsUtf8, List, [], ◌++◌, refl}
+use Rattle.std.proofs.lemmas.Str.{IsUtf8-nil}
 use Rattle.bson.specs.declared.extjson.options.Options.{Options}
 use Rattle.bson_convert.specs.Convert.{ConvertsIn, IsRefusedIn, newline}
 use Rattle.bson_run.specs.Place.{IsWhere}
@@ -13,16 +14,17 @@ use Rattle.vbson.specs.Reading.{IsReadAs, IsUnread, preprocessing_of}
 
 -- the words, and a newline
 abbrev pub IsLine : Options → List ℕ → List ℕ → Type 0
-IsLine o text line = (words : List ℕ) × ExplainsRead o text words × (line ≡ words ++ newline)
+IsLine o text line = (words : List ℕ) × ExplainsRead o text words × IsUtf8 words × (line ≡ words ++ newline)
 
 pub accepted : (o : Options) (mode : Mode) (text output line : List ℕ) → ConvertsIn o mode text output → line ≡ newline
     → IsLine o text line
 accepted o mode text output line h is =
-    ([], inl ((h.value, record { tree = h.tree; text = h.text; meaning = h.meaning }), refl), is)
+    ([], inl ((h.value, record { tree = h.tree; text = h.text; meaning = h.meaning }), refl), IsUtf8-nil, is)
 
 pub refused : (o : Options) (fault : Error) (text place line : List ℕ) → IsRefusedIn o fault text → fault ≢ OutOfMemory
-    → IsWhere text fault place → line ≡ (words_of fault ++ place) ++ newline → IsLine o text line
-refused o fault text place line h told lies is = (
+    → IsWhere text fault place → IsUtf8 (words_of fault ++ place) → line ≡ (words_of fault ++ place) ++ newline
+    → IsLine o text line
+refused o fault text place line h told lies utf8 is = (
   words_of fault ++ place,
   inr (record {
     fault = fault;
@@ -32,24 +34,25 @@ refused o fault text place line h told lies is = (
     lies = lies;
     said = refl;
   }),
+  utf8,
   is,
 )
 
 -- ---- under flags
 
 abbrev pub IsLineUnder : ℕ → List ℕ → List ℕ → Type 0
-IsLineUnder flags text line = (words : List ℕ) × Explains flags text words × (line ≡ words ++ newline)
+IsLineUnder flags text line = (words : List ℕ) × Explains flags text words × IsUtf8 words × (line ≡ words ++ newline)
 
 -- of what is read in the place of the text
 pub of_read : (flags : ℕ) (text read line : List ℕ) → IsReadAs (preprocessing_of flags) text read
     → IsLine (options_of flags) read line → IsLineUnder flags text line
-of_read flags text read line is h = (h.0, inl (read, is, h.1), h.2)
+of_read flags text read line is h = (h.0, inl (read, is, h.1), h.2, h.3)
 
 -- of a text that preprocessing rejects
 pub refused_first : (flags : ℕ) (fault : Error) (text place line : List ℕ) → IsUnread (preprocessing_of flags) fault text
-    → fault ≢ OutOfMemory → IsWhere text fault place → line ≡ (words_of fault ++ place) ++ newline
-    → IsLineUnder flags text line
-refused_first flags fault text place line h told lies is = (
+    → fault ≢ OutOfMemory → IsWhere text fault place → IsUtf8 (words_of fault ++ place)
+    → line ≡ (words_of fault ++ place) ++ newline → IsLineUnder flags text line
+refused_first flags fault text place line h told lies utf8 is = (
   words_of fault ++ place,
   inr (record {
     fault = fault;
@@ -59,5 +62,6 @@ refused_first flags fault text place line h told lies is = (
     lies = lies;
     said = refl;
   }),
+  utf8,
   is,
 )

@@ -1,8 +1,8 @@
 mod Causes
 mod Decoding
-mod Duplicates
 mod Dumps
 mod Explained
-mod Numbers
 mod Preprocessed
+mod RawValues
 mod Rows
+mod Utf8

@@ -1,17 +1,11 @@
 -- What is read in the place of a text, and what a status says of it.
 use Rattle.std.proofs.Common.{◌≡◌, ◌≢◌, ◌≤◌, inl, inr, ℕ, List, Option, None, Some, refl, ap, sym, subst, ◌∙◌, arith}
-use Rattle.std.specs.Prelude.{IsUtf8}
-use Rattle.json.specs.Print.{print}
-use Rattle.json.specs.Tree.{json_tokens}
+use Rattle.json.specs.Json.{Json}
+use Rattle.json.specs.Strict.{HasUniqueKeys}
 use Rattle.serde_json.specs.Data.{Data}
 use Rattle.serde_json.specs.Read.{read}
-use Rattle.bson_distinct.specs.Arranged.{arranged}
-use Rattle.bson_distinct.specs.Double.{json_of}
-use Rattle.bson_distinct.specs.declared.arrangement.Arrangement.TheVariants.{FirstPlaces}
-use Rattle.bson_legacy.specs.Modern.{modern}
-use Rattle.bson_legacy.specs.Text.{IsModernText}
-use Rattle.bson_place.specs.Place.{path_of}
-use Rattle.bson_place.specs.declared.place.Place.{Place}
+use Rattle.bson_distinct.specs.Double.{DoubleAt}
+use Rattle.bson_place.specs.Place.{PathSegment}
 use Rattle.bson_scalar.specs.declared.form.Doubles.{Doubles}
 use Rattle.bson_model.specs.Means.{MeansIn}
 use Rattle.bson_bytes.specs.Laws.{IsReadIn}
@@ -22,12 +16,9 @@ use Rattle.bson_convert.specs.Convert.{IsRefusedIn}
 use Rattle.bson_convert.specs.declared.error.Error.{Error}
 use Rattle.bson_convert.specs.declared.error.Error.TheVariants.{CannotRead, NotJson, NotExtendedJson, NoBytes, OutOfMemory}
 use Rattle.bson_convert.specs.declared.error.Error.TheVariants.{CannotWrite}
-use Rattle.bson_run.specs.Taken.{HasDoubleKeyAt, HasNoDoubleKey, IsNoJson, StandsFor}
+use Rattle.bson_run.proofs.Offered.{not_taken, one_taken}
 use Rattle.bson_run.specs.declared.order.Taking.{Taking}
-use Rattle.bson_run.specs.declared.order.Taking.TheVariants.{Distinct, Legacy, DistinctLegacy}
 use Rattle.vbson.proofs.Causes.{causes, reason_status}
-use Rattle.vbson.proofs.Duplicates.{not_unique}
-use Rattle.vbson.proofs.Numbers.{is_read}
 use Rattle.vbson.specs.Convert.{IsOfText, options_of, status_of}
 use Rattle.vbson.specs.Documents.{depth}
 use Rattle.vbson.specs.Reading.{HasRejectedKey, IsReadAs, IsRejectedWith, IsUnread, IsWithoutValue, MeansUnder}
@@ -44,31 +35,11 @@ one_meaning D bytes v w a b =
     let trees : a.tree ≡ b.tree = cc in
     b.meaning.one v (subst (λ t. MeansIn D t v) trees a.meaning.means)
 
-one_modern : (text a b : List ℕ) → IsModernText text a → IsModernText text b → a ≡ b
-one_modern text a b x y =
-    let i : json_of text ≡ Some x.is_resolved.tree = x.is_resolved.is_tree in
-    let j : json_of text ≡ Some y.is_resolved.tree = y.is_resolved.is_tree in
-    let trees : x.is_resolved.tree ≡ y.is_resolved.tree = cc in
-    x.compact ∙ (ap (λ t. print (json_tokens (modern (arranged FirstPlaces t)))) trees ∙ sym y.compact)
-
-not_json : (text a : List ℕ) → IsUtf8 text → IsModernText text a → IsNoJson text → ⊥
-not_json text a utf8 x none =
-    let d = is_read FirstPlaces text x.resolved x.is_resolved in
-    none d.0 utf8 d.1
-
-one_newer : (text a b : List ℕ) → StandsFor text a → StandsFor text b → a ≡ b
-one_newer text a b (inl x) (inl y) = one_modern text a b x.1 y.1
-one_newer text a b (inl x) (inr y) = absurd (not_json text a x.0 x.1 y.0)
-one_newer text a b (inr x) (inl y) = absurd (not_json text b y.0 y.1 x.0)
-one_newer text a b (inr x) (inr y) = x.1 ∙ sym y.1
-
 -- one text is read in the place of a text
 pub one_read : (preprocessing : Option Taking) (text a b : List ℕ) → IsReadAs preprocessing text a
     → IsReadAs preprocessing text b → a ≡ b
 one_read None text a b x y = x ∙ sym y
-one_read (Some Distinct) text a b x y = x.1 ∙ sym y.1
-one_read (Some Legacy) text a b x y = one_newer text a b x y
-one_read (Some DistinctLegacy) text a b x y = one_newer text a b x.1 y.1
+one_read (Some taking) text a b x y = one_taken taking text a b x y
 
 -- which means one value
 pub meant : (flags : ℕ) (text read : List ℕ) (value : Value) → IsReadAs (preprocessing_of flags) text read
@@ -118,16 +89,11 @@ no_memory flags text = record {
   listed = (omega arith, omega arith);
 }
 
-not_both : (place : Place) (text : List ℕ) → HasDoubleKeyAt place text → HasNoDoubleKey text → ⊥
-not_both place text h none = not_unique h.1.0 (path_of place) h.1.2 (none h.1.0 h.0 h.1.1)
-
 -- a text that preprocessing rejects is not read
-not_read : (preprocessing : Option Taking) (text read : List ℕ) → HasRejectedKey preprocessing text
-    → IsReadAs preprocessing text read → ⊥
-not_read None text read h is = h
-not_read (Some Distinct) text read h is = not_both h.0 text h.1 is.0
-not_read (Some Legacy) text read h is = h.1
-not_read (Some DistinctLegacy) text read h is = not_both h.0 text h.1 is.0
+not_read : ((j : Json) (path : List PathSegment) → DoubleAt j path → ¬ HasUniqueKeys j) → (preprocessing : Option Taking)
+    (text read : List ℕ) → HasRejectedKey preprocessing text → IsReadAs preprocessing text read → ⊥
+not_read twice None text read h is = h
+not_read twice (Some taking) text read h is = not_taken twice taking h.0 text read h.1 is
 
 rejected_key : (preprocessing : Option Taking) (fault : Error) (text : List ℕ) → IsUnread preprocessing fault text
     → fault ≢ OutOfMemory → HasRejectedKey preprocessing text
@@ -139,15 +105,16 @@ rejected_key (Some taking) (NoBytes why) text h some = absurd h
 rejected_key (Some taking) OutOfMemory text h some = absurd (some refl)
 rejected_key (Some taking) CannotWrite text h some = absurd h
 
-pub turned_away : (flags : ℕ) (fault : Error) (text : List ℕ) → IsUnread (preprocessing_of flags) fault text
-    → fault ≢ OutOfMemory → IsWithoutValue flags 4 text
-turned_away flags fault text h some =
+pub turned_away : ((j : Json) (path : List PathSegment) → DoubleAt j path → ¬ HasUniqueKeys j) → (flags : ℕ)
+    (fault : Error) (text : List ℕ) → IsUnread (preprocessing_of flags) fault text → fault ≢ OutOfMemory
+    → IsWithoutValue flags 4 text
+turned_away twice flags fault text h some =
     let key = rejected_key (preprocessing_of flags) fault text h some in
     record {
       not_json = λ is. absurd (omega (arith, is));
       bad_object_id = λ is. absurd (omega (arith, is));
       not_extended_json = λ is. inl key;
-      accepts = λ value means. absurd (not_read (preprocessing_of flags) text means.read key means.read_as);
+      accepts = λ value means. absurd (not_read twice (preprocessing_of flags) text means.read key means.read_as);
       listed = (omega arith, omega arith);
     }
 

@@ -1,8 +1,10 @@
 -- Strings that are written into a buffer of the caller's.
-use Rattle.std.specs.Prelude.{◌≡◌, ◌<◌, ◌≤◌, ◌++◌, ℕ, List, drop, length}
+use Rattle.std.specs.Prelude.{◌≡◌, ◌<◌, ◌≤◌, ◌++◌, ℕ, List, IsUtf8, drop, length}
 
--- the text is at the start of the buffer, the rest of the buffer is as before, and this is the length of the text
+-- the text, which is UTF-8, is at the start of the buffer, the rest of the buffer is as before, and this is the length of
+-- the text
 pub record IsPut (text before after : List ℕ) (len : ℕ) : Type 0 where
+  pub utf8 : IsUtf8 text
   pub fits : length text ≤ length before
   pub filled : after ≡ text ++ drop (length text) before
   pub count : len ≡ length text

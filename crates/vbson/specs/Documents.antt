@@ -1,5 +1,5 @@
 -- Documents by their bytes (BSON 1.1, bsonspec.org), and by their texts.
-use Rattle.std.specs.Prelude.{◌≡◌, ◌⊎◌, ◌≤◌, ℕ, List, [], ◌++◌, Some, codes, false, true}
+use Rattle.std.specs.Prelude.{◌≡◌, ◌⊎◌, ◌≤◌, ℕ, List, [], ◌++◌, IsUtf8, Some, codes, false, true}
 use Rattle.std.specs.Fmt.{decimal}
 use Rattle.bson.specs.Form.{Form}
 use Rattle.bson.specs.Form.TheVariants as form
@@ -58,12 +58,13 @@ pub record Decodes (k : KeyOrder) (o : Options) (mode : Mode) (bytes text : List
   pub read : IsRead depth bytes pairs
   pub written : IsTextOfDocument k o mode pairs text
 
--- the text that is left is that of the document in the mode of the number
+-- the text that is left is that of the document in the mode of the number, which is UTF-8
 pub record IsDecoded (k : KeyOrder) (o : Options) (number : ℕ) (bytes : List ℕ) (out : Text) : Type 0 where
   pub mode : Mode
   pub named : mode_at number ≡ Some mode
   pub text : List ℕ
   pub decodes : Decodes k o mode bytes text
+  pub utf8 : IsUtf8 text
   pub is_text : IsText text out
 
 -- the bytes are a document that has no text in the mode of the number
@@ -86,9 +87,9 @@ ExplainsDocument bytes words =
     (IsOneDocument bytes × (words ≡ []))
     ⊎ ((k : FaultKind) × (n : ℕ) × IsPlacedFault k n bytes (reads depth bytes) × (words ≡ words_at n (words_for k)))
 
--- the text that is left has such words
+-- the text that is left has such words, which are UTF-8
 abbrev pub IsDocumentExplained : List ℕ → Text → Type 0
-IsDocumentExplained bytes out = (words : List ℕ) × ExplainsDocument bytes words × IsText words out
+IsDocumentExplained bytes out = (words : List ℕ) × ExplainsDocument bytes words × IsUtf8 words × IsText words out
 
 -- ---- from a text to bytes
 

@@ -1,5 +1,5 @@
 -- A block of documents, one behind the other.
-use Rattle.std.specs.Prelude.{◌≡◌, ◌⊎◌, ℕ, List, ◌++◌, Some, length, true}
+use Rattle.std.specs.Prelude.{◌≡◌, ◌⊎◌, ℕ, IsUtf8, List, ◌++◌, Some, length, true}
 use Rattle.bson.specs.declared.extjson.options.Options.{Options}
 use Rattle.bson_codec.specs.Documents.{Dump, EndsInside, IsOfBytes}
 use Rattle.bson_codec.specs.Told.{told_of}
@@ -50,13 +50,16 @@ abbrev pub GivesDocuments : Run → (block output verdicts : List ℕ) → (coun
 GivesDocuments run block output verdicts count consumed =
     AreAll run block output verdicts count consumed ⊎ AreCut run block output verdicts count consumed
 
--- what is left is the output and the verdicts of the documents in the mode of the number, and these counts
+-- what is left is the output and the verdicts of the documents in the mode of the number, which are UTF-8, and these
+-- counts
 pub record AreDecoded (k : KeyOrder) (o : Options) (number : ℕ) (block : List ℕ) (out : given.Documents) : Type 0 where
   pub mode : Mode
   pub named : mode_at number ≡ Some mode
   pub text : List ℕ
   pub diagnostics : List ℕ
   pub gives : GivesDocuments (run_of k o mode) block text diagnostics out.documents out.consumed
+  pub utf8 : IsUtf8 text
+  pub told_utf8 : IsUtf8 diagnostics
   pub is_text : IsText text out.text
   pub are_diagnostics : IsText diagnostics out.diagnostics
 

@@ -1,5 +1,5 @@
 -- Why a text is refused, and where, in words.
-use Rattle.std.specs.Prelude.{◌≡◌, ◌≢◌, ◌⊎◌, ℕ, List, [], ◌++◌}
+use Rattle.std.specs.Prelude.{◌≡◌, ◌≢◌, ◌⊎◌, ℕ, IsUtf8, List, [], ◌++◌}
 use Rattle.bson.specs.TextMeaning.{HasTextMeaningIn}
 use Rattle.bson.specs.Value.{Value}
 use Rattle.bson.specs.declared.extjson.options.Options.{Options}
@@ -42,6 +42,6 @@ Explains flags text words =
     ((read : List ℕ) × IsReadAs (preprocessing_of flags) text read × ExplainsRead (options_of flags) read words)
     ⊎ RefusesFirst flags text words
 
--- the text that is left has such words
+-- the text that is left has such words, which are UTF-8
 abbrev pub IsExplained : ℕ → List ℕ → Text → Type 0
-IsExplained flags text out = (words : List ℕ) × Explains flags text words × IsText words out
+IsExplained flags text out = (words : List ℕ) × Explains flags text words × IsUtf8 words × IsText words out

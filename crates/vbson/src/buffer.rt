@@ -1,11 +1,12 @@
 //! Strings that are written into a buffer of the caller's.
-ghost use Rattle.std.specs.Prelude.{◌≡◌, ◌⊎◌};
+ghost use Rattle.std.specs.Prelude.{◌≡◌, ◌⊎◌, IsUtf8};
 ghost use Rattle.vbson.specs.Buffer.{DoesNotFit, IsPut};
 
 use crate::status;
 
-/// Writes the bytes at the start of the buffer if they fit, and sets `len` to their number.
+/// Writes the bytes of a string at the start of the buffer if they fit, and sets `len` to their number.
 pub fn put(bytes: &[u8], buffer: &mut [u8], len: &mut usize) -> u32
+    requires { IsUtf8 bytes.now }
     ensures done { result ≡ 0 → IsPut bytes.now buffer.old buffer.new len.new }
     ensures too_small { result ≡ 8 → DoesNotFit bytes.now buffer.old buffer.new len.new }
     ensures listed { (result ≡ 0) ⊎ (result ≡ 8) }

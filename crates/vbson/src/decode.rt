@@ -1,5 +1,5 @@
 //! The text of a document's bytes.
-ghost use Rattle.std.specs.Prelude.{◌≡◌, ◌⊎◌, ◌↔◌, ◌<◌, ◌≤◌, ◌++◌, List, ℕ, IfOk, IfErr, true};
+ghost use Rattle.std.specs.Prelude.{◌≡◌, ◌⊎◌, ◌↔◌, ◌<◌, ◌≤◌, ◌++◌, List, ℕ, IfOk, IfErr, IsUtf8, string_bytes, true};
 ghost use Rattle.bson.specs.View.{document_view};
 ghost use Rattle.bson_codec.specs.Laws.{IsRead};
 ghost use Rattle.bson_model.specs.Displayed.{display_text};
@@ -63,7 +63,7 @@ fn decode_document(
     mode: Mode,
     bytes: &[u8],
 ) -> Result<Vec<u8>, u32>
-    ensures ok { IfOk result (λ line. (text : List ℕ) × Decodes order options mode bytes.now text
+    ensures ok { IfOk result (λ line. (text : List ℕ) × Decodes order options mode bytes.now text × IsUtf8 text
         × (line.items ≡ text ++ newline)) }
     ensures refused { IfErr result (λ status. IsUndecoded options mode status bytes.now) }
 {
@@ -83,7 +83,7 @@ fn write_document(
     document: Document,
 ) -> Result<Vec<u8>, u32>
     ensures ok { IfOk result (λ line. (text : List ℕ)
-        × IsTextOfDocument order options mode (document_view document) text
+        × IsTextOfDocument order options mode (document_view document) text × IsUtf8 text
         × (line.items ≡ text ++ newline)) }
     ensures refused { IfErr result
         (λ status. (status ≡ 5) ⊎ ((status ≡ 7) × HasNoTextIn options mode (document_view document))) }
@@ -99,16 +99,24 @@ fn write_document(
         KeyOrder::AsGiven => value.into_text_in_order(alloc, options, form),
     };
     match text {
-        Ok(text) => as_line(text.into_bytes()),
+        Ok(text) => end_line(text),
         Err(WriteError::FiniteDouble) => Err(status::NOT_REPRESENTABLE),
         Err(WriteError::OutOfMemory) => Err(status::OUT_OF_MEMORY),
     }
 }
 
+// The text, and a newline.
+fn end_line(text: String) -> Result<Vec<u8>, u32>
+    ensures ok { IfOk result (λ line. IsUtf8 (string_bytes text) × (line.items ≡ string_bytes text ++ newline)) }
+    ensures refused { IfErr result (λ status. status ≡ 5) }
+{
+    as_line(text.into_bytes())
+}
+
 // The text that shows the document, and a newline.
 fn show_document(alloc: Global, document: &Document) -> Result<Vec<u8>, u32>
-    ensures ok { IfOk result
-        (λ line. line.items ≡ display_text (model.document (document_view document.now)) ++ newline) }
+    ensures ok { IfOk result (λ line. IsUtf8 (display_text (model.document (document_view document.now)))
+        × (line.items ≡ display_text (model.document (document_view document.now)) ++ newline)) }
     ensures refused { IfErr result (λ status. status ≡ 5) }
 {
     match format!(in alloc; "{document}\n") {

@@ -1,5 +1,5 @@
 //! Whether bytes are a document (BSON 1.1, bsonspec.org), and why not.
-ghost use Rattle.std.specs.Prelude.{◌≡◌, ◌⊎◌, ◌↔◌, ◌<◌, ◌++◌, List, ℕ, IfOk};
+ghost use Rattle.std.specs.Prelude.{◌≡◌, ◌⊎◌, ◌↔◌, ◌<◌, ◌++◌, List, ℕ, IfOk, IsUtf8};
 ghost use Rattle.bson_convert.specs.Convert.{newline};
 ghost use Rattle.vbson.specs.Documents.{ExplainsDocument, IsOneDocument, IsDocumentExplained, words_at};
 
@@ -44,7 +44,7 @@ pub extern "C" fn vbson_explain_document(
 // The words, and a newline.
 fn words_of(alloc: Global, bytes: &[u8]) -> Result<Vec<u8>, AllocError>
     ensures { IfOk result
-        (λ line. (words : List ℕ) × ExplainsDocument bytes.now words × (line.items ≡ words ++ newline)) }
+        (λ line. (words : List ℕ) × ExplainsDocument bytes.now words × IsUtf8 words × (line.items ≡ words ++ newline)) }
 {
     match is_document(bytes, DEPTH) {
         Ok(()) => Vec::from_slice(alloc, b"\n"),
@@ -58,7 +58,8 @@ fn words_of(alloc: Global, bytes: &[u8]) -> Result<Vec<u8>, AllocError>
 
 // The words for a fault before which so many bytes stand, and a newline.
 fn line_at(alloc: Global, offset: usize, words: &str) -> Result<Vec<u8>, AllocError>
-    ensures { IfOk result (λ line. line.items ≡ words_at offset words.now ++ newline) }
+    ensures { IfOk result (λ line. IsUtf8 (words_at offset words.now)
+        × (line.items ≡ words_at offset words.now ++ newline)) }
 {
     let line = format!(in alloc; "no document at byte {offset} ({words})\n")?;
     Ok(line.into_bytes())

@@ -1,5 +1,5 @@
 //! Why a text is refused, and where.
-ghost use Rattle.std.specs.Prelude.{◌≡◌, ◌⊎◌, ◌↔◌, ◌<◌, ◌++◌, List, ℕ, IfOk};
+ghost use Rattle.std.specs.Prelude.{◌≡◌, ◌⊎◌, ◌↔◌, ◌<◌, ◌++◌, List, ℕ, IfOk, IsUtf8};
 ghost use Rattle.bson_convert.specs.Convert.{newline};
 ghost use Rattle.bson_convert.specs.Words.{words_of};
 ghost use Rattle.bson_run.specs.Place.{IsWhere};
@@ -47,7 +47,7 @@ pub extern "C" fn vbson_explain(
 // The words, and a newline.
 fn line_of(alloc: Global, flags: u32, text: &[u8]) -> Result<Vec<u8>, AllocError>
     ensures { IfOk result
-        (λ line. (words : List ℕ) × Explains flags text.now words × (line.items ≡ words ++ newline)) }
+        (λ line. (words : List ℕ) × Explains flags text.now words × IsUtf8 words × (line.items ≡ words ++ newline)) }
 {
     match preprocess(alloc, preprocessing_of(flags), text) {
         Ok(Some(newer)) => line_of_read(alloc, options_of(flags), newer.as_bytes()),
@@ -59,8 +59,8 @@ fn line_of(alloc: Global, flags: u32, text: &[u8]) -> Result<Vec<u8>, AllocError
 
 // The words for the text that is read, and a newline.
 fn line_of_read(alloc: Global, options: Options, text: &[u8]) -> Result<Vec<u8>, AllocError>
-    ensures { IfOk result
-        (λ line. (words : List ℕ) × ExplainsRead options text.now words × (line.items ≡ words ++ newline)) }
+    ensures { IfOk result (λ line. (words : List ℕ) × ExplainsRead options text.now words × IsUtf8 words
+        × (line.items ≡ words ++ newline)) }
 {
     match convert_with(alloc, options, Mode::Canonical, text) {
         Ok(_) => Vec::from_slice(alloc, b"\n"),
@@ -72,7 +72,7 @@ fn line_of_read(alloc: Global, options: Options, text: &[u8]) -> Result<Vec<u8>,
 // The words for a fault of the text and for where it lies, and a newline.
 fn line_for(alloc: Global, fault: &Error, text: &[u8]) -> Result<Vec<u8>, AllocError>
     ensures { IfOk result (λ line. (place : List ℕ) × IsWhere text.now fault.now place
-        × (line.items ≡ (words_of fault.now ++ place) ++ newline)) }
+        × IsUtf8 (words_of fault.now ++ place) × (line.items ≡ (words_of fault.now ++ place) ++ newline)) }
 {
     let place = explain(alloc, fault, text)?;
     line_at(alloc, fault, &place)
@@ -80,7 +80,8 @@ fn line_for(alloc: Global, fault: &Error, text: &[u8]) -> Result<Vec<u8>, AllocE
 
 // The words for a fault and its place, and a newline.
 fn line_at(alloc: Global, fault: &Error, place: &str) -> Result<Vec<u8>, AllocError>
-    ensures { IfOk result (λ line. line.items ≡ (words_of fault.now ++ place.now) ++ newline) }
+    ensures { IfOk result (λ line. IsUtf8 (words_of fault.now ++ place.now)
+        × (line.items ≡ (words_of fault.now ++ place.now) ++ newline)) }
 {
     let words = fault.message();
     let line = format!(in alloc; "{words}{place}\n")?;

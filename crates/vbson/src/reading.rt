@@ -16,16 +16,28 @@ use bson_codec::de;
 use bson_codec::de::{DEPTH, ReadOptions, from_slice_with};
 use bson_convert::convert::error_of;
 use bson_convert::error::Error;
+use bson_distinct::laws::one_double;
 use bson_run::order::Taking;
 use bson_run::taken::take_as;
 use std::alloc::Global;
 
-/// Returns the value of a text, or the status of its first fault.
+/// Returns the value of a text.
+///
+/// # Errors
+///
+/// Returns the status of the first fault of the text.
+///
+/// - `NOT_JSON`: the text that is read is not one JSON text.
+/// - `BAD_OBJECT_ID`: the first fault is an invalid object id.
+/// - `NOT_EXTENDED_JSON`: the text has another first fault, or preprocessing rejects it.
+/// - `OUT_OF_MEMORY`: an allocation failed.
 pub fn value_of_text(alloc: Global, flags: u32, text: &[u8]) -> Result<Bson, u32>
     ensures ok { IfOk result (λ value. MeansUnder flags text.now (bson_view value)) }
     ensures one { (value : Value) → MeansUnder flags text.now value → IfOk result (λ v. value ≡ bson_view v) }
     ensures rejected { IfErr result (λ status. IsWithoutValue flags status text.now) }
 {
+    // A law: no text with a duplicate key has unique keys.
+    one_double();
     match preprocess(alloc, preprocessing_of(flags), text) {
         Ok(Some(newer)) => meaning_of(alloc, options_of(flags), newer.as_bytes()),
         Ok(None) => meaning_of(alloc, options_of(flags), text),
@@ -35,6 +47,11 @@ pub fn value_of_text(alloc: Global, flags: u32, text: &[u8]) -> Result<Bson, u32
 }
 
 /// Returns the text that is read in the place of a text, or `None` if the text itself is read.
+///
+/// # Errors
+///
+/// - `NotExtendedJson`: preprocessing rejects the text.
+/// - `OutOfMemory`: an allocation failed.
 pub fn preprocess(
     alloc: Global,
     preprocessing: Option<Taking>,
@@ -62,7 +79,12 @@ fn meaning_of(alloc: Global, options: Options, bytes: &[u8]) -> Result<Bson, u32
     }
 }
 
-/// Returns the document that bytes are, as a value, or a status.
+/// Returns the document that bytes are, as a value.
+///
+/// # Errors
+///
+/// - `NOT_A_DOCUMENT`: the bytes are not a document, or have a duplicate key that the flags reject.
+/// - `OUT_OF_MEMORY`: an allocation failed.
 pub fn value_of_document(alloc: Global, flags: u32, bytes: &[u8]) -> Result<Bson, u32>
     ensures ok { IfOk result (λ value. IsDocumentUnder flags bytes.now (bson_view value)) }
     ensures one { (value : Value) → IsDocumentUnder flags bytes.now value

@@ -41,3 +41,9 @@ pub const ZERO_IN_REGEX: u32 = 12;
 
 /// A part of the document is too long for BSON.
 pub const TOO_LONG: u32 = 13;
+
+/// The document does not contain the key, or no element is left.
+pub const NOT_FOUND: u32 = 14;
+
+/// The value has another type.
+pub const UNEXPECTED_TYPE: u32 = 15;

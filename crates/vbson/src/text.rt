@@ -27,7 +27,11 @@ pub fn text_of_line(mut line: Vec<u8>) -> Text<'static>
     }
 }
 
-/// The bytes, and a newline behind them; or the status of a call that has no memory for it.
+/// Appends a newline to the bytes.
+///
+/// # Errors
+///
+/// - `OUT_OF_MEMORY`: an allocation failed.
 pub fn as_line(mut bytes: Vec<u8>) -> Result<Vec<u8>, u32>
     ensures ok { IfOk result (λ line. line.items ≡ bytes.items ++ newline) }
     ensures refused { IfErr result (λ status. status ≡ 5) }

@@ -24,6 +24,14 @@ class Documents(ctypes.Structure):
     _fields_ = [("text", Buffer), ("diagnostics", Buffer), ("documents", ctypes.c_uint64), ("consumed", ctypes.c_uint64)]
 
 
+class Slice(ctypes.Structure):
+    _fields_ = [("bytes", ctypes.c_void_p), ("len", ctypes.c_size_t)]
+
+
+class RawValue(ctypes.Structure):
+    _fields_ = [("bytes", ctypes.c_void_p), ("size", ctypes.c_size_t), ("len", ctypes.c_size_t), ("type", ctypes.c_uint8)]
+
+
 def path():
     """Returns the path of the library, or its name for the system's loader."""
     named = os.environ.get("VBSON_LIBRARY")
@@ -60,6 +68,8 @@ def loaded():
         "hash_document": [number, text, size, out(ctypes.c_uint64)],
         "is_document": [text, size], "explain_document": [text, size, out(Buffer)],
         "decode": [number, number, text, size, out(Buffer)], "encode": [number, text, size, out(Buffer)],
+        "raw_get": [ctypes.c_void_p, size, text, size, out(RawValue)], "raw_elements": [ctypes.c_void_p, size, out(Slice)],
+        "raw_next": [out(Slice), out(Slice), out(RawValue)],
         "decimal128_parse": [text, size, text], "object_id_parse": [text, size, text],
         "date_time_parse": [text, size, out(ctypes.c_int64)], "decimal128_print": [text, text, size, out(size)],
         "object_id_print": [text, text, size, out(size)], "date_time_print": [ctypes.c_int64, text, size, out(size)],
@@ -99,6 +109,16 @@ _AT_NO_BYTES = ctypes.addressof(_NO_BYTES)
 def empty():
     """Returns a buffer without a block."""
     return Buffer(_AT_NO_BYTES, 0, 0)
+
+
+def no_slice():
+    """Returns a slice of no bytes."""
+    return Slice(_AT_NO_BYTES, 0)
+
+
+def no_value():
+    """Returns a value for calls to fill."""
+    return RawValue(_AT_NO_BYTES, 0, 0, 0)
 
 
 def taken(out):

@@ -27,6 +27,24 @@ pub struct RawDocuments {
     pub consumed: u64,
 }
 
+/// `vbson_slice`.
+#[repr(C)]
+#[derive(Clone, Copy)]
+pub struct RawSlice {
+    pub bytes: *const u8,
+    pub len: usize,
+}
+
+/// `vbson_raw_value`.
+#[repr(C)]
+#[derive(Clone, Copy)]
+pub struct RawValue {
+    pub bytes: *const u8,
+    pub size: usize,
+    pub len: usize,
+    pub kind: u8,
+}
+
 extern "C" {
     fn vbson_version() -> u32;
     fn vbson_convert(mode: u32, text: *const u8, len: usize, out: *mut RawText) -> u32;
@@ -43,6 +61,17 @@ extern "C" {
     fn vbson_encode(flags: u32, text: *const u8, len: usize, out: *mut RawText) -> u32;
     fn vbson_encode_lines(flags: u32, block: *const u8, len: usize, out: *mut RawLines) -> u32;
     fn vbson_decode_documents(mode: u32, flags: u32, block: *const u8, len: usize, out: *mut RawDocuments) -> u32;
+    fn vbson_raw_get(bytes: *const u8, len: usize, key: *const u8, key_len: usize, out: *mut RawValue) -> u32;
+    fn vbson_raw_elements(bytes: *const u8, len: usize, cursor: *mut RawSlice) -> u32;
+    fn vbson_raw_next(cursor: *mut RawSlice, key: *mut RawSlice, value: *mut RawValue) -> u32;
+    fn vbson_raw_int32(value: *const RawValue, out: *mut i32) -> u32;
+    fn vbson_raw_int64(value: *const RawValue, out: *mut i64) -> u32;
+    fn vbson_raw_double(value: *const RawValue, out: *mut u64) -> u32;
+    fn vbson_raw_boolean(value: *const RawValue, out: *mut u32) -> u32;
+    fn vbson_raw_string(value: *const RawValue, out: *mut RawSlice) -> u32;
+    fn vbson_raw_object_id(value: *const RawValue, out: *mut [u8; 12]) -> u32;
+    fn vbson_raw_date_time(value: *const RawValue, out: *mut i64) -> u32;
+    fn vbson_raw_binary(value: *const RawValue, subtype: *mut u32, out: *mut RawSlice) -> u32;
     fn vbson_decimal128_parse(text: *const u8, len: usize, out: *mut [u8; 16]) -> u32;
     fn vbson_decimal128_print(bytes: *const [u8; 16], buffer: *mut u8, size: usize, len: *mut usize) -> u32;
     fn vbson_object_id_parse(text: *const u8, len: usize, out: *mut [u8; 12]) -> u32;
@@ -65,6 +94,8 @@ const NOT_A_DOCUMENT: u32 = 10;
 const ZERO_IN_KEY: u32 = 11;
 const ZERO_IN_REGEX: u32 = 12;
 const TOO_LONG: u32 = 13;
+const NOT_FOUND: u32 = 14;
+const UNEXPECTED_TYPE: u32 = 15;
 
 /// The flag for finite doubles.
 pub const DOUBLES: u32 = 1;
@@ -98,7 +129,8 @@ fn expect_ok(status: u32) -> Result<(), ErrorKind> {
         ZERO_IN_REGEX => Err(ErrorKind::ZeroInRegex),
         TOO_LONG => Err(ErrorKind::TooLong),
         // `Mode`, `Options` and `ReadOptions` have no other number, `MAX_LENGTH` is enough, and `compared` looks for DIFFERENT.
-        INVALID_ARGUMENT | BUFFER_TOO_SMALL | DIFFERENT => unreachable!(),
+        // The calls on raw documents look for the last two.
+        INVALID_ARGUMENT | BUFFER_TOO_SMALL | DIFFERENT | NOT_FOUND | UNEXPECTED_TYPE => unreachable!(),
         other => unreachable!("status {other}"),
     }
 }
@@ -272,4 +304,79 @@ fn print(call: impl FnOnce(*mut u8, *mut usize) -> u32) -> Result<Printed, Error
     let mut len = 0;
     expect_ok(call(buffer.as_mut_ptr(), &mut len))?;
     Ok((buffer, len))
+}
+
+/// The slice that begins at an address of a larger one.
+///
+/// # Safety
+///
+/// The library returned the address and the length for a slice that lives as long.
+pub unsafe fn part<'a>(part: RawSlice) -> &'a [u8] {
+    std::slice::from_raw_parts(part.bytes, part.len)
+}
+
+const NO_SLICE: RawSlice = RawSlice { bytes: b"".as_ptr(), len: 0 };
+const NO_VALUE: RawValue = RawValue { bytes: b"".as_ptr(), size: 0, len: 0, kind: 0 };
+
+/// The value of the key, which points into the bytes.
+pub fn raw_get(bytes: &[u8], key: &[u8]) -> Option<RawValue> {
+    let mut out = NO_VALUE;
+    // SAFETY: the slices are readable, and `out` is a valid value that overlaps nothing.
+    let status = unsafe { vbson_raw_get(bytes.as_ptr(), bytes.len(), key.as_ptr(), key.len(), &mut out) };
+    (status == OK).then_some(out)
+}
+
+/// A cursor at the first element, which points into the bytes.
+pub fn raw_elements(bytes: &[u8]) -> RawSlice {
+    let mut cursor = NO_SLICE;
+    // SAFETY: as above. (If the bytes are too few, the cursor has no elements.)
+    unsafe { vbson_raw_elements(bytes.as_ptr(), bytes.len(), &mut cursor) };
+    cursor
+}
+
+/// The key and the value at the cursor, which moves past them.
+pub fn raw_next(cursor: &mut RawSlice) -> Option<(RawSlice, RawValue)> {
+    let (mut key, mut value) = (NO_SLICE, NO_VALUE);
+    // SAFETY: the cursor is that of `raw_elements`, whose bytes live.
+    let status = unsafe { vbson_raw_next(cursor, &mut key, &mut value) };
+    (status == OK).then_some((key, value))
+}
+
+fn typed<T>(mut out: T, call: impl FnOnce(*mut T) -> u32) -> Option<T> {
+    (call(&mut out) == OK).then_some(out)
+}
+
+pub fn raw_int32(value: &RawValue) -> Option<i32> {
+    // SAFETY: the value is one of the library, whose bytes live. So in the calls below.
+    typed(0, |out| unsafe { vbson_raw_int32(value, out) })
+}
+
+pub fn raw_int64(value: &RawValue) -> Option<i64> {
+    typed(0, |out| unsafe { vbson_raw_int64(value, out) })
+}
+
+pub fn raw_double(value: &RawValue) -> Option<f64> {
+    typed(0, |out| unsafe { vbson_raw_double(value, out) }).map(f64::from_bits)
+}
+
+pub fn raw_boolean(value: &RawValue) -> Option<bool> {
+    typed(0, |out| unsafe { vbson_raw_boolean(value, out) }).map(|it| it == 1)
+}
+
+pub fn raw_string(value: &RawValue) -> Option<RawSlice> {
+    typed(NO_SLICE, |out| unsafe { vbson_raw_string(value, out) })
+}
+
+pub fn raw_object_id(value: &RawValue) -> Option<[u8; 12]> {
+    typed([0; 12], |out| unsafe { vbson_raw_object_id(value, out) })
+}
+
+pub fn raw_date_time(value: &RawValue) -> Option<i64> {
+    typed(0, |out| unsafe { vbson_raw_date_time(value, out) })
+}
+
+pub fn raw_binary(value: &RawValue) -> Option<(u32, RawSlice)> {
+    let mut subtype = 0;
+    let bytes = typed(NO_SLICE, |out| unsafe { vbson_raw_binary(value, &mut subtype, out) })?;
+    Some((subtype, bytes))
 }

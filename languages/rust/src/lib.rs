@@ -25,12 +25,14 @@ mod error;
 #[cfg(feature = "serde_json")]
 pub mod json;
 mod lines;
+mod raw;
 mod scalar;
 mod text;
 
 pub use document::{decode, encode, explain_document, hash_document, is_document, same_documents, Bytes};
 pub use error::{Error, ErrorKind};
 pub use lines::{convert_lines, decode_documents, encode_lines, Documents, EncodedLines, Lines, RefusedDocument};
+pub use raw::{RawBsonRef, RawDocument, RawIter};
 pub use scalar::{DateTime, Decimal128, ObjectId};
 pub use text::{convert, convert_with, explain, hash, same, Mode, Options, ReadOptions, Text};
 

@@ -2,7 +2,7 @@
 use std::thread;
 use vbson::{convert, convert_lines, convert_with, decode, encode, explain, explain_document, hash, is_document, same, version};
 use vbson::{decode_documents, encode_lines, hash_document, same_documents, ReadOptions};
-use vbson::{DateTime, Decimal128, Error, ErrorKind, Mode, ObjectId, Options, Text};
+use vbson::{DateTime, Decimal128, Error, ErrorKind, Mode, ObjectId, Options, RawDocument, Text};
 
 #[test]
 fn texts_are_converted() {
@@ -253,4 +253,67 @@ fn eight_threads_convert_at_once() {
 /// The last of 2000 texts, which is then read on another thread.
 fn rounds(i: usize) -> Text {
     (0..2000).map(|n| convert(Mode::Relaxed, format!("[{i}, {n}]").as_bytes()).unwrap()).last().unwrap()
+}
+
+const SOME: &str = r#"{"at":{"$date":{"$numberLong":"-1"}},"big":{"$numberLong":"-7"},"double":1.5,"flag":true,
+    "id":{"$oid":"0102030405060708090a0b0c"},"inner":{"list":[null,{"x":1}],"n":6},"key":{"$binary":{"base64":"AAE=","subType":"05"}},
+    "n":5,"none":null,"string":"\u00e9\u0000"}"#;
+
+fn some() -> vbson::Bytes {
+    encode(Options { doubles: true, ..Options::default() }, SOME.as_bytes()).unwrap()
+}
+
+#[test]
+fn raw_documents_have_their_values() {
+    let bytes = some();
+    let document = RawDocument::new(&bytes).unwrap();
+    let get = |key| document.get(key).unwrap();
+    assert_eq!((get("n").as_i32(), get("big").as_i64(), get("double").as_f64(), get("flag").as_bool()), (Some(5), Some(-7), Some(1.5), Some(true)));
+    assert_eq!((get("string").as_str(), get("key").as_binary()), (Some("\u{e9}\0"), Some((5, &[0, 1][..]))));
+    assert_eq!(get("at").as_datetime(), Some(DateTime(-1)));
+    assert_eq!(get("id").as_object_id(), Some(ObjectId([1, 2, 3, 4, 5, 6, 7, 8, 9, 10, 11, 12])));
+    assert_eq!(get("none").element_type(), 0x0A);
+    assert!(document.get("absent").is_none() && document.get("").is_none() && document.get("n\0").is_none());
+    // Each value is of its own type alone.
+    for (key, value) in document.iter() {
+        let are = [value.as_i32().is_some(), value.as_i64().is_some(), value.as_f64().is_some(), value.as_bool().is_some(),
+            value.as_str().is_some(), value.as_object_id().is_some(), value.as_datetime().is_some(), value.as_binary().is_some(),
+            value.as_document().is_some(), value.as_array().is_some()];
+        assert_eq!(are.iter().filter(|it| **it).count(), usize::from(key != "none"), "{key}");
+        assert_eq!(value.element_type(), get(key).element_type());
+    }
+}
+
+#[test]
+fn raw_documents_nest() {
+    let bytes = some();
+    let document = RawDocument::new(&bytes).unwrap();
+    let keys: Vec<_> = document.iter().map(|(key, _)| key).collect();
+    assert_eq!(keys, ["at", "big", "double", "flag", "id", "inner", "key", "n", "none", "string"]);
+    let inner = document.get("inner").and_then(|it| it.as_document()).unwrap();
+    assert_eq!(inner.get("n").and_then(|it| it.as_i32()), Some(6));
+    assert!(inner.get("none").is_none() && inner.get("list").unwrap().as_document().is_none());
+    let list: Vec<_> = inner.get("list").and_then(|it| it.as_array()).unwrap().iter().map(|(_, value)| value).collect();
+    assert_eq!((list.len(), list[0].element_type()), (2, 0x0A));
+    assert_eq!(list[1].as_document().unwrap().iter().next().and_then(|(_, it)| it.as_i32()), Some(1));
+    assert_eq!(document.as_bytes(), &*bytes);
+    assert_eq!(&*decode(Mode::Relaxed, Options::default(), inner.as_bytes()).unwrap(), r#"{"list":[null,{"x":1}],"n":6}"#);
+}
+
+#[test]
+fn raw_documents_are_checked_once() {
+    let bytes = some();
+    for len in 0..bytes.len() {
+        assert_eq!(kind(RawDocument::new(&bytes[..len])), Some(ErrorKind::NotADocument));
+    }
+    let more = [&bytes[..], &[0]].concat();
+    assert_eq!(kind(RawDocument::new(&more)), Some(ErrorKind::NotADocument));
+    // {"a": 1, "a": 2, "b": true}
+    let twice = [0x17, 0, 0, 0, 0x10, b'a', 0, 1, 0, 0, 0, 0x10, b'a', 0, 2, 0, 0, 0, 8, b'b', 0, 1, 0];
+    let document = RawDocument::new(&twice).unwrap();
+    assert_eq!(document.get("a").and_then(|it| it.as_i32()), Some(2));
+    let numbers: Vec<_> = document.iter().map(|(key, value)| (key, value.as_i32())).collect();
+    assert_eq!(numbers, [("a", Some(1)), ("a", Some(2)), ("b", None)]);
+    let empty = RawDocument::new(&[5, 0, 0, 0, 0]).unwrap();
+    assert!(empty.get("a").is_none() && empty.iter().next().is_none());
 }

@@ -116,11 +116,13 @@ impl<'a> Entry<'a> {
         }
     }
 
-    /// The value at the key, to be written; where the document lacked the key, the pair of the key
-    /// and `default` is put last.
+    /// Returns the value at the key, to write. If the key is absent, it is inserted last with
+    /// `default`. An occupied entry needs no memory.
     ///
-    /// An occupied entry takes no memory and answers the value that is there. Where memory is
-    /// refused the document is as it was.
+    /// # Errors
+    ///
+    /// Returns `AllocError` if a request for memory is refused. The key is then absent, and the
+    /// document is unchanged.
     pub fn or_insert(self, default: Bson) -> Result<&'a mut Bson, AllocError>
         ensures* writes_back { sem 𝓛 (entry_lends self.entry result) }
         ensures value { IfOk result (λ x. x.now ≡ unwrap_or (entry_value self.entry) default) }
@@ -135,12 +137,16 @@ impl<'a> Entry<'a> {
         }
     }
 
-    /// The value at the key, to be written; where the document lacked the key, the pair of the key
-    /// and what `default` returns is put last.
+    /// Returns the value at the key, to write. If the key is absent, it is inserted last with the
+    /// result of `default`.
     ///
-    /// An occupied entry takes no memory, doesn't call `default` and answers the value that is
-    /// there. A vacant one calls it once, before the document grows; where memory is refused the
-    /// document is as it was.
+    /// An occupied entry needs no memory, and does not call `default`. A vacant entry calls it
+    /// once, before the document grows.
+    ///
+    /// # Errors
+    ///
+    /// Returns `AllocError` if a request for memory is refused. The key is then absent, `default`
+    /// was called, and the document is unchanged.
     pub fn or_insert_with<F: FnOnce() -> Bson>(self, default: F) -> Result<&'a mut Bson, AllocError>
         requires { entry_value self ≡ None → F.pre default }
         ensures* writes_back { sem 𝓛 (entry_lends self.entry result) }

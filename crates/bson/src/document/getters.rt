@@ -53,14 +53,23 @@ impl Document {
     ghost use Rattle.bson.specs.Kinds.{string_of};
     ghost use Rattle.bson.specs.Kinds.{bytes_of, timestamp_of};
 
-    /// The pattern of the double at the key.
+    /// Returns the pattern of the double at the key.
+    ///
+    /// # Errors
+    ///
+    /// - `NotPresent`: the key is absent.
+    /// - `UnexpectedType`: the value of the key is of another kind.
     pub fn get_f64(&self, key: &str) -> ValueAccessResult<u64>
         ensures { result ≡ held_at double_of key.now self.now }
     {
         Ok(*self.kind_at::<u64>(key)?)
     }
 
-    /// The pattern of the double at the key, to write.
+    /// Returns the pattern of the double at the key, to write.
+    ///
+    /// # Errors
+    ///
+    /// The errors of [`Document::get_f64`].
     pub fn get_f64_mut(&mut self, key: &str) -> ValueAccessResult<&mut u64>
         ensures* writes_back { sem 𝓛 (LendsAtKey double_row value.Double self.entry self.old key.now result) }
         ensures value { ok_copied_mut result ≡ held_at double_of key.now self.old }
@@ -68,7 +77,12 @@ impl Document {
         self.kind_at_mut::<u64>(key)
     }
 
-    /// The string at the key.
+    /// Returns the string at the key.
+    ///
+    /// # Errors
+    ///
+    /// - `NotPresent`: the key is absent.
+    /// - `UnexpectedType`: the value of the key is of another kind.
     pub fn get_str(&self, key: &str) -> ValueAccessResult<&str>
         ensures { ok_copied result ≡ held_at (bytes_of string_of) key.now self.now }
     {
@@ -76,7 +90,11 @@ impl Document {
         Ok(text.as_str())
     }
 
-    /// The string at the key, to write.
+    /// Returns the string at the key, to write.
+    ///
+    /// # Errors
+    ///
+    /// The errors of [`Document::get_str`].
     pub fn get_str_mut(&mut self, key: &str) -> ValueAccessResult<&mut String>
         ensures* writes_back { sem 𝓛 (LendsAtKey string_row value.String self.entry self.old key.now result) }
         ensures value { ok_copied_mut result ≡ held_at string_of key.now self.old }
@@ -84,14 +102,23 @@ impl Document {
         self.kind_at_mut::<String>(key)
     }
 
-    /// The array at the key.
+    /// Returns the array at the key.
+    ///
+    /// # Errors
+    ///
+    /// - `NotPresent`: the key is absent.
+    /// - `UnexpectedType`: the value of the key is of another kind.
     pub fn get_array(&self, key: &str) -> ValueAccessResult<&Array>
         ensures { ok_copied result ≡ held_at array_of key.now self.now }
     {
         self.kind_at::<Array>(key)
     }
 
-    /// The array at the key, to write.
+    /// Returns the array at the key, to write.
+    ///
+    /// # Errors
+    ///
+    /// The errors of [`Document::get_array`].
     pub fn get_array_mut(&mut self, key: &str) -> ValueAccessResult<&mut Array>
         ensures* writes_back { sem 𝓛 (LendsAtKey array_row value.Array self.entry self.old key.now result) }
         ensures value { ok_copied_mut result ≡ held_at array_of key.now self.old }
@@ -99,29 +126,41 @@ impl Document {
         self.kind_at_mut::<Array>(key)
     }
 
-    /// The document at the key.
+    /// Returns the document at the key.
+    ///
+    /// # Errors
+    ///
+    /// - `NotPresent`: the key is absent.
+    /// - `UnexpectedType`: the value of the key is of another kind.
     pub fn get_document(&self, key: &str) -> ValueAccessResult<&Document>
         ensures { ok_copied result ≡ held_at document_of key.now self.now }
     {
         self.kind_at::<Document>(key)
     }
 
-    /// The document at the key, to write.
+    /// Returns the document at the key, to write.
     ///
-    /// Nothing is promised of this document after the call, also where it is refused: its contract
-    /// can't say so in this form. [`Document::change_document`] promises it whole, and so do
-    /// [`Document::get_mut`] and then [`Bson::as_document_mut`](crate::Bson::as_document_mut).
+    /// The contract does not say what this document is after the call, even if the call fails.
+    /// [`Document::change_document`] says it in full, and so do [`Document::get_mut`] and then
+    /// [`Bson::as_document_mut`](crate::Bson::as_document_mut).
+    ///
+    /// # Errors
+    ///
+    /// The errors of [`Document::get_document`].
     pub fn get_document_mut(&mut self, key: &str) -> ValueAccessResult<&mut Document>
         ensures value { ok_copied_mut result ≡ held_at document_of key.now self.old }
     {
         self.kind_at_mut::<Document>(key)
     }
 
-    /// Calls `change` on the document at the key, and answers what that returned.
+    /// Calls `change` on the document at the key, and returns its result. The document that
+    /// `change` leaves becomes the value of the key. The key keeps its position, and the other
+    /// pairs are unchanged.
     ///
-    /// The document that `change` leaves becomes the value of the key; the key keeps its place, and
-    /// the other pairs stay. Where the call is refused, `change` was not called and this document
-    /// is as it was.
+    /// # Errors
+    ///
+    /// The errors of [`Document::get_document`]. `change` was then not called, and this document is
+    /// unchanged.
     pub fn change_document<U, F: FnOnce(&mut Document) -> U>(
         &mut self,
         key: &str,
@@ -145,14 +184,23 @@ impl Document {
         }
     }
 
-    /// The boolean at the key.
+    /// Returns the boolean at the key.
+    ///
+    /// # Errors
+    ///
+    /// - `NotPresent`: the key is absent.
+    /// - `UnexpectedType`: the value of the key is of another kind.
     pub fn get_bool(&self, key: &str) -> ValueAccessResult<bool>
         ensures { result ≡ held_at boolean_of key.now self.now }
     {
         Ok(*self.kind_at::<bool>(key)?)
     }
 
-    /// The boolean at the key, to write.
+    /// Returns the boolean at the key, to write.
+    ///
+    /// # Errors
+    ///
+    /// The errors of [`Document::get_bool`].
     pub fn get_bool_mut(&mut self, key: &str) -> ValueAccessResult<&mut bool>
         ensures* writes_back { sem 𝓛 (LendsAtKey boolean_row value.Boolean self.entry self.old key.now result) }
         ensures value { ok_copied_mut result ≡ held_at boolean_of key.now self.old }
@@ -160,14 +208,23 @@ impl Document {
         self.kind_at_mut::<bool>(key)
     }
 
-    /// The number of 32 bits at the key.
+    /// Returns the number of 32 bits at the key.
+    ///
+    /// # Errors
+    ///
+    /// - `NotPresent`: the key is absent.
+    /// - `UnexpectedType`: the value of the key is of another kind.
     pub fn get_i32(&self, key: &str) -> ValueAccessResult<i32>
         ensures { result ≡ held_at int32_of key.now self.now }
     {
         Ok(*self.kind_at::<i32>(key)?)
     }
 
-    /// The number of 32 bits at the key, to write.
+    /// Returns the number of 32 bits at the key, to write.
+    ///
+    /// # Errors
+    ///
+    /// The errors of [`Document::get_i32`].
     pub fn get_i32_mut(&mut self, key: &str) -> ValueAccessResult<&mut i32>
         ensures* writes_back { sem 𝓛 (LendsAtKey int32_row value.Int32 self.entry self.old key.now result) }
         ensures value { ok_copied_mut result ≡ held_at int32_of key.now self.old }
@@ -175,14 +232,23 @@ impl Document {
         self.kind_at_mut::<i32>(key)
     }
 
-    /// The number of 64 bits at the key.
+    /// Returns the number of 64 bits at the key.
+    ///
+    /// # Errors
+    ///
+    /// - `NotPresent`: the key is absent.
+    /// - `UnexpectedType`: the value of the key is of another kind.
     pub fn get_i64(&self, key: &str) -> ValueAccessResult<i64>
         ensures { result ≡ held_at int64_of key.now self.now }
     {
         Ok(*self.kind_at::<i64>(key)?)
     }
 
-    /// The number of 64 bits at the key, to write.
+    /// Returns the number of 64 bits at the key, to write.
+    ///
+    /// # Errors
+    ///
+    /// The errors of [`Document::get_i64`].
     pub fn get_i64_mut(&mut self, key: &str) -> ValueAccessResult<&mut i64>
         ensures* writes_back { sem 𝓛 (LendsAtKey int64_row value.Int64 self.entry self.old key.now result) }
         ensures value { ok_copied_mut result ≡ held_at int64_of key.now self.old }
@@ -190,14 +256,23 @@ impl Document {
         self.kind_at_mut::<i64>(key)
     }
 
-    /// The timestamp at the key.
+    /// Returns the timestamp at the key.
+    ///
+    /// # Errors
+    ///
+    /// - `NotPresent`: the key is absent.
+    /// - `UnexpectedType`: the value of the key is of another kind.
     pub fn get_timestamp(&self, key: &str) -> ValueAccessResult<Timestamp>
         ensures { result ≡ held_at timestamp_of key.now self.now }
     {
         Ok(*self.kind_at::<Timestamp>(key)?)
     }
 
-    /// The timestamp at the key, to write.
+    /// Returns the timestamp at the key, to write.
+    ///
+    /// # Errors
+    ///
+    /// The errors of [`Document::get_timestamp`].
     pub fn get_timestamp_mut(&mut self, key: &str) -> ValueAccessResult<&mut Timestamp>
         ensures* writes_back { sem 𝓛 (LendsAtKey timestamp_row value.Timestamp self.entry self.old key.now result) }
         ensures value { ok_copied_mut result ≡ held_at timestamp_of key.now self.old }
@@ -205,15 +280,23 @@ impl Document {
         self.kind_at_mut::<Timestamp>(key)
     }
 
-    /// The bytes of the binary of subtype `Generic` at the key.
-    /// A binary of another subtype, `UserDefined(0)` among them, is of another kind here.
+    /// Returns the bytes of the binary of subtype `Generic` at the key.
+    ///
+    /// # Errors
+    ///
+    /// - `NotPresent`: the key is absent.
+    /// - `UnexpectedType`: the value is of another kind or subtype, for example `UserDefined(0)`.
     pub fn get_binary_generic(&self, key: &str) -> ValueAccessResult<&Vec<u8>>
         ensures { ok_copied result ≡ held_at generic_of key.now self.now }
     {
         self.kind_at::<Vec<u8>>(key)
     }
 
-    /// The bytes of the binary of subtype `Generic` at the key, to write.
+    /// Returns the bytes of the binary of subtype `Generic` at the key, to write.
+    ///
+    /// # Errors
+    ///
+    /// The errors of [`Document::get_binary_generic`].
     pub fn get_binary_generic_mut(&mut self, key: &str) -> ValueAccessResult<&mut Vec<u8>>
         ensures* writes_back { sem 𝓛 (LendsAtKey bytes_row generic self.entry self.old key.now result) }
         ensures value { ok_copied_mut result ≡ held_at generic_of key.now self.old }
@@ -221,14 +304,23 @@ impl Document {
         self.kind_at_mut::<Vec<u8>>(key)
     }
 
-    /// The object id at the key.
+    /// Returns the object id at the key.
+    ///
+    /// # Errors
+    ///
+    /// - `NotPresent`: the key is absent.
+    /// - `UnexpectedType`: the value of the key is of another kind.
     pub fn get_object_id(&self, key: &str) -> ValueAccessResult<ObjectId>
         ensures { result ≡ held_at object_id_of key.now self.now }
     {
         Ok(*self.kind_at::<ObjectId>(key)?)
     }
 
-    /// The object id at the key, to write.
+    /// Returns the object id at the key, to write.
+    ///
+    /// # Errors
+    ///
+    /// The errors of [`Document::get_object_id`].
     pub fn get_object_id_mut(&mut self, key: &str) -> ValueAccessResult<&mut ObjectId>
         ensures* writes_back { sem 𝓛 (LendsAtKey object_id_row value.ObjectId self.entry self.old key.now result) }
         ensures value { ok_copied_mut result ≡ held_at object_id_of key.now self.old }
@@ -236,14 +328,23 @@ impl Document {
         self.kind_at_mut::<ObjectId>(key)
     }
 
-    /// The moment at the key.
+    /// Returns the moment at the key.
+    ///
+    /// # Errors
+    ///
+    /// - `NotPresent`: the key is absent.
+    /// - `UnexpectedType`: the value of the key is of another kind.
     pub fn get_datetime(&self, key: &str) -> ValueAccessResult<&DateTime>
         ensures { ok_copied result ≡ held_at date_of key.now self.now }
     {
         self.kind_at::<DateTime>(key)
     }
 
-    /// The moment at the key, to write.
+    /// Returns the moment at the key, to write.
+    ///
+    /// # Errors
+    ///
+    /// The errors of [`Document::get_datetime`].
     pub fn get_datetime_mut(&mut self, key: &str) -> ValueAccessResult<&mut DateTime>
         ensures* writes_back { sem 𝓛 (LendsAtKey date_row value.DateTime self.entry self.old key.now result) }
         ensures value { ok_copied_mut result ≡ held_at date_of key.now self.old }
@@ -251,14 +352,23 @@ impl Document {
         self.kind_at_mut::<DateTime>(key)
     }
 
-    /// The decimal at the key.
+    /// Returns the decimal at the key.
+    ///
+    /// # Errors
+    ///
+    /// - `NotPresent`: the key is absent.
+    /// - `UnexpectedType`: the value of the key is of another kind.
     pub fn get_decimal128(&self, key: &str) -> ValueAccessResult<&Decimal128>
         ensures { ok_copied result ≡ held_at decimal_of key.now self.now }
     {
         self.kind_at::<Decimal128>(key)
     }
 
-    /// The decimal at the key, to write.
+    /// Returns the decimal at the key, to write.
+    ///
+    /// # Errors
+    ///
+    /// The errors of [`Document::get_decimal128`].
     pub fn get_decimal128_mut(&mut self, key: &str) -> ValueAccessResult<&mut Decimal128>
         ensures* writes_back { sem 𝓛 (LendsAtKey decimal_row value.Decimal128 self.entry self.old key.now result) }
         ensures value { ok_copied_mut result ≡ held_at decimal_of key.now self.old }

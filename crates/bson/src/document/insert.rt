@@ -35,10 +35,13 @@ pub struct Refused {
 }
 
 impl Document {
-    /// Puts the value at the key, and returns the one that was there. A key that is there keeps its
-    /// place, takes no memory and succeeds; a new one goes last.
+    /// Puts the value at the key, and returns the old value of that key. A key that is present
+    /// keeps its position and needs no memory. A new key goes last.
     ///
-    /// Where memory is refused it hands the pair back, and the document is as it was.
+    /// # Errors
+    ///
+    /// Returns `Refused` with the pair if a request for memory is refused. The key is then absent,
+    /// and the document is unchanged.
     pub fn insert(&mut self, key: String, value: Bson) -> Result<Option<Bson>, Refused>
         ensures old { IfOk result (λ old. old ≡ get (string_bytes key) (contents self.old)) }
         ensures put { OnOk result (contents self.new ≡ insert_pair (string_bytes key) value (contents self.old)) }
@@ -83,8 +86,10 @@ impl Document {
 
     /// Puts each pair in turn, as `insert` does.
     ///
-    /// Where memory is refused it stops and hands the refused pair back: the document then has
-    /// exactly the pairs before it put in.
+    /// # Errors
+    ///
+    /// Returns `Refused` with the pair for which a request for memory is refused. Its key is then
+    /// absent, and exactly the pairs before it were put.
     pub fn extend<I: Iterator<Item = (String, Bson)> + Drop>(
         &mut self,
         items: I,
@@ -106,10 +111,12 @@ impl Document {
         Ok(())
     }
 
-    /// The document of the pairs, put in turn: of a key that comes twice the last value stays, in
-    /// the place of the first.
+    /// Makes the document of the pairs, which are put in turn. If a key is duplicated, its last
+    /// value wins, at its first position.
     ///
-    /// Where memory is refused it hands the refused pair back.
+    /// # Errors
+    ///
+    /// Returns `Refused` with the pair for which a request for memory is refused. Its key was new.
     pub fn from_pairs<I: Iterator<Item = (String, Bson)> + Drop>(
         alloc: Global,
         items: I,
@@ -129,12 +136,15 @@ impl Document {
         Ok(document)
     }
 
-    /// The document of the entries, put in turn: of a key that comes twice the last value stays, in
-    /// the place of the first.
+    /// Makes the document of the entries, which are put in turn. If a key is duplicated, its last
+    /// value wins, at its first position.
     ///
-    /// Entries whose keys ascend become the document as they stand, in the memory that they have, and
-    /// so do others, more than sixteen, of which no key stands twice: no key is copied. Where memory is
-    /// refused they are dropped.
+    /// Entries in ascending key order become the document without a copy, in the memory that they
+    /// have. More than sixteen entries without a duplicate key do too.
+    ///
+    /// # Errors
+    ///
+    /// Returns `AllocError` if a request for memory is refused. The entries are then dropped.
     ///
     /// ```
     /// let mut entries = Vec::new(alloc);

@@ -24,16 +24,23 @@ use serde_json::{Map, Value};
 use std::alloc::Global;
 
 impl Bson {
-    /// The value that the tree means by the full grammar of Extended JSON (MongoDB Extended JSON
-    /// v2), in either form or mixed.
+    /// Returns the value that the tree means by the full grammar of Extended JSON (MongoDB Extended
+    /// JSON v2), in either form or mixed.
     ///
-    /// An object with a wrapper key has exactly the shape of that wrapper, or is refused. A refusal
-    /// tells the first fault: of an array's elements in order, of a document's values by ascending
-    /// key, of a wrapper as a whole. It is `InvalidObjectId` where the text of an object id alone
-    /// is wrong, else `DeserializationError`.
+    /// An object with a wrapper key must have exactly the shape of that wrapper.
     ///
-    /// What is read comes back from the compact text of its tree in either form, unless that nests
-    /// more than 127 deep.
+    /// What is read reads back from the compact text of its tree in either form, unless that text
+    /// nests more than 127 deep.
+    ///
+    /// # Errors
+    ///
+    /// Returns the first fault: an array's elements are read in order, a document's values in
+    /// ascending key order, and a wrapper as a whole.
+    ///
+    /// - `InvalidObjectId`: the text of an object id is wrong, and everything else of its wrapper
+    ///   is right.
+    /// - `DeserializationError`: the tree has another fault.
+    /// - `OutOfMemory`: a request for memory was refused.
     pub fn try_from_value(alloc: Global, value: Value) -> Result<Bson>
         ensures ok { IfOk result (λ v. HasMeaning (view value) (bson_view v)) }
         ensures accepts { (v : model.Value) → Means (view value) v → Gives bson_view result (Ok v) }
@@ -44,10 +51,15 @@ impl Bson {
         read(alloc, Doubles::Special, value)
     }
 
-    /// The value that the tree means, read as the options say; otherwise as `try_from_value`.
+    /// Returns the value that the tree means, read as the options say, otherwise as
+    /// `try_from_value`.
     ///
-    /// Where finite doubles are read, a number that is no i64 is the double nearest to it, and
-    /// `$numberDouble` holds any decimal number whose nearest double is finite.
+    /// With `Doubles::Finite` a number that is not an i64 is the double nearest to it.
+    /// `$numberDouble` is then any decimal number whose nearest double is finite.
+    ///
+    /// # Errors
+    ///
+    /// The errors of `try_from_value`.
     pub fn try_from_value_with(alloc: Global, options: Options, value: Value) -> Result<Bson>
         ensures ok { IfOk result (λ v. HasMeaningIn options.doubles (view value) (bson_view v)) }
         ensures accepts { (v : model.Value) → MeansIn options.doubles (view value) v → Gives bson_view result (Ok v) }
@@ -58,7 +70,11 @@ impl Bson {
         read(alloc, options.doubles, value)
     }
 
-    /// The value that the map means, as `try_from_value` of the object.
+    /// Returns the value that the map means, as `try_from_value` reads the object.
+    ///
+    /// # Errors
+    ///
+    /// The errors of `try_from_value`.
     pub fn try_from_map(alloc: Global, map: Map<String, Value>) -> Result<Bson>
         ensures ok { IfOk result (λ v. HasMeaning (object (members_view map.entries)) (bson_view v)) }
         ensures accepts { (v : model.Value) → Means (object (members_view map.entries)) v
@@ -70,7 +86,11 @@ impl Bson {
         Bson::try_from_value(alloc, Value::Object(map))
     }
 
-    /// The value that the map means, as `try_from_value_with` of the object.
+    /// Returns the value that the map means, as `try_from_value_with` reads the object.
+    ///
+    /// # Errors
+    ///
+    /// The errors of `try_from_value`.
     pub fn try_from_map_with(
         alloc: Global,
         options: Options,
@@ -89,11 +109,17 @@ impl Bson {
 }
 
 impl Document {
-    /// The document of the map: its keys in ascending order of bytes, each with the meaning of its
-    /// value.
+    /// Returns the document of the map: its keys in ascending order of bytes, each with the meaning
+    /// of its value. The map's own keys are not tested, so they may be wrapper keys.
     ///
-    /// The map's own keys are not tested, so that it may have wrapper keys. A refusal tells the
-    /// fault of the value at the least key whose value has no meaning.
+    /// # Errors
+    ///
+    /// Returns the fault of the value at the least key whose value has no meaning.
+    ///
+    /// - `InvalidObjectId`: the text of an object id is wrong, and everything else of its wrapper
+    ///   is right.
+    /// - `DeserializationError`: the value has another fault.
+    /// - `OutOfMemory`: a request for memory was refused.
     pub fn try_from_map(alloc: Global, map: Map<String, Value>) -> Result<Document>
         ensures ok { IfOk result (λ v. HasDocumentMeaning (members_view map.entries) (document_view v)) }
         ensures accepts { (ps : Pairs) → MeansDocument (members_view map.entries) ps
@@ -106,7 +132,11 @@ impl Document {
         read_members(alloc, Doubles::Special, map)
     }
 
-    /// The document of the map, read as the options say; otherwise as `try_from_map`.
+    /// Returns the document of the map, read as the options say, otherwise as `try_from_map`.
+    ///
+    /// # Errors
+    ///
+    /// The errors of `try_from_map`.
     pub fn try_from_map_with(
         alloc: Global,
         options: Options,

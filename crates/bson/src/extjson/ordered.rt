@@ -16,14 +16,18 @@ use bson_scalar::write_error::WriteError;
 use std::alloc::Global;
 
 impl Bson {
-    /// The compact text of the value in a form (MongoDB Extended JSON v2), in which each document
-    /// has its keys in its own order, at every depth.
+    /// Writes the compact text of the value in a form (MongoDB Extended JSON v2). Each document has
+    /// its keys in its own order, at every depth.
     ///
-    /// With the order forgotten it is the tree that [`Bson::into_extjson_with`] makes, whose keys
-    /// ascend. Inside a wrapper the order is the form's own, as `$code` before `$scope`; a scope is
-    /// a document, and keeps its order. A value that holds a finite double other than zero, at any
-    /// depth, is refused as `FiniteDouble`, unless the options say `Doubles::Finite`, and running
-    /// out of memory is `OutOfMemory`.
+    /// Apart from the order of keys, its tree is the one that [`Bson::into_extjson_with`] makes,
+    /// whose keys ascend. Inside a wrapper the order is the form's own, for example `$code` before
+    /// `$scope`. A scope is a document, and keeps its order.
+    ///
+    /// # Errors
+    ///
+    /// - `FiniteDouble`: the value contains a finite double other than zero, with
+    ///   `Doubles::Special`.
+    /// - `OutOfMemory`: a request for memory was refused.
     ///
     /// ```
     /// let orders = Bson::string(alloc, "orders")?;
@@ -52,7 +56,11 @@ impl Bson {
         text_of(alloc, options.doubles, KeyOrder::AsGiven, form, self)
     }
 
-    /// [`Bson::to_text_in_order`] of a value that is then dropped.
+    /// Writes the text of [`Bson::to_text_in_order`], and drops the value.
+    ///
+    /// # Errors
+    ///
+    /// The errors of [`Bson::to_text_in_order`].
     pub fn into_text_in_order(
         self,
         alloc: Global,

@@ -21,12 +21,16 @@ use serde_json::Value;
 use std::alloc::Global;
 
 impl Bson {
-    /// The canonical tree of the value (MongoDB Extended JSON v2), which keeps every type.
+    /// Makes the canonical tree of the value (MongoDB Extended JSON v2), which keeps every type.
     ///
-    /// It is the tree of the value's normal form: the options of a regular expression sorted, a NaN
-    /// as its sign's one pattern, a binary's subtype as its byte reads, a decimal in its canonical
-    /// pattern. A value that holds a finite double other than zero, at any depth, is refused as
-    /// `FiniteDouble`.
+    /// It is the tree of the value's normal form. The options of a regular expression are sorted,
+    /// and a NaN is its sign's one pattern. A binary's subtype is as its byte reads, and a decimal
+    /// has its canonical pattern.
+    ///
+    /// # Errors
+    ///
+    /// - `FiniteDouble`: the value contains a finite double other than zero.
+    /// - `OutOfMemory`: a request for memory was refused.
     pub fn into_canonical_extjson(self, alloc: Global) -> Result<Value, WriteError>
         ensures tree { IfOk result (λ t. IsTreeOf Canonical (bson_view self) (view t)) }
         ensures reads_again { IfOk result (λ t. ReadsAgain Canonical (bson_view self) (view t)) }
@@ -38,12 +42,14 @@ impl Bson {
         self.into_extjson(alloc, Doubles::Special, Form::Canonical)
     }
 
-    /// The relaxed tree of the value (MongoDB Extended JSON v2), with plain numbers and readable
-    /// dates.
+    /// Makes the relaxed tree of the value (MongoDB Extended JSON v2), with plain numbers and
+    /// readable dates. It reads back as the normal form in which each `Int64` that fits an i32 is
+    /// the `Int32`.
     ///
-    /// Read again it gives the normal form in which each `Int64` that fits an i32 is the `Int32`. A
-    /// value that holds a finite double other than zero, at any depth, is refused as
-    /// `FiniteDouble`.
+    /// # Errors
+    ///
+    /// - `FiniteDouble`: the value contains a finite double other than zero.
+    /// - `OutOfMemory`: a request for memory was refused.
     pub fn into_relaxed_extjson(self, alloc: Global) -> Result<Value, WriteError>
         ensures tree { IfOk result (λ t. IsTreeOf Relaxed (bson_view self) (view t)) }
         ensures reads_again { IfOk result (λ t. ReadsAgain Relaxed (bson_view self) (view t)) }
@@ -55,13 +61,19 @@ impl Bson {
         self.into_extjson(alloc, Doubles::Special, Form::Relaxed)
     }
 
-    /// The tree of the value in a form (MongoDB Extended JSON v2), with the doubles that the options
-    /// name.
+    /// Makes the tree of the value in a form (MongoDB Extended JSON v2), with the doubles that the
+    /// options name.
     ///
-    /// With `Doubles::Finite` every value has a tree, in which a finite double is its shortest
-    /// decimal, as in `{"$numberDouble": "12.5"}`, and in the relaxed form a number; only running
-    /// out of memory may come in its place. With `Doubles::Special` it is
-    /// [`Bson::into_canonical_extjson`] or [`Bson::into_relaxed_extjson`].
+    /// With `Doubles::Finite` every value has a tree. A finite double is its shortest decimal, for
+    /// example `{"$numberDouble": "12.5"}`, and a number in the relaxed form. With
+    /// `Doubles::Special` it is the tree of [`Bson::into_canonical_extjson`] or
+    /// [`Bson::into_relaxed_extjson`].
+    ///
+    /// # Errors
+    ///
+    /// - `FiniteDouble`: the value contains a finite double other than zero, with
+    ///   `Doubles::Special`.
+    /// - `OutOfMemory`: a request for memory was refused.
     pub fn into_extjson_with(
         self,
         alloc: Global,
@@ -92,11 +104,13 @@ impl Bson {
         write(alloc, doubles, form, self)
     }
 
-    /// The compact text of the canonical tree of the value, as [`Bson::into_canonical_extjson`]
-    /// makes it and `serde_json` writes it. It is written straight from the value, with no tree.
+    /// Writes the compact text of the canonical tree of the value, as
+    /// [`Bson::into_canonical_extjson`] makes it and `serde_json` writes it. No tree is made.
     ///
-    /// A value that holds a finite double other than zero, at any depth, is refused as
-    /// `FiniteDouble`, and running out of memory is `OutOfMemory`.
+    /// # Errors
+    ///
+    /// - `FiniteDouble`: the value contains a finite double other than zero.
+    /// - `OutOfMemory`: a request for memory was refused.
     pub fn to_canonical_text(&self, alloc: Global) -> Result<String, WriteError>
         ensures text { IfOk result (λ s. IsTextIn Canonical (bson_view self.now) (string_bytes s)) }
         ensures ranged { OnOk result (InRange (bson_view self.now)) }
@@ -106,7 +120,11 @@ impl Bson {
         self.to_text(alloc, Doubles::Special, Form::Canonical)
     }
 
-    /// [`Bson::to_canonical_text`] of a value that is then dropped.
+    /// Writes the text of [`Bson::to_canonical_text`], and drops the value.
+    ///
+    /// # Errors
+    ///
+    /// The errors of [`Bson::to_canonical_text`].
     pub fn into_canonical_text(self, alloc: Global) -> Result<String, WriteError>
         ensures text { IfOk result (λ s. IsTextIn Canonical (bson_view self) (string_bytes s)) }
         ensures ranged { OnOk result (InRange (bson_view self)) }
@@ -116,11 +134,13 @@ impl Bson {
         self.to_canonical_text(alloc)
     }
 
-    /// The compact text of the relaxed tree of the value, as [`Bson::into_relaxed_extjson`] makes
-    /// it and `serde_json` writes it. It is written straight from the value, with no tree.
+    /// Writes the compact text of the relaxed tree of the value, as [`Bson::into_relaxed_extjson`]
+    /// makes it and `serde_json` writes it. No tree is made.
     ///
-    /// A value that holds a finite double other than zero, at any depth, is refused as
-    /// `FiniteDouble`, and running out of memory is `OutOfMemory`.
+    /// # Errors
+    ///
+    /// - `FiniteDouble`: the value contains a finite double other than zero.
+    /// - `OutOfMemory`: a request for memory was refused.
     pub fn to_relaxed_text(&self, alloc: Global) -> Result<String, WriteError>
         ensures text { IfOk result (λ s. IsTextIn Relaxed (bson_view self.now) (string_bytes s)) }
         ensures ranged { OnOk result (InRange (bson_view self.now)) }
@@ -130,7 +150,11 @@ impl Bson {
         self.to_text(alloc, Doubles::Special, Form::Relaxed)
     }
 
-    /// [`Bson::to_relaxed_text`] of a value that is then dropped.
+    /// Writes the text of [`Bson::to_relaxed_text`], and drops the value.
+    ///
+    /// # Errors
+    ///
+    /// The errors of [`Bson::to_relaxed_text`].
     pub fn into_relaxed_text(self, alloc: Global) -> Result<String, WriteError>
         ensures text { IfOk result (λ s. IsTextIn Relaxed (bson_view self) (string_bytes s)) }
         ensures ranged { OnOk result (InRange (bson_view self)) }
@@ -140,12 +164,17 @@ impl Bson {
         self.to_relaxed_text(alloc)
     }
 
-    /// The compact text of the tree of the value in a form, as [`Bson::into_extjson_with`] makes it.
-    /// It is the one that `serde_json` writes, but that a number that is a double is its shortest
-    /// decimal: `1e16`, and not `1e+16`. It is written straight from the value, with no tree.
+    /// Writes the compact text of the tree of the value in a form, as [`Bson::into_extjson_with`]
+    /// makes it. No tree is made.
     ///
-    /// With `Doubles::Finite` every value has a text, and only running out of memory may come in
-    /// its place.
+    /// It is the text that `serde_json` writes, except that a number that is a double is its
+    /// shortest decimal: `1e16`, and not `1e+16`. With `Doubles::Finite` every value has a text.
+    ///
+    /// # Errors
+    ///
+    /// - `FiniteDouble`: the value contains a finite double other than zero, with
+    ///   `Doubles::Special`.
+    /// - `OutOfMemory`: a request for memory was refused.
     ///
     /// ```
     /// let options = Options {
@@ -171,7 +200,11 @@ impl Bson {
         self.to_text(alloc, options.doubles, form)
     }
 
-    /// [`Bson::to_text_with`] of a value that is then dropped.
+    /// Writes the text of [`Bson::to_text_with`], and drops the value.
+    ///
+    /// # Errors
+    ///
+    /// The errors of [`Bson::to_text_with`].
     pub fn into_text_with(
         self,
         alloc: Global,

@@ -5,9 +5,12 @@ ghost use Rattle.bson_store.specs.Small.{stored_pairs, KeysAscend};
 use crate::small::{Pair, SmallPairs};
 
 impl<V: Drop> SmallPairs<V> {
-    /// The store of the pairs, in the block of memory that they stand in, which keeps no unused
-    /// room. Where a key isn't above the one before it, by their bytes, the pairs come back as they
-    /// were.
+    /// Makes a store of the pairs in their own block of memory, and frees its unused room.
+    ///
+    /// # Errors
+    ///
+    /// Returns the pairs unchanged if a key is not above the key before it, compared by their
+    /// bytes.
     pub fn try_from_ascending(mut pairs: Vec<Pair<V>>) -> Result<SmallPairs<V>, Vec<Pair<V>>>
         ensures ok { IfOk result (λ store. store ≡ stored_pairs pairs.items) }
         ensures ascending { IfOk result (λ _. KeysAscend (stored_pairs pairs.items)) }

@@ -10,12 +10,16 @@ use crate::sorted::sorted_places;
 use std::alloc::{AllocError, Global};
 
 impl<V: Drop> SmallPairs<V> {
-    /// The store of the pairs, put in turn: of a key that comes twice the last value stays, in the
-    /// place of the first.
+    /// Makes a store of the pairs, which are put in turn. If a key is duplicated, its last value
+    /// wins, at its first position.
     ///
-    /// Pairs whose keys ascend become the store as they stand, in the memory that they have, and so
-    /// do others, more than sixteen, of which no key stands twice: their places are sorted, and no
-    /// key is copied. Where memory is refused the pairs are dropped.
+    /// Pairs in ascending key order become the store without a copy, in the memory that they have.
+    /// More than sixteen pairs without a duplicate key do too: their places are sorted, and no key
+    /// is copied.
+    ///
+    /// # Errors
+    ///
+    /// Returns `AllocError` if a request for memory is refused. The pairs are then dropped.
     ///
     /// ```
     /// let mut pairs = Vec::new(alloc);

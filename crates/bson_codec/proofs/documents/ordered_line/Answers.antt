@@ -1,4 +1,4 @@
-use Rattle.std.proofs.Common.{◌≡◌, ◌++◌, string_bytes}
+use Rattle.std.proofs.Common.{◌≡◌, ◌++◌, IsUtf8, string_bytes}
 use Rattle.std.proofs.lemmas.Result.{IfOk-weaker}
 use Rattle.bson_codec.specs.Documents.{IsLine}
 use Rattle.bson_codec.specs.Told.{newline}
@@ -8,7 +8,7 @@ use Rattle.bson_codec.proofs.documents.ordered_line.Goals as goal
 pub returns-in-Ok-clause-ok : goal.returns-in-Ok-clause-ok
 returns-in-Ok-clause-ok c =
     let text = string_bytes c.in-Ok.text in
-    IfOk-weaker c.end_line.result (λ line. line.items ≡ text ++ newline)
+    IfOk-weaker c.end_line.result (λ line. (line.items ≡ text ++ newline) × IsUtf8 line.items)
     (λ line. IsLine c.args.run c.args.bytes.now line.items)
     (λ line is. line_is c.args.run c.args.form c.args.bytes.now text line.items c.requires c.in-Finite.is c.in-Ok.ensures.ok is)
     c.end_line.ensures.ok

@@ -5,7 +5,7 @@ use Rattle.std.specs.Option.{IfSome}
 use Rattle.bson_lines.specs.Order.{AreGiven, none}
 use Rattle.bson_run.specs.Words.{task_name}
 use Rattle.bson_lines.specs.declared.arguments.Given.{Given}
-use Rattle.bson_lines.proofs.Asking.{answer, help_there, more_given, still_there, version_there, word_there}
+use Rattle.bson_lines.proofs.Asking.{answer, former_there, help_there, more_given, still_there, version_there, word_there}
 use Rattle.bson_lines.proofs.order.parse_arguments.Goals as goal
 
 pub returns-in-Help : goal.returns-in-Help
@@ -21,6 +21,13 @@ returns-in-Version c =
     let there = word_there string_bytes c.args.words.items c.deref-word-items.result.now _ _ _
     c.deref-word-items.ensures.value (omega arith) c.word-item.is c.as_str.ensures.value in
     version_there words c.as_str.result.now c.in_ok-take.field-0 there c.in_ok-take.ensures.help c.in-Version.is
+
+pub returns-in-Former : goal.returns-in-Former
+returns-in-Former c =
+    let words = map string_bytes c.args.words.items in
+    let there = word_there string_bytes c.args.words.items c.deref-word-items.result.now _ _ _
+    c.deref-word-items.ensures.value (omega arith) c.word-item.is c.as_str.ensures.value in
+    former_there words c.as_str.result.now c.in_ok-take.field-0 there c.in_ok-take.ensures.help c.in-Former.is
 
 pub loop-word-preserved : goal.loop-word-preserved
 loop-word-preserved c =

@@ -1,4 +1,4 @@
-use Rattle.std.proofs.Common.{◌≡◌, ◌++◌, ℕ, List, None, Some, IfOk, subst, sym}
+use Rattle.std.proofs.Common.{◌≡◌, ◌++◌, ℕ, IsUtf8, List, None, Some, IfOk, subst, sym}
 use Rattle.std.proofs.lemmas.Result.{IfOk-weaker}
 use Rattle.std.specs.Prelude.{string_bytes}
 use Rattle.bson_convert.specs.Convert.{newline}
@@ -52,9 +52,10 @@ returns-in-Err-2 c =
     let text = c.args.text.now in
     let fault = c.in-Err.fault in
     IfOk-weaker c.line_for.result
-    (λ line. (place : List ℕ) × IsWhere text fault place × (line.items ≡ (words_of fault ++ place) ++ newline))
+    (λ line. (place : List ℕ) × IsWhere text fault place × IsUtf8 (words_of fault ++ place)
+    × (line.items ≡ (words_of fault ++ place) ++ newline))
     (λ line. IsLineUnder flags text line.items)
     (λ line h. refused_first flags fault text h.0 line.items
     (subst (λ p. IsUnread p fault text) c.preprocessing_of.ensures c.in-Err.ensures.rejected)
-    c.if-is_memory.ensures h.1 h.2)
+    c.if-is_memory.ensures h.1 h.2 h.3)
     c.line_for.ensures

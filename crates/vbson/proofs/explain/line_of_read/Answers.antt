@@ -1,4 +1,4 @@
-use Rattle.std.proofs.Common.{rules, ◌≡◌, ◌++◌, ℕ, List}
+use Rattle.std.proofs.Common.{rules, ◌≡◌, ◌++◌, ℕ, IsUtf8, List}
 use Rattle.std.proofs.lemmas.Result.{IfOk-weaker}
 use Rattle.bson_convert.specs.Convert.{newline}
 use Rattle.bson_convert.specs.Words.{words_of}
@@ -24,7 +24,8 @@ returns c =
     let text = c.args.text.now in
     let fault = c.in-Err.fault in
     IfOk-weaker c.line_for.result
-    (λ line. (place : List ℕ) × IsWhere text fault place × (line.items ≡ (words_of fault ++ place) ++ newline))
+    (λ line. (place : List ℕ) × IsWhere text fault place × IsUtf8 (words_of fault ++ place)
+    × (line.items ≡ (words_of fault ++ place) ++ newline))
     (λ line. IsLine c.args.options text line.items)
-    (λ line is. refused c.args.options fault text is.0 line.items c.in-Err.ensures.fault (told c) is.1 is.2)
+    (λ line is. refused c.args.options fault text is.0 line.items c.in-Err.ensures.fault (told c) is.1 is.2 is.3)
     c.line_for.ensures

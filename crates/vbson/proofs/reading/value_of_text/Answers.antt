@@ -48,5 +48,5 @@ pub returns-in-Err-2-clause-rejected : goal.returns-in-Err-2-clause-rejected
 returns-in-Err-2-clause-rejected c =
     let text = c.args.text.now in
     let fault = c.in-Err.fault in
-    turned_away c.args.flags fault text
+    turned_away c.one_double.ensures.twice c.args.flags fault text
     (subst (λ p. IsUnread p fault text) c.preprocessing_of.ensures c.in-Err.ensures.rejected) c.if-is_memory.ensures

@@ -1,6 +1,10 @@
-use Rattle.std.proofs.Common.{length, ap, arith}
+use Rattle.std.proofs.Common.{IsUtf8, length, ap, arith, subst, sym}
+use Rattle.std.proofs.lemmas.Str.{IsUtf8-string_bytes}
 use Rattle.bson_decimal.proofs.Offered.{display_text-length}
 use Rattle.vbson.proofs.scalars.vbson_decimal128_print.Goals as goal
+
+pub put-requires : goal.put-requires
+put-requires c = subst IsUtf8 (sym c.as_bytes.ensures.value) (IsUtf8-string_bytes c.in-Ok.text)
 
 pub returns-in-Ok-clause-fits : goal.returns-in-Ok-clause-fits
 returns-in-Ok-clause-fits c enough is =

@@ -10,8 +10,8 @@ use Rattle.bson_run.proofs.gathered.Gathered.end_line.Goals.{in-Err+in_ok-refuse
 pub returns-clause-ok : goal.returns-clause-ok
 returns-clause-ok c =
     let self = c.args.self.now in
-    let text : c.text.result.now ≡ text_of self.lines self.line.items =
-    c.text.ensures ∙ ap (text_of self.lines) c.deref.ensures.value in
+    let text : c.text-line.result.now ≡ text_of self.lines self.line.items =
+    c.text-line.ensures ∙ ap (text_of self.lines) c.deref.ensures.value in
     elim c.match-judge.branch [
       | in-Ok-None w ↦
           blank_taken self _ c.clear.ensures.items (ap (λ (s : Gathered). s.lines + 1) w.self-is)
@@ -27,7 +27,7 @@ returns-clause-ok c =
           (ap (λ (s : Gathered). s.told.items) w.self-is ∙ ap (λ v. v.items) added.same.1)
           (ap (λ (s : Gathered). s.refused) w.self-is ∙ added.same.3)
           (subst (λ x. WritesIn c.args.asked.options c.args.asked.task x w.in-Ok-Some.output.items) text
-          (subst (λ some. IfSome some (λ output. WritesIn c.args.asked.options c.args.asked.task c.text.result.now output.items))
+          (subst (λ some. IfSome some (λ output. WritesIn c.args.asked.options c.args.asked.task c.text-line.result.now output.items))
           w.in-Ok-Some.field-0-is w.in-Ok-Some.ensures.ok))
           (λ writes. subst (λ some. IfSome some (λ output. IsUtf8 output.items)) w.in-Ok-Some.field-0-is
           (w.in-Ok-Some.ensures.utf8 writes))

@@ -1,0 +1,76 @@
+#!/usr/bin/env python3
+"""Times documents that remain bytes beside libbson, on 10 MB and on 200 KB of orders of twenty keys.
+
+    bench/raw.py
+
+A C program (raw.c) over languages/out/lib/libvbson.a and libbson reads the value of one key of each document, and then all
+elements: the nanoseconds of processor time per document, the least of 25 rounds in turns. Needs ./vbson build, Debian's
+libbson-dev, a C compiler and pkg-config.
+"""
+import os
+import random
+import struct
+import subprocess
+import sys
+import tempfile
+
+sys.dont_write_bytecode = True
+
+from bytes import array, document, element, int32, int64, text
+from run import BYTES, HERE, TOP
+
+OUT = f"{TOP}/languages/out"
+# The documents of the larger size come from memory, and those of the smaller one from the processor's cache.
+SIZES, ROUNDS = (10_000_000, 200_000), 1 if BYTES else 25
+KEYS = (("the first", "_id"), ("the tenth", "status"), ("the last", "lines"), ("none", "absent"))
+
+
+def order(rng):
+    """An order of twenty keys, some 600 bytes."""
+    line = document(element(0x02, "sku", text("%08x" % rng.getrandbits(32))), element(0x10, "count", int32(3)),
+                    element(0x12, "cents", int64(rng.getrandbits(40))))
+    address = document(element(0x02, "street", text("Long Street %d" % rng.randrange(200))), element(0x02, "city", text("Springfield")),
+                       element(0x02, "zip", text("%05d" % rng.randrange(10**5))))
+    return document(
+        element(0x07, "_id", rng.randbytes(12)), element(0x10, "number", int32(rng.randrange(10**9))),
+        element(0x02, "customer", text("x" * rng.randrange(4, 40))), element(0x02, "email", text("somebody@example.com")),
+        element(0x09, "created", int64(rng.randrange(10**12, 2 * 10**12))), element(0x09, "updated", int64(rng.randrange(10**12, 2 * 10**12))),
+        element(0x08, "paid", bytes([rng.getrandbits(1)])), element(0x01, "total", struct.pack("<d", rng.uniform(1, 1000))),
+        element(0x02, "currency", text("EUR")), element(0x02, "status", text("shipped")),
+        element(0x03, "billing", address), element(0x03, "shipping", address),
+        element(0x05, "key", struct.pack("<IB", 16, 0) + rng.randbytes(16)), element(0x0A, "note", b""),
+        element(0x11, "stamp", struct.pack("<II", 1, 2)), element(0x12, "points", int64(rng.getrandbits(40))),
+        element(0x10, "version", int32(3)), element(0x08, "gift", b"\0"),
+        element(0x04, "tags", array(0x02, [text("a"), text("bb"), text("ccc")])),
+        element(0x04, "lines", array(0x03, [line, line])))
+
+
+def orders(size):
+    """At least so many bytes of orders."""
+    rng, made = random.Random(1), bytearray()
+    while len(made) < size:
+        made += order(rng)
+    return bytes(made)
+
+
+def main():
+    if not os.path.exists(f"{OUT}/lib/libvbson.a"):
+        raise SystemExit("bench/raw.py: there is no languages/out/lib/libvbson.a: run ./vbson build")
+    flags = subprocess.run(["pkg-config", "--cflags", "--libs", "libbson-1.0"], capture_output=True, text=True)
+    if flags.returncode != 0:
+        raise SystemExit("bench/raw.py: no libbson-1.0 (Debian's libbson-dev)")
+    with tempfile.TemporaryDirectory() as room:
+        words = ["cc", "-O2", f"-I{OUT}/include", f"{HERE}/raw.c", "-o", f"{room}/raw", f"{OUT}/lib/libvbson.a", *flags.stdout.split()]
+        subprocess.run(words, check=True)
+        print("| MB | Key | `vbson_raw_get`, ns | `bson_iter_init_find`, ns | Ratio | all by `vbson_raw_next`, ns | by `bson_iter_next`, ns | Ratio | `vbson_is_document`, ns |\n"
+              "|---|---|---|---|---|---|---|---|---|")
+        for size in [BYTES] if BYTES else SIZES:
+            dump = orders(size)
+            for name, key in KEYS:
+                ran = subprocess.run([f"{room}/raw", key, str(ROUNDS if size > 10**6 or BYTES else 20 * ROUNDS)], input=dump, capture_output=True, check=True)
+                get, find, ours, theirs, check = map(float, ran.stdout.split())
+                print(f"| {size / 1e6:g} | {name} | {get:.0f} | {find:.0f} | {get / find:.2f} | {ours:.0f} | {theirs:.0f} | {ours / theirs:.2f} | {check:.0f} |", flush=True)
+
+
+if __name__ == "__main__":
+    main()

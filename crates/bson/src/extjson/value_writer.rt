@@ -1,0 +1,243 @@
+//! Values in memory that a text is read into.
+ghost use Rattle.std.specs.Prelude.{◌≡◌, ◌++◌, ◌∷◌, [], string_bytes, IfOk, OnOk, IfErr};
+ghost use Rattle.bson_filter.specs.Exact.{TextDenied};
+ghost use Rattle.bson_filter.specs.Stops.{MayStop};
+ghost use Rattle.bson.specs.Gathered.{gathered_pairs};
+ghost use Rattle.bson.specs.Pushed.{Pushed, key_in, document_by};
+ghost use Rattle.bson.specs.TextMeaning.{HasTextMeaningBy};
+ghost use Rattle.bson.specs.View.{bson_view, document_view};
+
+use crate::bson::Bson;
+use crate::document::Document;
+use crate::extjson::builder::with_scope;
+use crate::extjson::key_order::KeyOrder;
+use crate::extjson::scalars::of_scalar;
+use crate::extjson::text_reader::members::of_members;
+use bson_filter::stop::Stop;
+use bson_filter::walk::write_text;
+use bson_filter::writer::ValueWriter;
+use bson_scalar::form::Doubles;
+use bson_scalar::scalar::Scalar;
+use bson_store::Pair;
+use itoa::Buffer;
+use json::Scratch;
+use std::alloc::{AllocError, Global};
+use std::mem::replace;
+
+/// Makes values in memory.
+#[derive(Drop)]
+pub(crate) struct BsonWriter {
+    pub(crate) alloc: Global,
+    pub(crate) order: KeyOrder,
+    // The innermost array or document that is open. Outside of them, and around a scope, it is an
+    // array.
+    pub(crate) container: Container,
+    // The key of the document that begins next.
+    pub(crate) key: String,
+}
+
+/// The values so far of an array or a document.
+#[derive(Drop)]
+pub(crate) enum Container {
+    Array(Vec<Bson>),
+    Document(Vec<Pair<Bson>>),
+}
+
+/// The container around an array, a document or code, and its key there.
+#[derive(Drop)]
+pub(crate) struct Begun {
+    pub(crate) outer: Container,
+    pub(crate) key: String,
+}
+
+impl BsonWriter {
+    // Returns a copy of the name if the container has keys.
+    fn key_of(&self, name: &str) -> Result<String, AllocError>
+        ensures { IfOk result (λ key. key_in self.now.container (string_bytes key) ≡ key_in self.now.container name.now) }
+    {
+        match &self.container {
+            Container::Array(_) => Ok(String::new(self.alloc)),
+            Container::Document(_) => String::from_str(self.alloc, name),
+        }
+    }
+
+    fn push(&mut self, key: String, value: Bson) -> Result<(), Stop>
+        ensures pushed { OnOk result (Pushed self.old (string_bytes key) value self.new) }
+        ensures stops { IfErr result (MayStop (λ D. ⊥)) }
+    {
+        match &mut self.container {
+            Container::Array(items) => push_to(items, value),
+            Container::Document(entries) => push_to(entries, Pair { key, value }),
+        }
+    }
+
+    fn push_under(&mut self, name: &str, value: Bson) -> Result<(), Stop>
+        ensures pushed { OnOk result (Pushed self.old name.now value self.new) }
+        ensures stops { IfErr result (MayStop (λ D. ⊥)) }
+    {
+        let key = self.key_of(name)?;
+        self.push(key, value)
+    }
+}
+
+fn push_to<T: Drop>(list: &mut Vec<T>, value: T) -> Result<(), Stop>
+    ensures pushed { OnOk result (list.new.items ≡ list.old.items ++ value ∷ []) }
+    ensures stops { IfErr result (MayStop (λ D. ⊥)) }
+{
+    let Ok(()) = list.push(value) else {
+        return Err(Stop::OutOfMemory);
+    };
+    Ok(())
+}
+
+impl ValueWriter for BsonWriter {
+    type Open = Begun;
+
+    ghost use Rattle.bson.specs.Pushed.{ValuePushed, DocumentPushed, ArrayBegun, DocumentBegun, CodeBegun};
+
+    ghost leaves = { λ D. ⊥ };
+
+    ghost sorts = { ⊥ };
+
+    ghost name_of = { λ n. [] };
+
+    ghost wrote = { λ old k v new. ValuePushed old k v new };
+
+    ghost framed = { λ old ps new. DocumentPushed old ps new };
+
+    ghost listed = { λ old k begun new. ArrayBegun old k begun new };
+
+    ghost opened = { λ old begun new. DocumentBegun old begun new };
+
+    ghost keyed = { λ old k new. new ≡ old };
+
+    ghost coded = { λ old k s begun new. CodeBegun old k s begun new };
+
+    fn string(&mut self, name: &str, text: &str) -> Result<(), Stop> {
+        let text = String::from_str(self.alloc, text)?;
+        self.push_under(name, Bson::String(text))
+    }
+
+    fn boolean(&mut self, name: &str, truth: bool) -> Result<(), Stop> {
+        self.push_under(name, Bson::Boolean(truth))
+    }
+
+    fn null(&mut self, name: &str) -> Result<(), Stop> {
+        self.push_under(name, Bson::Null)
+    }
+
+    fn scalar(&mut self, name: &str, value: Scalar) -> Result<(), Stop> {
+        self.push_under(name, of_scalar(value))
+    }
+
+    fn item_name<'b>(_buffer: &'b mut Buffer, _place: usize) -> &'b str {
+        ""
+    }
+
+    fn begin_array(&mut self, name: &str) -> Result<Begun, Stop> {
+        let key = self.key_of(name)?;
+        let items = Container::Array(Vec::new(self.alloc));
+        let outer = replace(&mut self.container, items);
+        Ok(Begun { outer, key })
+    }
+
+    fn end_array(&mut self, begun: Begun) -> Result<(), Stop> {
+        let Begun { outer, key } = begun;
+        let Container::Array(mut items) = replace(&mut self.container, outer) else {
+            unreachable!()
+        };
+        items.shrink_to_fit();
+        self.push(key, Bson::Array(items))
+    }
+
+    fn embed(&mut self, name: &str) -> Result<(), Stop> {
+        self.key = self.key_of(name)?;
+        Ok(())
+    }
+
+    fn begin(&mut self) -> Result<Begun, Stop> {
+        let key = replace(&mut self.key, String::new(self.alloc));
+        let entries = Container::Document(Vec::new(self.alloc));
+        let outer = replace(&mut self.container, entries);
+        Ok(Begun { outer, key })
+    }
+
+    fn key(&mut self, _name: &str) -> Result<(), Stop> {
+        Ok(())
+    }
+
+    fn end(&mut self, begun: Begun, _keys: &mut [&str]) -> Result<(), Stop> {
+        let Begun { outer, key } = begun;
+        let Container::Document(entries) = replace(&mut self.container, outer) else {
+            unreachable!()
+        };
+        let document = document_of(self.alloc, self.order, entries)?;
+        self.push(key, Bson::Document(document))
+    }
+
+    fn begin_code(&mut self, name: &str, code: &str) -> Result<Begun, Stop> {
+        let key = self.key_of(name)?;
+        let items = Container::Array(Vec::new(self.alloc));
+        let outer = replace(&mut self.container, items);
+        let code = String::from_str(self.alloc, code)?;
+        self.push_under("", Bson::JavaScriptCode(code))?;
+        Ok(Begun { outer, key })
+    }
+
+    fn end_code(&mut self, begun: Begun) -> Result<(), Stop> {
+        let Begun { outer, key } = begun;
+        let Container::Array(mut items) = replace(&mut self.container, outer) else {
+            unreachable!()
+        };
+        let Some(Bson::Document(scope)) = items.pop() else {
+            unreachable!()
+        };
+        let Some(Bson::JavaScriptCode(code)) = items.pop() else {
+            unreachable!()
+        };
+        self.push(key, with_scope(code, scope))
+    }
+}
+
+// Makes the document of the entries. If a key is duplicated, its last value wins.
+fn document_of(
+    alloc: Global,
+    order: KeyOrder,
+    entries: Vec<Pair<Bson>>,
+) -> Result<Document, AllocError>
+    ensures { IfOk result (λ document. document_view document ≡ document_by order (gathered_pairs entries.items)) }
+{
+    match order {
+        KeyOrder::Ascending => of_members(alloc, entries),
+        KeyOrder::AsGiven => Document::from_entries(alloc, entries),
+    }
+}
+
+/// Reads the value of the text, each document with its keys in the order.
+pub(crate) fn read_once(
+    alloc: Global,
+    doubles: Doubles,
+    order: KeyOrder,
+    text: &str,
+) -> Result<Bson, Stop>
+    ensures ok { IfOk result (λ v. HasTextMeaningBy order doubles text.now (bson_view v)) }
+    ensures stops { IfErr result (λ e. TextDenied doubles ⊥ ⊥ e text.now) }
+{
+    let mut writer = BsonWriter {
+        alloc,
+        order,
+        container: Container::Array(Vec::new(alloc)),
+        key: String::new(alloc),
+    };
+    let mut scratch = Scratch::new(alloc);
+    write_text(alloc, doubles, text, &mut scratch, &mut writer)?;
+    drop(scratch);
+    let BsonWriter { container, .. } = writer;
+    let Container::Array(mut items) = container else {
+        unreachable!()
+    };
+    match items.pop() {
+        Some(value) => Ok(value),
+        None => unreachable!(),
+    }
+}

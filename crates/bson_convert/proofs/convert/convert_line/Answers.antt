@@ -1,0 +1,28 @@
+use Rattle.bson_tokens.proofs.Offered.{if_ok}
+use Rattle.bson_convert.proofs.Converting.{converts_one, text_converts}
+use Rattle.bson_convert.proofs.Twice.{kept_ok}
+use Rattle.bson_convert.proofs.convert.convert_line.Goals as goal
+
+pub returns-clause-ok : goal.returns-clause-ok
+returns-clause-ok c =
+    let text = c.in_ok-text.text.items in
+    if_ok c.end_line.result c.end_line.ensures.ok
+    (λ output line. text_converts c.args.options c.args.mode c.args.bytes.now text output.items c.in_ok-text.ensures.ok line)
+
+pub returns-clause-again : goal.returns-clause-again
+returns-clause-again c =
+    let o = c.args.options in
+    let mode = c.args.mode in
+    let bytes = c.args.bytes.now in
+    let text = c.in_ok-text.text.items in
+    kept_ok o mode bytes text c.end_line.result c.in_ok-text.ensures.ok c.in_ok-text.ensures.utf8 c.end_line.ensures.ok
+    c.end_line.ensures.utf8
+
+pub returns-clause-one : goal.returns-clause-one
+returns-clause-one c =
+    let o = c.args.options in
+    let mode = c.args.mode in
+    let bytes = c.args.bytes.now in
+    let text = c.in_ok-text.text.items in
+    if_ok c.end_line.result c.end_line.ensures.ok (λ output line other x.
+    converts_one o mode bytes output.items other (text_converts o mode bytes text output.items c.in_ok-text.ensures.ok line) x)

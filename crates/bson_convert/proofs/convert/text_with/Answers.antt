@@ -1,7 +1,0 @@
-use Rattle.bson_convert.proofs.Arranged.{accepted}
-use Rattle.bson_convert.proofs.convert.text_with.Goals as goal
-
-pub returns-clause-accepts : goal.returns-clause-accepts
-returns-clause-accepts c = λ t v is means.
-    let bytes = c.args.bytes.now in
-    accepted c.args.options bytes t v is means c.finish.result (c.finish.ensures.fault bytes c.in_ok-tried.ensures.ok)

@@ -1,0 +1,65 @@
+//! Elements in their bytes.
+ghost use Rattle.std.specs.Prelude.{◌≡◌, ◌<◌, ◌≤◌, ◌-◌, ℕ, length, Ok, IfSome, IsSomeAnd};
+ghost use Rattle.bson_bytes.specs.Grammar.{one_each};
+ghost use Rattle.bson_bytes.specs.Reading.{reads};
+ghost use Rattle.bson_model.specs.Value.{Pairs};
+ghost use Rattle.bson_raw.specs.Raw.{BeginsWithElements, BeginsWithDocument};
+ghost use Rattle.bson_raw.specs.Elements.{IsFirst};
+
+use crate::skip::{element_at, skip, skip_sized, skip_value};
+use bson_types::spec::ElementType;
+
+/// An element in its bytes.
+#[derive(Clone, Copy)]
+pub struct RawElement<'a> {
+    /// The type of the value.
+    pub kind: ElementType,
+    /// The key.
+    pub key: &'a [u8],
+    /// The bytes that begin with the value.
+    pub value: &'a [u8],
+    /// The bytes after the value.
+    pub rest: &'a [u8],
+}
+
+/// Returns the bytes of the document with which the bytes begin.
+pub fn document_bytes(bytes: &[u8]) -> Option<&[u8]>
+    ensures { (d : ℕ) (ps : Pairs) → BeginsWithDocument d bytes.now ps
+        → IsSomeAnd result (λ front. reads d front.now ≡ Ok (one_each ps)) }
+{
+    let Some(rest) = skip_sized(bytes) else {
+        return None;
+    };
+    Some(&bytes[..bytes.len() - rest.len()])
+}
+
+/// Returns the bytes of a document after its length: they begin with its elements.
+pub fn elements_in(bytes: &[u8]) -> Option<&[u8]>
+    ensures elements { (d : ℕ) (ps : Pairs) → BeginsWithDocument d bytes.now ps
+        → (1 ≤ d) × IsSomeAnd result (λ list. BeginsWithElements (d - 1) list.now ps) }
+    ensures shorter { IfSome result (λ x. length x.now ≤ length bytes.now) }
+{
+    skip(4, bytes)
+}
+
+/// Returns the first element, or `None` at the end. The element is right if the bytes begin
+/// with the elements of a document.
+#[inline(always)]
+pub fn first_element(bytes: &[u8]) -> Option<RawElement<'_>>
+    ensures first { (d : ℕ) (ps : Pairs) → BeginsWithElements d bytes.now ps → IsFirst d result ps }
+    ensures shorter { IfSome result (λ e. length e.rest.now < length bytes.now) }
+    ensures value { IfSome result (λ e. length e.rest.now ≤ length e.value.now) }
+{
+    let Some((kind, key, value)) = element_at(bytes) else {
+        return None;
+    };
+    let Some(rest) = skip_value(kind, value) else {
+        return None;
+    };
+    Some(RawElement {
+        kind,
+        key,
+        value,
+        rest,
+    })
+}

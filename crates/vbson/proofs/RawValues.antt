@@ -1,0 +1,147 @@
+-- Values of documents that remain bytes.
+use Rattle.std.proofs.Common.{◌≡◌, ℕ, ◌-◌, ◌≤◌, Bool, List, Option, None, Some, Ok, length, drop, refl, sym, ap, ◌∙◌, subst, arith}
+use Rattle.std.specs.Prelude.{◌↔◌, MatchOption, option_map}
+use Rattle.std.specs.Borrow.{Bor}
+use Rattle.bson_bytes.specs.Reading.{value_with, document_in}
+use Rattle.bson_bytes.specs.declared.keys.DuplicateKeys.TheVariants.{Replace}
+use Rattle.bson_model.specs.Value.{Value, Pairs, no_pairs, pair, scalar, code_scope, array, document}
+use Rattle.bson_raw.specs.Elements.{HasValue, IsElement, IsFirst, IsFound, value_length}
+use Rattle.bson_raw.specs.Held.{binary_of, boolean_of, date_of, double_of, int32_of, int64_of, object_id_of, string_of}
+use Rattle.bson_raw.specs.Nested.{IsNested}
+use Rattle.bson_raw.specs.Raw.{BeginsWithElements}
+use Rattle.bson_raw.specs.declared.element.RawElement.{RawElement}
+use Rattle.bson_types.specs.Tags.{tag_of}
+use Rattle.bson_types.specs.declared.spec.ElementType.{ElementType}
+use Rattle.vbson.specs.Raw.{IsGot, IsNext, IsTyped, IsValueAt, IsValueOf, bit, subtype_and_bytes}
+use Rattle.vbson.specs.declared.raw.RawValue.{RawValue}
+use Rattle.vbson.specs.declared.raw.Slice.{Slice}
+
+-- ---- what is found
+
+at_value : (d : ℕ) (e : RawElement) (v : Value) (out : RawValue) → HasValue d e v → IsValueOf e out
+    → length e.rest.now ≤ length e.value.now → IsValueAt d v out
+at_value d e v out read is within = record {
+  type = e.kind;
+  tag = is.tag;
+  read = subst (λ (bytes : List ℕ). value_with Replace (document_in Replace d) e.kind bytes ≡ Ok (v, drop out.len bytes)) (sym is.bytes)
+      (subst (λ (n : ℕ). value_with Replace (document_in Replace d) e.kind e.value.now ≡ Ok (v, drop n e.value.now)) (sym is.len) read);
+  within = omega (arith, within, is.len, ap length is.bytes);
+}
+
+pub got_none : (d : ℕ) (o : Option Value) (out : RawValue) → o ≡ None → IsGot d o 14 out
+got_none d o out none = subst (λ (p : Option Value). IsGot d p 14 out) (sym none) refl
+
+pub got_some : (d : ℕ) (o : Option Value) (e : RawElement) (out : RawValue) → IsFound d (Some e) o → IsValueOf e out
+    → length e.rest.now ≤ length e.value.now → IsGot d o 0 out
+got_some d o e out found is within =
+    subst (λ (p : Option Value). IsGot d p 0 out) (sym found.1) (refl, at_value d e found.0 out found.2 is within)
+
+pub next_none : (d : ℕ) (ps : Pairs) (cursor key : Slice) (value : RawValue) → ps ≡ no_pairs → IsNext d ps 14 cursor key value
+next_none d ps cursor key value none = subst (λ (qs : Pairs). IsNext d qs 14 cursor key value) (sym none) refl
+
+pub next_some : (d : ℕ) (ps : Pairs) (e : RawElement) (cursor key : Slice) (value : RawValue) → IsElement d e ps
+    → IsValueOf e value → length e.rest.now ≤ length e.value.now → cursor.bytes ≡ e.rest → key.bytes ≡ e.key
+    → IsNext d ps 0 cursor key value
+next_some d ps e cursor key value h is within rest name =
+    subst (λ (qs : Pairs). IsNext d qs 0 cursor key value) (sym h.pairs) (
+      refl,
+      ap (λ (b : Bor (List ℕ)). b.now) name,
+      at_value d e h.value value h.read is within,
+      subst (λ (b : Bor (List ℕ)). BeginsWithElements d b.now h.others) (sym rest) h.more,
+    )
+
+-- ---- a value by its type
+
+pub kind_is : (o : Option ElementType) (byte : ℕ) (t : ElementType) → ((k : ElementType) → (o ≡ Some k) ↔ (tag_of k ≡ byte))
+    → byte ≡ tag_of t → o ≡ Some t
+kind_is o byte t h is = (h t).1 (sym is)
+
+some_kind : {A : Type 0} (x y : A) → Some x ≡ Some y → x ≡ y
+some_kind x y e = cc
+
+pub read_at : (d : ℕ) (v : Value) (value : RawValue) (o : Option ElementType) (k : ElementType)
+    → ((k : ElementType) → (o ≡ Some k) ↔ (tag_of k ≡ value.kind)) → o ≡ Some k → IsValueAt d v value
+    → value_with Replace (document_in Replace d) k value.bytes.now ≡ Ok (v, drop value.len value.bytes.now)
+read_at d v value o k h is at =
+    let same : at.type ≡ k = some_kind at.type k (sym (kind_is o value.kind at.type h at.tag) ∙ is) in
+    subst (λ (t : ElementType). value_with Replace (document_in Replace d) t value.bytes.now ≡ Ok (v, drop value.len value.bytes.now)) same
+    at.read
+
+pub no_kind : (d : ℕ) (v : Value) (value : RawValue) (o : Option ElementType)
+    → ((k : ElementType) → (o ≡ Some k) ↔ (tag_of k ≡ value.kind)) → o ≡ None → IsValueAt d v value → ⊥
+no_kind d v value o h none at =
+    let some = kind_is o value.kind at.type h at.tag in absurd cc
+
+-- what a nested value is not
+abbrev pub IsNever : {A : Type 0} → (Value → Option A) → Type 0
+IsNever f = (v : Value) → IsNested v → f v ≡ None
+
+pub never_int32 : IsNever int32_of
+never_int32 (scalar s) h = absurd h
+never_int32 (code_scope s ps) h = refl
+never_int32 (array vs) h = refl
+never_int32 (document ps) h = refl
+
+pub never_int64 : IsNever int64_of
+never_int64 (scalar s) h = absurd h
+never_int64 (code_scope s ps) h = refl
+never_int64 (array vs) h = refl
+never_int64 (document ps) h = refl
+
+pub never_double : IsNever double_of
+never_double (scalar s) h = absurd h
+never_double (code_scope s ps) h = refl
+never_double (array vs) h = refl
+never_double (document ps) h = refl
+
+pub never_boolean : IsNever boolean_of
+never_boolean (scalar s) h = absurd h
+never_boolean (code_scope s ps) h = refl
+never_boolean (array vs) h = refl
+never_boolean (document ps) h = refl
+
+pub never_string : IsNever string_of
+never_string (scalar s) h = absurd h
+never_string (code_scope s ps) h = refl
+never_string (array vs) h = refl
+never_string (document ps) h = refl
+
+pub never_object_id : IsNever object_id_of
+never_object_id (scalar s) h = absurd h
+never_object_id (code_scope s ps) h = refl
+never_object_id (array vs) h = refl
+never_object_id (document ps) h = refl
+
+pub never_date_time : IsNever date_of
+never_date_time (scalar s) h = absurd h
+never_date_time (code_scope s ps) h = refl
+never_date_time (array vs) h = refl
+never_date_time (document ps) h = refl
+
+pub never_binary : IsNever binary_of
+never_binary (scalar s) h = absurd h
+never_binary (code_scope s ps) h = refl
+never_binary (array vs) h = refl
+never_binary (document ps) h = refl
+
+pub typed_none : {A : Type 0} (f : Value → Option A) → IsNever f → (v : Value) → IsNested v → (x : A) → IsTyped (f v) 15 x
+typed_none {A} f never v nested x = subst (λ (o : Option A). IsTyped o 15 x) (sym (never v nested)) refl
+
+pub typed_other : {A : Type 0} (f : Value → Option A) (w v : Value) → w ≡ v → None ≡ f w → (x : A) → IsTyped (f v) 15 x
+typed_other {A} f w v same is x = subst (λ (o : Option A). IsTyped o 15 x) (is ∙ ap f same) refl
+
+pub typed_some : {A : Type 0} (f : Value → Option A) (w v : Value) → w ≡ v → (x y : A) → Some x ≡ f w → y ≡ x → IsTyped (f v) 0 y
+typed_some {A} f w v same x y is e = subst (λ (o : Option A). IsTyped o 0 y) (is ∙ ap f same) (refl, e)
+
+-- a boolean as a number, and the number of a subtype with the bytes
+abbrev pub boolean_bit : Value → Option ℕ
+boolean_bit v = option_map bit (boolean_of v)
+
+pub never_bit : IsNever boolean_bit
+never_bit v nested = ap (option_map bit) (never_boolean v nested)
+
+abbrev pub binary_bytes : Value → Option (ℕ × List ℕ)
+binary_bytes v = option_map subtype_and_bytes (binary_of v)
+
+pub never_bytes : IsNever binary_bytes
+never_bytes v nested = ap (option_map subtype_and_bytes) (never_binary v nested)

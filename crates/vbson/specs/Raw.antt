@@ -1,0 +1,53 @@
+-- Values of documents that remain bytes. The number is how deep documents, arrays and scopes may nest in a value.
+use Rattle.std.specs.Prelude.{◌≡◌, ◌≤◌, ℕ, Bool, true, false, List, Option, None, Some, Ok, length, drop}
+use Rattle.bson_bytes.specs.Reading.{value_with, document_in}
+use Rattle.bson_bytes.specs.declared.keys.DuplicateKeys.TheVariants.{Replace}
+use Rattle.bson_model.specs.Value.{Value, Pairs, no_pairs, pair}
+use Rattle.bson_raw.specs.Elements.{value_length}
+use Rattle.bson_raw.specs.Raw.{BeginsWithElements}
+use Rattle.bson_raw.specs.declared.element.RawElement.{RawElement}
+use Rattle.bson_types.specs.Subtype.{subtype_byte}
+use Rattle.bson_types.specs.Tags.{tag_of}
+use Rattle.bson_types.specs.declared.spec.BinarySubtype.{BinarySubtype}
+use Rattle.bson_types.specs.declared.spec.ElementType.{ElementType}
+use Rattle.vbson.specs.declared.raw.RawValue.{RawValue}
+use Rattle.vbson.specs.declared.raw.Slice.{Slice}
+
+-- the tag is that of a type, and so many bytes are read as this value of the type
+pub record IsValueAt (d : ℕ) (v : Value) (out : RawValue) : Type 0 where
+  pub type : ElementType
+  pub tag : out.kind ≡ tag_of type
+  pub read : value_with Replace (document_in Replace d) type out.bytes.now ≡ Ok (v, drop out.len out.bytes.now)
+  pub within : out.len ≤ length out.bytes.now
+
+-- no key is found, or the value of the key
+abbrev pub IsGot : ℕ → Option Value → ℕ → RawValue → Type 0
+IsGot d None status out = status ≡ 14
+IsGot d (Some v) status out = (status ≡ 0) × IsValueAt d v out
+
+-- no element is left, or the key and the value of the first, and the others are left
+abbrev pub IsNext : ℕ → Pairs → ℕ → Slice → Slice → RawValue → Type 0
+IsNext d no_pairs status cursor key value = status ≡ 14
+IsNext d (pair k v ps) status cursor key value =
+    (status ≡ 0) × (key.bytes.now ≡ k) × IsValueAt d v value × BeginsWithElements d cursor.bytes.now ps
+
+-- the value has another type, or this is what it contains
+abbrev pub IsTyped : {A : Type 0} → Option A → ℕ → A → Type 0
+IsTyped None status out = status ≡ 15
+IsTyped (Some x) status out = (status ≡ 0) × (out ≡ x)
+
+abbrev pub bit : Bool → ℕ
+bit true = 1
+bit false = 0
+
+-- the number of a subtype, and the bytes
+abbrev pub subtype_and_bytes : BinarySubtype × List ℕ → ℕ × List ℕ
+subtype_and_bytes b = (subtype_byte b.0, b.1)
+
+-- ---- for private clauses
+
+-- the value of the element
+pub record IsValueOf (e : RawElement) (out : RawValue) : Type 0 where
+  pub bytes : out.bytes.now ≡ e.value.now
+  pub len : out.len ≡ value_length e
+  pub tag : out.kind ≡ tag_of e.kind

@@ -1,0 +1,285 @@
+//! Values of documents that remain bytes, which the caller has validated.
+ghost use Rattle.std.specs.Prelude.{◌≡◌, ◌⊎◌, ◌<◌, ◌≤◌, ◌-◌, ℕ, length, option_map, MatchOption};
+ghost use Rattle.bson_bytes.specs.Grammar.{one_each};
+ghost use Rattle.bson_model.specs.Value.{Pairs, Value, get};
+ghost use Rattle.bson_raw.specs.Held.{binary_of, boolean_of, date_of, double_of, int32_of, int64_of, object_id_of, string_of};
+ghost use Rattle.bson_raw.specs.Nested.{IsNested};
+ghost use Rattle.bson_raw.specs.Raw.{BeginsWithDocument, BeginsWithElements};
+ghost use Rattle.bson_raw.specs.View.{raw_view};
+ghost use Rattle.vbson.specs.Raw.{IsGot, IsNext, IsTyped, IsValueAt, IsValueOf, bit, subtype_and_bytes};
+
+use crate::status;
+use bson_raw::RawBsonRef;
+use bson_raw::element::{RawElement, elements_in, first_element};
+use bson_raw::find::find;
+use bson_raw::read::scalar_at;
+use bson_types::spec::ElementType;
+
+/// A part of the caller's bytes.
+#[repr(C)]
+#[derive(Clone, Copy)]
+pub struct Slice<'a> {
+    pub bytes: &'a [u8],
+}
+
+/// A value in the caller's bytes: the bytes from its beginning on, how many of them are the value,
+/// and the tag of its type.
+#[repr(C)]
+#[derive(Clone, Copy)]
+pub struct RawValue<'a> {
+    pub bytes: &'a [u8],
+    pub len: usize,
+    pub kind: u8,
+}
+
+/// Finds the value of a key, in bytes that begin with a document. If the key is duplicated, its last
+/// value wins.
+#[unsafe(no_mangle)]
+pub extern "C" fn vbson_raw_get<'a>(bytes: &'a [u8], key: &[u8], out: &mut RawValue<'a>) -> u32
+    ensures found { (d : ℕ) (ps : Pairs) → BeginsWithDocument d bytes.now ps
+        → IsGot (d - 1) (get key.now (one_each ps)) result out.new }
+    ensures listed { (result ≡ 0) ⊎ (result ≡ 14) }
+    ensures kept { 0 < result → out.new ≡ out.old }
+{
+    match find(bytes, key) {
+        Some(element) => {
+            *out = value_of(element);
+            status::OK
+        }
+        None => status::NOT_FOUND,
+    }
+}
+
+/// Begins an iteration over the elements of a document, in bytes that begin with it.
+#[unsafe(no_mangle)]
+pub extern "C" fn vbson_raw_elements<'a>(bytes: &'a [u8], cursor: &mut Slice<'a>) -> u32
+    ensures begun { (d : ℕ) (ps : Pairs) → BeginsWithDocument d bytes.now ps
+        → (result ≡ 0) × BeginsWithElements (d - 1) cursor.new.bytes.now ps }
+    ensures listed { (result ≡ 0) ⊎ (result ≡ 10) }
+    ensures kept { 0 < result → cursor.new ≡ cursor.old }
+{
+    match elements_in(bytes) {
+        Some(bytes) => {
+            *cursor = Slice { bytes };
+            status::OK
+        }
+        None => status::NOT_A_DOCUMENT,
+    }
+}
+
+/// Reads the next element, and moves the cursor past it.
+#[unsafe(no_mangle)]
+pub extern "C" fn vbson_raw_next<'a>(
+    cursor: &mut Slice<'a>,
+    key: &mut Slice<'a>,
+    value: &mut RawValue<'a>,
+) -> u32
+    ensures next { (d : ℕ) (ps : Pairs) → BeginsWithElements d cursor.old.bytes.now ps
+        → IsNext d ps result cursor.new key.new value.new }
+    ensures listed { (result ≡ 0) ⊎ (result ≡ 14) }
+    ensures kept { 0 < result → (cursor.new ≡ cursor.old) × (key.new ≡ key.old) × (value.new ≡ value.old) }
+{
+    match first_element(cursor.bytes) {
+        Some(element) => {
+            *key = Slice { bytes: element.key };
+            *value = value_of(element);
+            *cursor = Slice {
+                bytes: element.rest,
+            };
+            status::OK
+        }
+        None => status::NOT_FOUND,
+    }
+}
+
+/// Reads the integer of an Int32.
+#[unsafe(no_mangle)]
+pub extern "C" fn vbson_raw_int32(value: &RawValue<'_>, out: &mut i32) -> u32
+    ensures typed { (d : ℕ) (v : Value) → IsValueAt d v value.now → IsTyped (int32_of v) result out.new }
+    ensures listed { (result ≡ 0) ⊎ (result ≡ 15) }
+    ensures kept { 0 < result → out.new ≡ out.old }
+{
+    let Some(scalar) = scalar_of(value) else {
+        return status::UNEXPECTED_TYPE;
+    };
+    match scalar.as_i32() {
+        Some(number) => {
+            *out = number;
+            status::OK
+        }
+        None => status::UNEXPECTED_TYPE,
+    }
+}
+
+/// Reads the integer of an Int64.
+#[unsafe(no_mangle)]
+pub extern "C" fn vbson_raw_int64(value: &RawValue<'_>, out: &mut i64) -> u32
+    ensures typed { (d : ℕ) (v : Value) → IsValueAt d v value.now → IsTyped (int64_of v) result out.new }
+    ensures listed { (result ≡ 0) ⊎ (result ≡ 15) }
+    ensures kept { 0 < result → out.new ≡ out.old }
+{
+    let Some(scalar) = scalar_of(value) else {
+        return status::UNEXPECTED_TYPE;
+    };
+    match scalar.as_i64() {
+        Some(number) => {
+            *out = number;
+            status::OK
+        }
+        None => status::UNEXPECTED_TYPE,
+    }
+}
+
+/// Reads the bit pattern of a double.
+#[unsafe(no_mangle)]
+pub extern "C" fn vbson_raw_double(value: &RawValue<'_>, out: &mut u64) -> u32
+    ensures typed { (d : ℕ) (v : Value) → IsValueAt d v value.now → IsTyped (double_of v) result out.new }
+    ensures listed { (result ≡ 0) ⊎ (result ≡ 15) }
+    ensures kept { 0 < result → out.new ≡ out.old }
+{
+    let Some(scalar) = scalar_of(value) else {
+        return status::UNEXPECTED_TYPE;
+    };
+    match scalar.as_f64() {
+        Some(pattern) => {
+            *out = pattern;
+            status::OK
+        }
+        None => status::UNEXPECTED_TYPE,
+    }
+}
+
+/// Reads a boolean, as 0 or 1.
+#[unsafe(no_mangle)]
+pub extern "C" fn vbson_raw_boolean(value: &RawValue<'_>, out: &mut u32) -> u32
+    ensures typed { (d : ℕ) (v : Value) → IsValueAt d v value.now → IsTyped (option_map bit (boolean_of v)) result out.new }
+    ensures listed { (result ≡ 0) ⊎ (result ≡ 15) }
+    ensures kept { 0 < result → out.new ≡ out.old }
+{
+    let Some(scalar) = scalar_of(value) else {
+        return status::UNEXPECTED_TYPE;
+    };
+    match scalar.as_bool() {
+        Some(boolean) => {
+            *out = bit_of(boolean);
+            status::OK
+        }
+        None => status::UNEXPECTED_TYPE,
+    }
+}
+
+/// Reads the bytes of a string.
+#[unsafe(no_mangle)]
+pub extern "C" fn vbson_raw_string<'a>(value: &RawValue<'a>, out: &mut Slice<'a>) -> u32
+    ensures typed { (d : ℕ) (v : Value) → IsValueAt d v value.now → IsTyped (string_of v) result out.new.bytes.now }
+    ensures listed { (result ≡ 0) ⊎ (result ≡ 15) }
+    ensures kept { 0 < result → out.new ≡ out.old }
+{
+    let Some(scalar) = scalar_of(value) else {
+        return status::UNEXPECTED_TYPE;
+    };
+    match scalar.as_str() {
+        Some(text) => {
+            *out = Slice {
+                bytes: text.as_bytes(),
+            };
+            status::OK
+        }
+        None => status::UNEXPECTED_TYPE,
+    }
+}
+
+/// Reads the 12 bytes of an object id.
+#[unsafe(no_mangle)]
+pub extern "C" fn vbson_raw_object_id(value: &RawValue<'_>, out: &mut [u8; 12]) -> u32
+    ensures typed { (d : ℕ) (v : Value) → IsValueAt d v value.now → IsTyped (object_id_of v) result out.new }
+    ensures listed { (result ≡ 0) ⊎ (result ≡ 15) }
+    ensures kept { 0 < result → out.new ≡ out.old }
+{
+    let Some(scalar) = scalar_of(value) else {
+        return status::UNEXPECTED_TYPE;
+    };
+    match scalar.as_object_id() {
+        Some(id) => {
+            *out = id.bytes();
+            status::OK
+        }
+        None => status::UNEXPECTED_TYPE,
+    }
+}
+
+/// Reads a date-time, in milliseconds since 1970-01-01T00:00:00Z.
+#[unsafe(no_mangle)]
+pub extern "C" fn vbson_raw_date_time(value: &RawValue<'_>, out: &mut i64) -> u32
+    ensures typed { (d : ℕ) (v : Value) → IsValueAt d v value.now → IsTyped (date_of v) result out.new }
+    ensures listed { (result ≡ 0) ⊎ (result ≡ 15) }
+    ensures kept { 0 < result → out.new ≡ out.old }
+{
+    let Some(scalar) = scalar_of(value) else {
+        return status::UNEXPECTED_TYPE;
+    };
+    match scalar.as_datetime() {
+        Some(date) => {
+            *out = date.timestamp_millis();
+            status::OK
+        }
+        None => status::UNEXPECTED_TYPE,
+    }
+}
+
+/// Reads the subtype and the bytes of binary data.
+#[unsafe(no_mangle)]
+pub extern "C" fn vbson_raw_binary<'a>(
+    value: &RawValue<'a>,
+    subtype: &mut u32,
+    out: &mut Slice<'a>,
+) -> u32
+    ensures typed { (d : ℕ) (v : Value) → IsValueAt d v value.now
+        → IsTyped (option_map subtype_and_bytes (binary_of v)) result (subtype.new, out.new.bytes.now) }
+    ensures listed { (result ≡ 0) ⊎ (result ≡ 15) }
+    ensures kept { 0 < result → (subtype.new ≡ subtype.old) × (out.new ≡ out.old) }
+{
+    let Some(scalar) = scalar_of(value) else {
+        return status::UNEXPECTED_TYPE;
+    };
+    match scalar.as_binary() {
+        Some(binary) => {
+            *subtype = u32::from(u8::from(binary.subtype));
+            *out = Slice {
+                bytes: binary.bytes,
+            };
+            status::OK
+        }
+        None => status::UNEXPECTED_TYPE,
+    }
+}
+
+// Returns the value of the element.
+fn value_of<'a>(element: RawElement<'a>) -> RawValue<'a>
+    requires { length element.rest.now ≤ length element.value.now }
+    ensures { IsValueOf element.entry result }
+{
+    RawValue {
+        bytes: element.value,
+        len: element.value.len() - element.rest.len(),
+        kind: element.kind.tag(),
+    }
+}
+
+// Returns the value in its bytes, unless it contains a document.
+fn scalar_of<'a>(value: &RawValue<'a>) -> Option<RawBsonRef<'a>>
+    ensures { (d : ℕ) (v : Value) → IsValueAt d v value.now
+        → MatchOption result (IsNested v) (λ r. raw_view r ≡ v) }
+{
+    let Some(kind) = ElementType::from(value.kind) else {
+        return None;
+    };
+    scalar_at(kind, value.bytes)
+}
+
+// Returns 1 for true and 0 for false.
+fn bit_of(boolean: bool) -> u32
+    ensures { result ≡ bit boolean }
+{
+    if boolean { 1 } else { 0 }
+}
