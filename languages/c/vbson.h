@@ -165,7 +165,7 @@ uint32_t vbson_explain(uint32_t flags, const uint8_t *text, size_t len, vbson_bu
 /* The result for a block of lines. Free text and diagnostics with vbson_buffer_free. */
 typedef struct vbson_lines {
     vbson_buffer text;        /* the output of each line, in their order, each followed by a newline */
-    vbson_buffer diagnostics; /* a line for each rejected line: "bson_lines: line 3: " (from 1), and vbson_explain's message */
+    vbson_buffer diagnostics; /* a line for each rejected line: "bson: line 3: " (from 1), and vbson_explain's message */
     uint64_t lines;           /* the number of lines, with blank and rejected ones */
     uint64_t refused;         /* the number of rejected lines */
 } vbson_lines;

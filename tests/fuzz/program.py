@@ -6,7 +6,7 @@ from dataclasses import dataclass
 
 LONGEST_SECONDS = 60
 # How the program over lines tells a refusal of one text: the words, and where.
-TOLD = re.compile(rb'bson_lines: (?:line [0-9]+: )?(not JSON|bad object id|not Extended JSON)(?: at .*| \(.*)\n')
+TOLD = re.compile(rb'bson: (?:line [0-9]+: )?(not JSON|bad object id|not Extended JSON)(?: at .*| \(.*)\n')
 
 
 @dataclass(frozen=True)

@@ -67,7 +67,7 @@ def of_text(form, text):
 def place_of(text):
     """What bson_lines tells of a refused text, given alone, behind the words for its fault."""
     done = subprocess.run([LINES, "check", "--strict"], input=b"\n" + text, capture_output=True, timeout=120)
-    return done.stderr.removeprefix(b"bson_lines: line 2: " + of_text("relaxed", text)[1]).removesuffix(b"\n")
+    return done.stderr.removeprefix(b"bson: line 2: " + of_text("relaxed", text)[1]).removesuffix(b"\n")
 
 
 def expected(task, on_refusal, text, at_end):
@@ -88,7 +88,7 @@ def expected(task, on_refusal, text, at_end):
             return Outcome(b"line %d: %s" % (number, fault), written, reported)
         if fault:
             refused += 1
-            reported += b"bson_lines: line %d: %s%s\n" % (number, fault, place_of(line))
+            reported += b"bson: line %d: %s%s\n" % (number, fault, place_of(line))
         elif task != "check":
             written += output
     if at_end:

@@ -31,7 +31,7 @@ def checks(program):
     found = list(rows())
     yield [] if found else [f"{ERRORS} has no rows"]
     for message, text, option, works in found:
-        wanted = 1, f"bson_lines: line 1: {message}\n"
+        wanted = 1, f"bson: line 1: {message}\n"
         status, said = checked(program, text, *([option] if option else []))
         yield [] if (status, said) == wanted else [f"{ERRORS}: {text} is answered by {said}"]
         if works:

@@ -28,7 +28,7 @@ kind_of input = codes "lines"
 
 abbrev pub summary_of : order.Input → (all refused : ℕ) → List ℕ
 summary_of input all refused =
-    codes "bson_lines: " ++ decimal all ++ codes " " ++ kind_of input ++ codes ", " ++ decimal refused ++ codes " refused"
+    codes "bson: " ++ decimal all ++ codes " " ++ kind_of input ++ codes ", " ++ decimal refused ++ codes " refused"
 
 -- ---- names of files
 
@@ -60,12 +60,12 @@ IsCause (Some error) cause = (words : List ℕ) × (cause ≡ codes ": " ++ word
 
 -- where a message begins: with the program's name, or that of a file
 abbrev pub head_of : List ℕ → List ℕ
-head_of name = if is_standard name then codes "bson_lines" else escaped_name name
+head_of name = if is_standard name then codes "bson" else escaped_name name
 
 -- of a line also its number, as editors have it behind a file's name
 abbrev pub line_head : List ℕ → ℕ → List ℕ
 line_head name number =
-    if is_standard name then codes "bson_lines: line " ++ decimal number else escaped_name name ++ codes ":" ++ decimal number
+    if is_standard name then codes "bson: line " ++ decimal number else escaped_name name ++ codes ":" ++ decimal number
 
 -- the head of a text on the line of this number, or of the one text of a file (0)
 abbrev pub text_head : List ℕ → ℕ → List ℕ
@@ -87,16 +87,16 @@ told_of_document name end = head_of name ++ codes ": " ++ trim_end (document_wor
 -- a file can't be read or written
 abbrev pub IsUnusable : (verb name stream : List ℕ) → Option Error → List ℕ → Type 0
 IsUnusable verb name stream error line =
-    (cause : List ℕ) × IsCause error cause × (line ≡ codes "bson_lines: cannot " ++ verb ++ shown_name name stream ++ cause)
+    (cause : List ℕ) × IsCause error cause × (line ≡ codes "bson: cannot " ++ verb ++ shown_name name stream ++ cause)
 
 -- the line for what stopped the run
 abbrev pub IsLineFor : Stop → List ℕ → Type 0
 IsLineFor (stop.Input name error) line = IsUnusable (codes "read ") name.now (codes "input") error line
 IsLineFor (stop.Output name error) line = IsUnusable (codes "write ") name.now (codes "output") error line
 IsLineFor (stop.Both name) line =
-    line ≡ codes "bson_lines: " ++ shown_name name.now (codes "input") ++ codes " is read and written"
+    line ≡ codes "bson: " ++ shown_name name.now (codes "input") ++ codes " is read and written"
 IsLineFor stop.Terminal line =
-    line ≡ codes "bson_lines: BSON bytes are not written to a terminal; give -o FILE, or a pipe"
+    line ≡ codes "bson: BSON bytes are not written to a terminal; give -o FILE, or a pipe"
 IsLineFor (stop.Text name number fault place) line = line ≡ told_at name.now number fault (string_bytes place)
 IsLineFor (stop.Document name end) line = line ≡ told_of_document name.now end
 
@@ -109,7 +109,7 @@ pieces (x ∷ xs) = if x == 10 then (10 ∷ []) ∷ pieces xs else onto_first x 
 
 -- what a verdict on a line begins with
 abbrev pub head : List ℕ
-head = codes "bson_lines: line "
+head = codes "bson: line "
 
 -- a verdict behind a file's name: of a line its number, a colon before it, or else the verdict
 abbrev pub under : (name verdict : List ℕ) → List ℕ

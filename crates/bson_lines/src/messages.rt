@@ -13,11 +13,11 @@ use std::alloc::{AllocError, Global};
 use std::io::Error;
 
 /// What a verdict begins with, before its line's number.
-const HEAD: &[u8] = b"bson_lines: line ";
+const HEAD: &[u8] = b"bson: line ";
 
 /// Where bytes would go to a terminal.
 const TERMINAL: &str =
-    "bson_lines: BSON bytes are not written to a terminal; give -o FILE, or a pipe";
+    "bson: BSON bytes are not written to a terminal; give -o FILE, or a pipe";
 
 /// How many lines or documents there were, and how many were refused.
 pub fn summary(alloc: Global, input: Input, counts: Counts) -> Result<String, AllocError>
@@ -25,7 +25,7 @@ pub fn summary(alloc: Global, input: Input, counts: Counts) -> Result<String, Al
 {
     let what = kind_of(input);
     format!(in alloc;
-        "bson_lines: {} {what}, {} refused",
+        "bson: {} {what}, {} refused",
         counts.lines, counts.refused
     )
 }
@@ -47,15 +47,15 @@ pub fn line_of(alloc: Global, stop: Stop<'_>) -> Result<String, AllocError>
     match stop {
         Stop::Input(name, error) => {
             let (name, cause) = (show_name(alloc, name, "input")?, cause_of(alloc, error)?);
-            format!(in alloc; "bson_lines: cannot read {name}{cause}")
+            format!(in alloc; "bson: cannot read {name}{cause}")
         }
         Stop::Output(name, error) => {
             let (name, cause) = (show_name(alloc, name, "output")?, cause_of(alloc, error)?);
-            format!(in alloc; "bson_lines: cannot write {name}{cause}")
+            format!(in alloc; "bson: cannot write {name}{cause}")
         }
         Stop::Both(name) => {
             let name = show_name(alloc, name, "input")?;
-            format!(in alloc; "bson_lines: {name} is read and written")
+            format!(in alloc; "bson: {name} is read and written")
         }
         Stop::Terminal => String::from_str(alloc, TERMINAL),
         Stop::Text(name, number, fault, place) => at_text(alloc, name, number, &fault, &place),
@@ -117,7 +117,7 @@ pub fn head_of(alloc: Global, name: &str) -> Result<String, AllocError>
     ensures { IfOk result (λ head. string_bytes head ≡ head_of name.now) }
 {
     if name == STANDARD {
-        return String::from_str(alloc, "bson_lines");
+        return String::from_str(alloc, "bson");
     }
     escape_name(alloc, name)
 }
@@ -127,7 +127,7 @@ fn line_head(alloc: Global, name: &str, number: u64) -> Result<String, AllocErro
     ensures { IfOk result (λ head. string_bytes head ≡ line_head name.now number) }
 {
     if name == STANDARD {
-        return format!(in alloc; "bson_lines: line {number}");
+        return format!(in alloc; "bson: line {number}");
     }
     let name = escape_name(alloc, name)?;
     format!(in alloc; "{name}:{number}")

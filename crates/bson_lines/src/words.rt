@@ -9,10 +9,10 @@ see bson_lines --help";
 
 /// The message about an option of an earlier version.
 pub const FORMER: &str =
-    "bson_lines: --doubles and --keep-order are the default now; see bson_lines --help";
+    "bson: --doubles and --keep-order are the default now; see bson_lines --help";
 
 /// The message if there is no memory for any other.
-pub const OUT_OF_MEMORY: &str = "bson_lines: out of memory";
+pub const OUT_OF_MEMORY: &str = "bson: out of memory";
 
 pub const VERSION: &str = "bson_lines 0.2.0";
 

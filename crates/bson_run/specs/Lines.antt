@@ -113,7 +113,7 @@ IsBadLineIn o task other text = ⊥
 -- what is told of a refused line: its number, the fault and its place
 abbrev pub told_at : ℕ → Error → List ℕ → List ℕ
 told_at number fault place =
-    codes "bson_lines: line " ++ decimal number ++ codes ": " ++ words_of fault ++ place ++ newline
+    codes "bson: line " ++ decimal number ++ codes ": " ++ words_of fault ++ place ++ newline
 
 abbrev pub Tells : ℕ → Error → (text told : List ℕ) → Type 0
 Tells number fault text told = (place : List ℕ) × IsWhere text fault place × (told ≡ told_at number fault place)

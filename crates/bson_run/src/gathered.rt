@@ -162,7 +162,7 @@ fn verdict(alloc: Global, number: u64, fault: &Error, place: &str) -> Result<Str
     ensures { IfOk result (λ told. string_bytes told ≡ told_at number fault.now place.now) }
 {
     let words = fault.message();
-    format!(in alloc; "bson_lines: line {number}: {words}{place}\n")
+    format!(in alloc; "bson: line {number}: {words}{place}\n")
 }
 
 /// Removes the bytes, and frees the memory of many.

@@ -134,7 +134,7 @@ _OF_SHAPE = re.compile(r"(?: at (.*?))? \(([^(]*?(?:; found .*)?)\)", re.S)
 _OF_JSON = re.compile(r" at column (\d+) \((.*)\)", re.S)
 _NUMBER = re.compile(rb"-?[0-9]+(?:\.[0-9]+)?(?:[eE][+-]?[0-9]+)?")
 _OF_BYTES = re.compile(r" at byte (\d+) \((.*)\)")
-_OF_LINE = re.compile(rf"bson_lines: line (\d+): ({'|'.join(_STATUSES)})(.*)", re.S)
+_OF_LINE = re.compile(rf"bson: line (\d+): ({'|'.join(_STATUSES)})(.*)", re.S)
 _OF_DOCUMENT = re.compile(r"document (\d+) at byte (\d+): (.*?)(?: at its byte (\d+))?")
 
 

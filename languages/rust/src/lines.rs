@@ -94,9 +94,9 @@ fn refusals(diagnostics: &str) -> Vec<(u64, Error)> {
     diagnostics.lines().map(|it| refusal(it).expect("a diagnostic has a number and a kind")).collect()
 }
 
-/// The number and the error of a diagnostic, `bson_lines: line 3: not JSON at column 7 (no value begins so)`.
+/// The number and the error of a diagnostic, `bson: line 3: not JSON at column 7 (no value begins so)`.
 fn refusal(diagnostic: &str) -> Option<(u64, Error)> {
-    let (number, words) = diagnostic.strip_prefix("bson_lines: line ")?.split_once(": ")?;
+    let (number, words) = diagnostic.strip_prefix("bson: line ")?.split_once(": ")?;
     let of_texts = [ErrorKind::NotJson, ErrorKind::BadObjectId, ErrorKind::NotExtendedJson];
     let of_bytes = [ErrorKind::NotADocument, ErrorKind::ZeroInKey, ErrorKind::ZeroInRegex, ErrorKind::TooLong];
     let kind = of_texts.into_iter().chain(of_bytes).find(|it| words.starts_with(&it.to_string()))?;
