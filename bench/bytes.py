@@ -1,22 +1,17 @@
 #!/usr/bin/env python3
-"""Times the reading and writing of BSON bytes beside MongoDB's libraries on the same documents.
+"""Times the reading of BSON bytes beside MongoDB's C library on the same documents.
 
-    bench/bytes.py [MEGABYTES ..]        (10 and 50 where none is given)
+    bench/bytes.py [MEGABYTES ..]        (10 and 50 if none is given)
 
-By a small program on bson_codec (bytes.source): bytes to values, values to bytes, a look that keeps nothing, bytes to
-canonical text; beside it libbson's bson_validate with UTF-8, its way from bytes to canonical text (bytes.c), and
-decode_iter of PyMongo's bson.
-A second table has whole runs of the program over dumps, as `./bson decode canonical` and `./bson decode check` start it,
-beside libbson's on the same file: processor seconds, reading and writing too. The program is that of the last ./bson.
-Documents stand one behind the other on standard input. A time is the user time of one pass over them, without the
-reading, the least of five runs in turns; a peak of memory, over the megabytes of the input, is that of values that are
-read one document at a time. Needs Debian's libbson-dev, a C compiler and pkg-config; python3-bson if it is there. The
-program is built through its proof on a copy of crates/, which takes what a check on this machine kept, else as long as
-the first ./bson.
+The first table is of calls (bytes.c): vbson_is_document beside bson_validate with UTF-8, vbson_decode to canonical JSON
+beside bson_as_canonical_extended_json, and vbson_hash_document, which makes a value of each document. A time is the user
+time of one pass over the documents, without the reading. A second table has whole runs of the program over dumps, as
+`./bson decode canonical` and `./bson decode check` start it, beside libbson's on the same file: processor seconds, reading
+and writing too. Documents follow one another on standard input, and each time is the least of five runs in turns. Needs
+./bson build, ./vbson build, Debian's libbson-dev, a C compiler and pkg-config.
 """
 import os
 import random
-import shutil
 import struct
 import subprocess
 import sys
@@ -24,17 +19,10 @@ import tempfile
 
 sys.dont_write_bytecode = True
 
-from run import BYTES, HERE, ROUNDS, TOP, megabytes
+from run import HERE, ROUNDS, TOP, megabytes
 
-PYTHON = "/usr/bin/python3"
 PROGRAM = f"{TOP}/crates/bson_lines/out/bson_lines"
-PYMONGO = """
-import sys, bson
-data = sys.stdin.buffer.read()
-for _ in range(int(sys.argv[1])):
-    for document in bson.decode_iter(data):
-        pass
-"""
+LIBRARY = f"{TOP}/languages/out"
 
 
 # ---- documents
@@ -130,27 +118,22 @@ KINDS = [("orders", many(order)), ("numbers, most of them doubles", many(numbers
 
 # ---- programs
 
+def built(room, name, *words):
+    subprocess.run(["cc", "-O2", f"{HERE}/bytes.c", "-o", f"{room}/{name}", *words], check=True)
+    return f"{room}/{name}"
+
+
 def ours(room):
-    shutil.copytree(TOP, f"{room}/copy", ignore=shutil.ignore_patterns("out", ".git"))
-    crate = f"{room}/copy/crates/bytes_speed"
-    os.makedirs(f"{crate}/src")
-    os.makedirs(f"{crate}/specs")
-    open(f"{crate}/specs/Lib.antt", "w").close()
-    shutil.copy(f"{HERE}/bytes.source", f"{crate}/src/main.rt")
-    with open(f"{room}/copy/crates.txt", "a") as crates:
-        crates.write("bytes_speed: bson bson_codec anyhow\n")
-    subprocess.run(["rt", "run"], cwd=crate, stdin=subprocess.DEVNULL, stdout=subprocess.DEVNULL, check=True)
-    shutil.copy(f"{crate}/out/bytes_speed", f"{room}/bytes_speed")
-    shutil.rmtree(f"{room}/copy")
-    return f"{room}/bytes_speed"
+    if not os.path.exists(f"{LIBRARY}/lib/libvbson.a"):
+        raise SystemExit("bench/bytes.py: no languages/out/lib/libvbson.a: run ./vbson build")
+    return built(room, "ours", f"-I{LIBRARY}/include", f"{LIBRARY}/lib/libvbson.a")
 
 
 def libbson(room):
     flags = subprocess.run(["pkg-config", "--cflags", "--libs", "libbson-1.0"], capture_output=True, text=True)
     if flags.returncode != 0:
         raise SystemExit("bench/bytes.py: no libbson-1.0 (Debian's libbson-dev)")
-    subprocess.run(["cc", "-O2", f"{HERE}/bytes.c", "-o", f"{room}/libbson", *flags.stdout.split()], check=True)
-    return f"{room}/libbson"
+    return built(room, "libbson", "-DLIBBSON", *flags.stdout.split())
 
 
 def spent(command, path, whole=False):
@@ -169,17 +152,11 @@ def best_of(rounds, commands, path, whole=False):
 
 
 def measured(program, theirs, path, times):
-    """Seconds of a pass: decode, encode, check, text, bson_validate, its text, PyMongo; and the peak of decode."""
-    python = [PYTHON, "-c", PYMONGO]
-    words = [(program, "decode"), (program, "encode"), (program, "check"), (program, "text"),
-             (theirs, "validate"), (theirs, "text")]
-    commands = [[it, task, str(count)] for it, task in words for count in (0, times)]
-    commands += [[*python, str(count)] for count in (0, times)]
-    found = best_of(ROUNDS, commands, path)
-    passes = [None if whole is None or none is None else (whole[0] - none[0]) / times
-              for none, whole in zip(found[0::2], found[1::2])]
-    decode, encode, *rest = passes
-    return decode, encode - decode, *rest, found[1][1]
+    """Seconds of a pass: check, bson_validate, text, its text, hash."""
+    words = [(program, "check"), (theirs, "check"), (program, "text"), (theirs, "text"), (program, "hash")]
+    found = best_of(ROUNDS, [[it, task, str(count)] for it, task in words for count in (0, times)], path)
+    return [None if whole is None or none is None else max(0.0, whole[0] - none[0]) / times
+            for none, whole in zip(found[0::2], found[1::2])]
 
 
 def whole_runs(theirs, path):
@@ -187,7 +164,7 @@ def whole_runs(theirs, path):
     # (as the script starts it)
     ours = ["env", "MALLOC_MMAP_THRESHOLD_=131072", PROGRAM]
     commands = [[*ours, "canonical", "--bson"], [theirs, "text", "1"], [*ours, "check", "--bson"],
-                [theirs, "validate", "1"]]
+                [theirs, "check", "1"]]
     return [it and it[0] for it in best_of(ROUNDS, commands, path, whole=True)]
 
 
@@ -201,32 +178,26 @@ def ratio(one, other):
 
 def cells_of_calls(program, theirs, path, size):
     """A row of the table of calls, without its name and size."""
-    decode, encode, check, canonical, validate, text_of_theirs, python, peak = measured(
-        program, theirs, path, max(1, 50 // size))
-    return [cell(decode), cell(encode), cell(check), cell(validate), ratio(validate, decode), ratio(validate, encode),
-            ratio(validate, check), cell(canonical), cell(text_of_theirs), ratio(canonical, text_of_theirs), cell(python),
-            f"{peak / (os.path.getsize(path) / 1e6):.1f}"]
+    check, validate, canonical, text_of_theirs, hashed = measured(program, theirs, path, max(1, int(50 // size)))
+    return [cell(check), cell(validate), ratio(check, validate), cell(canonical), cell(text_of_theirs),
+            ratio(canonical, text_of_theirs), cell(hashed), ratio(hashed, validate)]
 
 
 def main():
     sizes = megabytes(sys.argv[1:])
     if not os.path.exists(PROGRAM):
-        raise SystemExit("bench/bytes.py: there is no program: run ./bson decode --help once")
+        raise SystemExit("bench/bytes.py: there is no program: run ./bson build")
     whole = []
     with tempfile.TemporaryDirectory() as room:
-        # (a test makes the second table alone: the program of the first one needs a proof)
-        program, theirs = None if BYTES else ours(room), libbson(room)
-        if program:
-            print("| Input | MB | Decode, s | Encode, s | Check, s | `bson_validate`, s | Times its speed: decode | encode "
-                  "| check | Text, s | libbson, s | Ratio of times | PyMongo decode, s | Peak over size |\n"
-                  + "|---" * 14 + "|")
+        program, theirs = ours(room), libbson(room)
+        print("| Input | MB | `vbson_is_document`, s | `bson_validate`, s | Ratio | `vbson_decode`, s | libbson text, s | Ratio "
+              "| `vbson_hash_document`, s | Over `bson_validate` |\n" + "|---" * 10 + "|")
         for name, make in KINDS:
             for size in sizes:
                 path = f"{room}/input.bson"
                 with open(path, "wb") as out:
                     out.write(make(random.Random(20260101), int(size * 1_000_000)))
-                if program:
-                    print(f"| {name} | {size} | {' | '.join(cells_of_calls(program, theirs, path, size))} |", flush=True)
+                print(f"| {name} | {size} | {' | '.join(cells_of_calls(program, theirs, path, size))} |", flush=True)
                 text_run, text_of_theirs, check_run, validate_run = whole_runs(theirs, path)
                 cells = [cell(text_run), cell(text_of_theirs), ratio(text_run, text_of_theirs), cell(check_run),
                          cell(validate_run), ratio(check_run, validate_run)]

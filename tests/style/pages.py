@@ -1,4 +1,4 @@
-"""Each command of each page is run by a test, or its page says why none runs it.
+"""Each command of each page is run by a test.
 
 RUNNERS has the script that runs a command of a page. A script that is not this one is a part of ./test. `./test` itself, and
 the commands that are parts of it, are run by the gate. The others are run here, in a cheaper form if one exists:
@@ -7,8 +7,7 @@ the commands that are parts of it, are run by the gate. The others are run here,
 - the trial of the wrong bodies of a crate over libraries that are built, for a whole crate on one with few of them,
 - `rt try` in crates/bson_rows as the program that is built.
 
-What is not built or installed is not tried, and that is reported. A page says 'No test runs X, since REASON.' of what no test
-runs, and UNTRIED has each X.
+What is not built or installed is not tried, and that is reported.
 """
 import fnmatch
 import functools
@@ -38,16 +37,11 @@ RUNNERS = (
     ("*", r"tests/wrong_bodies/run (?:--all )?\w+(?:/\w+)?", HERE),
     ("bench/README.md", r"bench/\w+\.py.*", HERE),
 )
-UNTRIED = {
-    "bench/README.md": {"the first table of `bench/bytes.py`"},
-    "docs/SCALE.md": {"these two programs on Spark or Ray"},
-}
-SAYS = re.compile(r"No test runs (.*?), since ")
 BENCH = re.compile(r"(?m)(?<=`)(?:bench/\w+\.py|tests/memory/run)[^`\n]*(?=`.*\|$)")
 # A crate with few wrong bodies, for a command that tries all of a crate.
 FEW = "bson_raw"
 # The measurements that load the library for other languages.
-OF_LIBRARY = ("bench/values.py", "bench/library.py", "bench/scale.py")
+OF_LIBRARY = ("bench/bytes.py", "bench/values.py", "bench/library.py", "bench/scale.py")
 SECONDS = 300
 
 
@@ -78,7 +72,7 @@ def has_words(part, command):
 
 
 def rule_checks(found):
-    """Whether each command has a runner, each runner is a part of ./test, and each page says what is not run."""
+    """Whether each command has a runner, and each runner is a part of ./test."""
     gate = parts_of_gate()
     for page, command in found:
         rule = runner(page, command)
@@ -90,13 +84,6 @@ def rule_checks(found):
         yield [] if rule in used else [f"tests/style/pages.py has a rule that fits no command: {rule}"]
     for script in sorted({it[2] for it in RUNNERS} - {GATE}):
         yield [] if [script] in [part[:1] for part in gate] else [f"{script} is not a part of ./test"]
-
-
-def untried_checks(documents):
-    for page in documents:
-        said = set(SAYS.findall(" ".join(sources.read(page).split())))
-        listed = UNTRIED.get(page, set())
-        yield [] if said == listed else [f"{page} says that no test runs {said or 'nothing'}, and tests/style/pages.py has {listed or 'nothing'}"]
 
 
 def ran(words, at=sources.TOP, **environment):
@@ -187,5 +174,4 @@ def checks(documents):
     pages = [it for it in documents if it.endswith(".md")]
     found = [(page, command) for page in pages for command in command_lines(page)]
     yield from rule_checks(found)
-    yield from untried_checks(pages)
     yield from run_here(found)

@@ -3,8 +3,8 @@ order, and their output must be what is below them. Blocks of Python must print 
 installed is not tried, and that is reported. A command that ends in a backslash goes on in the next line.
 
 Who runs the commands of the other pages is in pages.py. Blocks of programs are run by tests/vbson (docs/c.md, docs/rust.md and
-docs/python.md) and tests/examples (crates/NAME/README.md). A command of any page must name scripts and options that exist
-(commands.py).
+docs/python.md) and tests/examples (crates/NAME/README.md). A program for Spark or Ray runs with the substitutes of engines.py.
+A command of any page must name scripts and options that exist (commands.py).
 """
 import os
 import re
@@ -22,6 +22,7 @@ LIBRARY = f"{sources.TOP}/languages/out/lib/libvbson.so"
 # The commands that a recipe may need beside those that each test needs, and the module of Python.
 TOOLS, MODULES = ("jq", "sqlite3"), ("pandas", "distributed")
 COMMAND = "    $ "
+ENGINES = ("sc", "ray")
 
 
 def is_built(name):
@@ -68,7 +69,8 @@ def lacks(heading, kind, code, of_section):
 
 def ran(kind, code, room):
     environment = {**os.environ, "PATH": f"{room}/bin:{os.environ['PATH']}", "VBSON_LIBRARY": LIBRARY, "LC_ALL": "C.UTF-8",
-                   "PYTHONPATH": f"{sources.TOP}/languages/python"}
+                   "PYTHONPATH": f"{sources.TOP}/languages/python:{os.path.dirname(os.path.realpath(__file__))}"}
+    code = "".join(f"from engines import {it}\n" for it in ENGINES if re.search(rf"\b{it}\.", code) and kind == "Python") + code
     words = [sys.executable, "-B", "-c", code] if kind == "Python" else ["bash", "-c", code]
     return subprocess.run(words, cwd=room, env=environment, stdin=subprocess.DEVNULL, capture_output=True, text=True, timeout=60)
 
