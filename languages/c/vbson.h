@@ -69,16 +69,16 @@ static inline const char *vbson_status_text(uint32_t status) {
     case VBSON_BAD_OBJECT_ID: return "bad object id";
     case VBSON_NOT_EXTENDED_JSON: return "not Extended JSON";
     case VBSON_OUT_OF_MEMORY: return "out of memory";
-    case VBSON_INVALID_STRING: return "no such text";
-    case VBSON_NOT_REPRESENTABLE: return "no text";
-    case VBSON_BUFFER_TOO_SMALL: return "no room";
+    case VBSON_INVALID_STRING: return "invalid string";
+    case VBSON_NOT_REPRESENTABLE: return "not representable";
+    case VBSON_BUFFER_TOO_SMALL: return "buffer too small";
     case VBSON_DIFFERENT: return "different";
-    case VBSON_NOT_A_DOCUMENT: return "no document";
+    case VBSON_NOT_A_DOCUMENT: return "not a document";
     case VBSON_ZERO_IN_KEY: return "a key has a 0 byte in it";
     case VBSON_ZERO_IN_REGEX: return "a regular expression has a 0 byte in it";
     case VBSON_TOO_LONG: return "a part is too long for BSON";
     case VBSON_NOT_FOUND: return "not found";
-    case VBSON_UNEXPECTED_TYPE: return "another type";
+    case VBSON_UNEXPECTED_TYPE: return "unexpected type";
     default: return "no such status";
     }
 }
@@ -150,8 +150,8 @@ uint32_t vbson_convert_with(uint32_t mode, uint32_t flags, const uint8_t *text, 
  * without a newline. The output is empty if they accept it. VBSON_KEEP_ORDER changes nothing here, and neither does the
  * mode. The line is the message of the status, followed by
  *     " at column N (RULE)"     if the input is not JSON: it stops to be JSON at the byte N of a line, counted from 1. RULE
- *                               is the broken rule, for example "a comma or a bracket is missing". It is "a number is out
- *                               of range" if the grammar holds, and a number is too large for a double
+ *                               is the broken rule, for example "expected a comma or a closing bracket". It is
+ *                               "number out of range" if the grammar holds, and a number is too large for a double
  *     " at PATH (MESSAGE)"      for any other error: the path to the first one, its keys and array indexes (from 0) joined
  *                               by points, for example orders.3._id.$oid. MESSAGE mostly is "EXPECTED; found VALUE", with
  *                               the first 60 characters of the value as the input has it, and ".." if it is longer
@@ -202,10 +202,10 @@ uint32_t vbson_hash(uint32_t flags, const uint8_t *text, size_t len, uint64_t *o
 /* Checks that the bytes are exactly one document. Allocates no memory. VBSON_NOT_A_DOCUMENT. */
 uint32_t vbson_is_document(const uint8_t *bytes, size_t len);
 
-/* Writes why the bytes are not one document, as one line without a newline: "no document at byte 4 (ends too early)", with
- * the byte offset of the first error. The output is empty if they are one. The errors: "nests too deep", "ends too early",
- * "a wrong length", "no type of BSON", "no 0 behind a text", "no UTF-8", "a boolean is neither 0 nor 1", "bytes behind the
- * document". *out is overwritten: its old block is not freed.
+/* Writes why the bytes are not one document, as one line without a newline: "not a document at byte 4 (ends too early)",
+ * with the byte offset of the first error. The output is empty if they are one. The errors: "nested too deep", "ends too early",
+ * "invalid length", "unknown element type", "missing NUL after a string", "invalid UTF-8", "a boolean is neither 0 nor 1",
+ * "trailing bytes after the document". *out is overwritten: its old block is not freed.
  * VBSON_OUT_OF_MEMORY. */
 uint32_t vbson_explain_document(const uint8_t *bytes, size_t len, vbson_buffer *out);
 

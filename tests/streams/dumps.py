@@ -16,9 +16,9 @@ from rows import rows
 TAKEN.add("doubles")
 
 LINES = ("canonical", "relaxed", "canonical_in_order", "relaxed_in_order", "show", "check")
-WORDS = {"Depth": "nests too deep", "Short": "ends too early", "Length": "a wrong length", "Tag": "no type of BSON",
-         "End": "no 0 behind a text", "Utf8": "no UTF-8", "Boolean": "a boolean is neither 0 nor 1",
-         "Trailing": "bytes behind the document"}
+WORDS = {"Depth": "nested too deep", "Short": "ends too early", "Length": "invalid length", "Tag": "unknown element type",
+         "End": "missing NUL after a string", "Utf8": "invalid UTF-8", "Boolean": "a boolean is neither 0 nor 1",
+         "Trailing": "trailing bytes after the document"}
 
 REFUSED = {"Key": "a key has a 0 byte in it", "Regex": "a regular expression has a 0 byte in it"}
 

@@ -23,7 +23,7 @@ static void convert_lines(void) {
     CHECK(gives(VBSON_CANONICAL, 0, "\xef\xbb\xbf[1]\n\n \t\r\n2\n", "[{\"$numberInt\":\"1\"}]\n{\"$numberInt\":\"2\"}\n", "", 4, 0));
     CHECK(gives(VBSON_SHOW, 0, "[1]\n", "[1]\n", "", 1, 0));
     CHECK(gives(VBSON_RELAXED, 0, "[1\n{\"b\":2,\"a\":1}\n[1.5]\n{\"$oid\":\"5\"}", "{\"a\":1,\"b\":2}\n",
-        "bson: line 1: not JSON at column 2 (the text ends before its value is whole)\n"
+        "bson: line 1: not JSON at column 2 (unexpected end of input)\n"
         "bson: line 3: not Extended JSON at 0 (a number is no whole number of 64 bits; found 1.5)\n"
         "bson: line 4: bad object id at $oid (an object id has 24 digits, but \"5\" has 1)\n", 4, 3));
     CHECK(gives(VBSON_RELAXED, VBSON_DOUBLES, "[1.5]\n", "[1.5]\n", "", 1, 0));
@@ -43,7 +43,7 @@ static void convert_lines(void) {
     for (int i = 0; i < LINES; i++) memcpy(many + 4 * i, i % 7 == 3 ? "[!]\n" : "[1]\n", 5);
     vbson_lines all = VBSON_LINES_INIT;
     CHECK(vbson_convert_lines(VBSON_RELAXED, 0, TEXT(many), &all) == VBSON_OK && all.lines == LINES && all.refused == 7143);
-    CHECK(all.text.len == 4 * (LINES - 7143) && strncmp(vbson_chars(&all.diagnostics), "bson: line 4: not JSON at column 2 (no value begins so)\n", 62) == 0);
+    CHECK(all.text.len == 4 * (LINES - 7143) && strncmp(vbson_chars(&all.diagnostics), "bson: line 4: not JSON at column 2 (expected a value)\n", 62) == 0);
     vbson_buffer_free(&all.text);
     vbson_buffer_free(&all.diagnostics);
     free(many);
@@ -81,7 +81,7 @@ static void decode_documents(void) {
         vbson_buffer_free(&out.text);
         vbson_buffer_free(&out.diagnostics);
     }
-    CHECK(decodes_all(VBSON_RELAXED, 0, "\xff\xff\xff\xff{}", 6, "", "document 1 at byte 0: a wrong length at its byte 0\n", 1, 0));
+    CHECK(decodes_all(VBSON_RELAXED, 0, "\xff\xff\xff\xff{}", 6, "", "document 1 at byte 0: invalid length at its byte 0\n", 1, 0));
     vbson_buffer one = VBSON_BUFFER_INIT;
     CHECK(vbson_encode(VBSON_DOUBLES | VBSON_KEEP_ORDER, TEXT("{\"b\":1.5,\"a\":2}"), &one) == VBSON_OK && one.len == 23);
     const char *two = (const char *)one.bytes;
@@ -103,8 +103,8 @@ static void encode_lines(void) {
     vbson_lines out = VBSON_LINES_INIT;
     CHECK(vbson_encode_lines(0, TEXT("{\"n\": 5}\n\n[1]\n{\"a\\u0000\":1}\n[1.5\n{}"), &out) == VBSON_OK);
     CHECK(out.text.len == 17 && out.text.size == 18 && memcmp(out.text.bytes, bytes, 17) == 0 && out.text.bytes[17] == 0);
-    CHECK(is_text(&out.diagnostics, "bson: line 3: no document\nbson: line 4: a key has a 0 byte in it\n"
-        "bson: line 5: not JSON at column 4 (the text ends before its value is whole)\n") && out.lines == 6 && out.refused == 3);
+    CHECK(is_text(&out.diagnostics, "bson: line 3: not a document\nbson: line 4: a key has a 0 byte in it\n"
+        "bson: line 5: not JSON at column 4 (unexpected end of input)\n") && out.lines == 6 && out.refused == 3);
     vbson_buffer_free(&out.text);
     vbson_buffer_free(&out.diagnostics);
     const char *text = "{\"b\":1.5,\"a\":2}";

@@ -127,19 +127,19 @@ static void explain(void) {
     CHECK(explains(VBSON_DOUBLES, "{\"orders\":[1,{\"price\":1.5}]}", ""));
     CHECK(explains(0, "1.5", "not Extended JSON (a number is no whole number of 64 bits; found 1.5)"));
     CHECK(explains(0, "{\"a\":{\"$oid\":\"53e3\"}}", "bad object id at a.$oid (an object id has 24 digits, but \"53e3\" has 4)"));
-    CHECK(explains(0, "[1,]", "not JSON at column 4 (behind a comma another element is wanted)"));
-    CHECK(explains(0, "{\"a\" 1}", "not JSON at column 6 (behind a key a colon and a value are wanted)"));
-    CHECK(explains(VBSON_DOUBLES, "\"\xff\"", "not JSON at column 2 (bytes that are no UTF-8)"));
-    CHECK(explains(VBSON_DOUBLES, "[1e400]", "not JSON at column 2 (a number is out of range)"));
+    CHECK(explains(0, "[1,]", "not JSON at column 4 (expected an element after the comma)"));
+    CHECK(explains(0, "{\"a\" 1}", "not JSON at column 6 (expected a colon and a value after the key)"));
+    CHECK(explains(VBSON_DOUBLES, "\"\xff\"", "not JSON at column 2 (invalid UTF-8)"));
+    CHECK(explains(VBSON_DOUBLES, "[1e400]", "not JSON at column 2 (number out of range)"));
     CHECK(explains(0, "{\"a\\u001b\":1.5}", "not Extended JSON at a\\u001b (a number is no whole number of 64 bits; found 1.5)"));
     CHECK(explains(0, "{\"$oid\":\"5\\u2028\"}", "bad object id at $oid (the character '\xc3\xa2' at 1 in \"5\\u2028\" is no hexadecimal digit)"));
     CHECK(explains(0, "{\"a\":1}", ""));
     CHECK(explains(VBSON_KEEP_ORDER, "{\"b\":{\"$oid\":\"5\"},\"a\":[1.5]}", "not Extended JSON at a.0 (a number is no whole number of 64 bits; found 1.5)"));
     CHECK(explains(VBSON_DOUBLES | VBSON_KEEP_ORDER, "[1.5]", ""));
     CHECK(vbson_explain(16, TEXT("{}"), &out) == VBSON_INVALID_ARGUMENT && out.bytes == before && out.size == 7 && out.len == 6);
-    CHECK(explains(VBSON_REJECT_DUPLICATE_KEYS, "{\"a\":[{\"b\":1,\"b\":2}]}", "not Extended JSON at a.0.b (a key that stands twice in its object)"));
+    CHECK(explains(VBSON_REJECT_DUPLICATE_KEYS, "{\"a\":[{\"b\":1,\"b\":2}]}", "not Extended JSON at a.0.b (duplicate key)"));
     CHECK(explains(0, "{\"a\":[{\"b\":1,\"b\":2}]}", "") && explains(VBSON_REJECT_DUPLICATE_KEYS, "{\"a\":[{\"b\":1},{\"b\":2}]}", ""));
-    CHECK(explains(VBSON_REJECT_DUPLICATE_KEYS | VBSON_LEGACY, "[1.5,", "not JSON at column 5 (the text ends before its value is whole)"));
+    CHECK(explains(VBSON_REJECT_DUPLICATE_KEYS | VBSON_LEGACY, "[1.5,", "not JSON at column 5 (unexpected end of input)"));
     CHECK(explains(VBSON_LEGACY, "{\"$binary\":\"AQI=\",\"$type\":\"00\"}", ""));
     CHECK(explains(0, "{\"$binary\":\"AQI=\",\"$type\":\"00\"}",
         "not Extended JSON (`$binary` stands alone in its object; found {\"$binary\":\"AQI=\",\"$type\":\"00\"})"));
@@ -277,18 +277,18 @@ static void decode(void) {
 
 static void explain_document(void) {
     static const struct { const char *bytes; size_t len; const char *words; } none[] = {
-        {"", 0, "no document at byte 0 (ends too early)"},
-        {"\5\0\0", 4, "no document at byte 4 (ends too early)"},
-        {"\6\0\0\0", 5, "no document at byte 0 (a wrong length)"},
-        {"\5\0\0\0\0", 6, "no document at byte 5 (bytes behind the document)"},
-        {"\10\0\0\0\24a\0", 8, "no document at byte 4 (no type of BSON)"},
-        {"\10\0\0\0\12\377\0", 8, "no document at byte 5 (no UTF-8)"},
-        {"\16\0\0\0\2a\0\2\0\0\0xy", 14, "no document at byte 12 (no 0 behind a text)"},
+        {"", 0, "not a document at byte 0 (ends too early)"},
+        {"\5\0\0", 4, "not a document at byte 4 (ends too early)"},
+        {"\6\0\0\0", 5, "not a document at byte 0 (invalid length)"},
+        {"\5\0\0\0\0", 6, "not a document at byte 5 (trailing bytes after the document)"},
+        {"\10\0\0\0\24a\0", 8, "not a document at byte 4 (unknown element type)"},
+        {"\10\0\0\0\12\377\0", 8, "not a document at byte 5 (invalid UTF-8)"},
+        {"\16\0\0\0\2a\0\2\0\0\0xy", 14, "not a document at byte 12 (missing NUL after a string)"},
     };
     for (size_t i = 0; i < sizeof none / sizeof *none; i++) {
         CHECK(explains_bytes((const uint8_t *)none[i].bytes, none[i].len, none[i].words));
     }
-    CHECK(explains_bytes(truth_of_two, sizeof truth_of_two, "no document at byte 7 (a boolean is neither 0 nor 1)"));
+    CHECK(explains_bytes(truth_of_two, sizeof truth_of_two, "not a document at byte 7 (a boolean is neither 0 nor 1)"));
     CHECK(explains_bytes(five, sizeof five, ""));
     CHECK(explains_bytes(pair, sizeof pair, ""));
 }
@@ -486,6 +486,6 @@ int main(void) {
     decimals();
     object_ids();
     moments();
-    CHECK(strcmp(vbson_status_text(VBSON_BUFFER_TOO_SMALL), "no room") == 0);
+    CHECK(strcmp(vbson_status_text(VBSON_BUFFER_TOO_SMALL), "buffer too small") == 0);
     return end();
 }

@@ -42,7 +42,7 @@ def of_string(data, seen):
         value = bson_bytes.meaning(data)
     except bson_bytes.Fault as fault:
         seen[fault.name] += 1
-        words = f"no document at byte {fault.place} ({KINDS[fault.name]})"
+        words = f"not a document at byte {fault.place} ({KINDS[fault.name]})"
         return [(f"explain {digits}", f"0 {words.encode().hex()}"), (f"show {digits}", f"{vbson.NOT_A_DOCUMENT} ")]
     seen["a document"] += 1
     try:

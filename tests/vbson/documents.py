@@ -10,9 +10,9 @@ import re
 import vbson
 from rows import rows
 
-KINDS = {"Depth": "nests too deep", "Short": "ends too early", "Length": "a wrong length", "Tag": "no type of BSON",
-         "End": "no 0 behind a text", "Utf8": "no UTF-8", "Boolean": "a boolean is neither 0 nor 1",
-         "Trailing": "bytes behind the document"}
+KINDS = {"Depth": "nested too deep", "Short": "ends too early", "Length": "invalid length", "Tag": "unknown element type",
+         "End": "missing NUL after a string", "Utf8": "invalid UTF-8", "Boolean": "a boolean is neither 0 nor 1",
+         "Trailing": "trailing bytes after the document"}
 UNWRITTEN = {"Key": vbson.ZERO_IN_KEY, "Regex": vbson.ZERO_IN_REGEX}
 # Fewer than these are a sign that some rows are not found.
 LEAST_CASES = 700
@@ -22,7 +22,7 @@ def of_bytes(name, digits, wanted):
     """The calls on the bytes of a row, each with its status and what it leaves."""
     fault = re.fullmatch(r"Malformed \{ kind: (\w+), offset: (\d+) \}", wanted)
     if fault:
-        words = f"no document at byte {fault[2]} ({KINDS[fault[1]]})"
+        words = f"not a document at byte {fault[2]} ({KINDS[fault[1]]})"
         yield "explain", digits, vbson.OK, words.encode()
         for call in ("is", "canonical", "relaxed", "show"):
             yield call, digits, vbson.NOT_A_DOCUMENT, b""
@@ -88,9 +88,9 @@ def by_python(line):
             return f"0 {vbson.encode(given, keep_order=False).hex()}"
         return f"0 {vbson.decode(given, call, keep_order=False).encode().hex()}"
     except vbson.NotADocument as error:
-        words = vbson.explain_document(given) if call != "encode" else "no document"
+        words = vbson.explain_document(given) if call != "encode" else "not a document"
         # (the error is made of those words, and offset and reason are all of them)
-        is_whole = str(error) == words == f"no document at byte {error.offset} ({error.reason})" or call == "encode"
+        is_whole = str(error) == words == f"not a document at byte {error.offset} ({error.reason})" or call == "encode"
         return f"{vbson.NOT_A_DOCUMENT if is_whole else -1} "
     except vbson.NotEncodable as error:
         return f"{CAUSES[str(error)]} "

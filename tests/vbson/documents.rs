@@ -44,7 +44,7 @@ fn mode_of(call: &str) -> Mode {
 
 /// Whether the error is made of the words for these bytes, and place and reason are all of them.
 fn is_explained(error: &Error, given: &[u8]) -> bool {
-    let words = format!("no document at {} ({})", error.path(), error.reason());
+    let words = format!("not a document at {} ({})", error.path(), error.reason());
     error.to_string() == words && explain_document(given).as_ref() == Some(error)
 }
 

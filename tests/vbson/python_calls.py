@@ -49,7 +49,7 @@ def try_texts():
     want("U+0000", vbson.convert('"a\\u0000b"', vbson.SHOW), '"a\0b"')
     want("other scripts", vbson.convert('"\u00e9\U0001f600"', vbson.RELAXED), '"\u00e9\U0001f600"')
     want("a bytearray", vbson.convert(bytearray(b"[1]"), vbson.RELAXED), "[1]")
-    raises("no text", vbson.NotJson, vbson.convert, "")
+    raises("not representable", vbson.NotJson, vbson.convert, "")
     raises("a lone surrogate", vbson.NotJson, vbson.convert, '"\ud800"')
     for name, mode in (("canonical", vbson.CANONICAL), ("relaxed", vbson.RELAXED), ("show", vbson.SHOW)):
         want(f"the mode {name}", vbson.convert("[5]", name), vbson.convert("[5]", mode))
@@ -136,10 +136,10 @@ def try_reading():
     want("the hash of a price", vbson.hash_of("12.5", doubles=True), sip13(struct.pack("<d", 12.5)))
     raises("a price without doubles", vbson.NotExtendedJson, vbson.same, price, other, doubles=False)
     raises("the hash of a price without doubles", vbson.NotExtendedJson, vbson.hash_of, price, doubles=False)
-    words = "not Extended JSON at a.0.b (a key that stands twice in its object)"
-    wanted = words, ["a", 0, "b"], "a key that stands twice in its object", vbson.NotExtendedJson
+    words = "not Extended JSON at a.0.b (duplicate key)"
+    wanted = words, ["a", 0, "b"], "duplicate key", vbson.NotExtendedJson
     strict = {"reject_duplicate_keys": True}
-    want("a duplicate key", refusal(lambda it: vbson.same("1", it, **strict), twice), wanted)
+    want("duplicate key", refusal(lambda it: vbson.same("1", it, **strict), twice), wanted)
     want("the hash of a duplicate key", refusal(lambda it: vbson.hash_of(it, **strict), twice), wanted)
     want("a duplicate key explained", (vbson.explain(twice), vbson.explain(twice, **strict)), ("", words))
     want("the last value", vbson.same(twice, '{"a":[{"b":2}]}'), True)
@@ -155,7 +155,7 @@ def try_reading():
     want("the hash of a document", vbson.hash_of_document(memoryview(turned)), vbson.hash_of(price, doubles=True))
     doubled = b"\x13\0\0\0\x10b\0\5\0\0\0\x10b\0\6\0\0\0\0"
     want("the last value of a document", vbson.same_documents(doubled, vbson.encode('{"b":6}')), True)
-    wanted = "no document (a duplicate key)", [], "a duplicate key", vbson.NotADocument
+    wanted = "not a document (duplicate key)", [], "duplicate key", vbson.NotADocument
     want("a duplicate key of a document", refusal(lambda it: vbson.hash_of_document(it, **strict), doubled), wanted)
     want("the first of two documents", refusal(lambda it: vbson.same_documents(it, b"", **strict), doubled), wanted)
     want("the second of two", refusal(lambda it: vbson.same_documents(document, it, **strict), doubled), wanted)
@@ -226,7 +226,7 @@ def try_documents():
     want("encoded bytes", vbson.encode(b'{"n": 5}'), five)
     want("keys ascend", vbson.encode('{"b":null,"a":null}', **SORTED), bytes.fromhex("0b0000000a61000a620000"))
     want("a document", vbson.is_document(memoryview(five)), True)
-    want("no document", [vbson.is_document(five[:n]) for n in range(12)], [False] * 12)
+    want("not a document", [vbson.is_document(five[:n]) for n in range(12)], [False] * 12)
     want("a double", vbson.decode(double, doubles=True), '{"a":{"$numberDouble":"1.5"}}')
     want("a double, relaxed", vbson.decode(double, "relaxed", doubles=True), '{"a":1.5}')
     want("a double shown", vbson.decode(double, "show"), '{ "a": Double(0x3ff8000000000000) }')
@@ -234,13 +234,13 @@ def try_documents():
     raises("a double without", vbson.NotRepresentable, vbson.decode, double, doubles=False)
     raises("a double there without", vbson.NotExtendedJson, vbson.encode, '{"a":1.5}', doubles=False)
     want("no double there", refusal(vbson.encode, '{"a":1.5}', doubles=False)[1:3], (["a"], "a number is no whole number of 64 bits; found 1.5"))
-    for given, offset, path, why in ((b"", 0, [], "ends too early"), (five + b"\0", 12, [], "bytes behind the document"),
+    for given, offset, path, why in ((b"", 0, [], "ends too early"), (five + b"\0", 12, [], "trailing bytes after the document"),
                                      (bytes.fromhex("090000000861000200"), 7, ["a"], "a boolean is neither 0 nor 1")):
-        words = f"no document at byte {offset} ({why})"
+        words = f"not a document at byte {offset} ({why})"
         want(f"{given.hex()} explained", vbson.explain_document(given), words)
         want(f"{given.hex()} decoded", refusal(vbson.decode, given), (words, path, why, vbson.NotADocument))
     want("nothing to explain", vbson.explain_document(five), "")
-    want("another value", refusal(vbson.encode, "[1]"), ("no document", [], "no document", vbson.NotADocument))
+    want("another value", refusal(vbson.encode, "[1]"), ("not a document", [], "not a document", vbson.NotADocument))
     want("a 0 byte", refusal(vbson.encode, '{"a\\u0000":1}')[::3], ("a key has a 0 byte in it", vbson.NotEncodable))
     raises("an id", vbson.BadObjectId, vbson.encode, '{"a":{"$oid":"5"}}')
     for it in ("{}", 5, None, [12], 1.5):

@@ -15,7 +15,7 @@ def try_places():
     digits = 'an object id has 24 digits, but "53e3" has 4'
     no_digit = "the character '%s' at %d in \"%s\" is no hexadecimal digit"
     blank, letter = no_digit % (" ", 1, "5 (xy)"), no_digit % ("z", 0, "zz (a)")
-    early, quotes = "the text ends before its value is whole", "a key or a text stands in double quotes"
+    early, quotes = "unexpected end of input", "keys and strings must be in double quotes"
     both = vbson.NotExtendedJson, vbson.BadObjectId
     # (of a path and of a message 300 characters are told)
     long, cut = "a" * 1000, "a" * 300 + ".."
@@ -23,7 +23,7 @@ def try_places():
             ("[1, 2", f"not JSON at column 5 ({early})", [], early, vbson.NotJson),
             ("{'a':1}", f"not JSON at column 2 ({quotes})", [], quotes, vbson.NotJson),
             ("", f"not JSON at column 1 ({early})", [], early, vbson.NotJson),
-            ("[1e400]", "not JSON at column 2 (a number is out of range)", [], "a number is out of range", vbson.NotJson),
+            ("[1e400]", "not JSON at column 2 (number out of range)", [], "number out of range", vbson.NotJson),
             ('{"a (":[{"b)":1.5}]}', f"not Extended JSON at a (.0.b) ({number})", ["a (", 0, "b)"], number, both[0]),
             ("1.5", f"not Extended JSON ({number})", [], number, both[0]),
             ('{"a (":{"$date":" (a)"}}', f'not Extended JSON at a (.$date ({date}; found " (a)")', ["a (", "$date"], f'{date}; found " (a)"', both[0]),
@@ -44,7 +44,7 @@ def try_places():
         want(f"the hash of {text}", refusal(vbson.hash_of, text, **STRICT), wanted)
     want("nothing to explain", (vbson.explain("{}"), vbson.explain("1.5")), ("", ""))
     want("the path with doubles", refusal(vbson.convert, '[1.5,{"$numberInt":""}]')[1], [1, "$numberInt"])
-    want("no path", refusal(vbson.object_id, "53e3"), ("no such text", [], "no such text", vbson.InvalidString))
+    want("no path", refusal(vbson.object_id, "53e3"), ("invalid string", [], "invalid string", vbson.InvalidString))
     try:
         vbson.convert("[1.5]", doubles=False)
     except vbson.Error as it:
@@ -100,7 +100,7 @@ def try_documents():
     document = vbson.encode('{"x":[1,{"d":{"$code":"f","$scope":{"p":1.5}}}],"s":"abc"}')
     double = vbson.NotRepresentable, vbson.NOT_REPRESENTABLE, ["x", 1, "d", "$scope", "p"], None, None, None
     want("a double", fields(vbson.decode, document, **STRICT), double)
-    want("a double's message", refusal(vbson.decode, document, **STRICT)[::2], ("no text at x.1.d.$scope.p (a finite double)", "a finite double"))
+    want("a double's message", refusal(vbson.decode, document, **STRICT)[::2], ("not representable at x.1.d.$scope.p (a finite double)", "a finite double"))
     damaged = document.replace(struct.pack("<d", 1.5), b"\0" * 8).replace(b"abc", b"a\xff\xff")
     found = fields(vbson.decode, damaged)
     want("damaged bytes", found[:3], (vbson.NotADocument, vbson.NOT_A_DOCUMENT, ["s"]))
@@ -136,10 +136,10 @@ def try_options():
         want(f"{call.__name__} without one", call('{"a":[{"b":1}]}', reject_duplicate_keys=True), call('{"a":[{"b":1}]}'))
     doubled = b"\x13\0\0\0\x10b\0\5\0\0\0\x10b\0\6\0\0\0\0"
     for call in (vbson.decode, vbson.hash_of_document):
-        want(f"{call.__name__} with a duplicate key", refusal(call, doubled, reject_duplicate_keys=True)[::2], ("no document (a duplicate key)", "a duplicate key"))
+        want(f"{call.__name__} with a duplicate key", refusal(call, doubled, reject_duplicate_keys=True)[::2], ("not a document (duplicate key)", "duplicate key"))
     strict = {"reject_duplicate_keys": True}
     want("is_document with a duplicate key", (vbson.is_document(doubled), vbson.is_document(doubled, **strict)), (True, False))
-    want("a duplicate key explained", (vbson.explain_document(doubled), vbson.explain_document(doubled, **strict)), ("", "no document (a duplicate key)"))
+    want("a duplicate key explained", (vbson.explain_document(doubled), vbson.explain_document(doubled, **strict)), ("", "not a document (duplicate key)"))
     want("no duplicate key explained", vbson.explain_document(document, **strict), "")
     want("the specification's options", vbson.convert('{"b":1,"a":2}', "relaxed", **vbson.SPECIFIED), '{"a":2,"b":1}')
 

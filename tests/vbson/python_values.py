@@ -88,7 +88,7 @@ def try_both(types):
     raises("a 0 byte in a key", vbson.NotEncodable, vbson.loads, '{"a\\u0000":1}', types=types)
     raises("a 0 byte in a key there", vbson.NotEncodable, vbson.dumps, {"a\0": 1}, types=types)
     raises("no value", vbson.UnsupportedType, vbson.dumps, object(), types=types)
-    raises("no text", TypeError, vbson.loads, 5, types=types)
+    raises("not representable", TypeError, vbson.loads, 5, types=types)
     values, refused = vbson.loads_lines('{"b":1,"a":[{"$ref":"x","$id":1}]}\n[1]\n{"$oid":"5"}\n\n{"b":1.5}\n', types=types)
     want("values of lines", values, [vbson.loads('{"b":1,"a":[{"$ref":"x","$id":1}]}', types=types), {"b": 1.5}])
     want("the keys of lines", [*map(list, values)], [["b", "a"], ["b"]])

@@ -11,15 +11,15 @@ abbrev pub newline : List ℕ
 newline = 10 ∷ []
 
 abbrev pub words_for : FaultKind → List ℕ
-words_for kind.Depth = codes "nests too deep"
+words_for kind.Depth = codes "nested too deep"
 words_for kind.Short = codes "ends too early"
-words_for kind.Length = codes "a wrong length"
-words_for kind.Tag = codes "no type of BSON"
-words_for kind.End = codes "no 0 behind a text"
-words_for kind.Utf8 = codes "no UTF-8"
+words_for kind.Length = codes "invalid length"
+words_for kind.Tag = codes "unknown element type"
+words_for kind.End = codes "missing NUL after a string"
+words_for kind.Utf8 = codes "invalid UTF-8"
 words_for kind.Boolean = codes "a boolean is neither 0 nor 1"
-words_for kind.Trailing = codes "bytes behind the document"
-words_for kind.DuplicateKey = codes "a key stands twice"
+words_for kind.Trailing = codes "trailing bytes after the document"
+words_for kind.DuplicateKey = codes "duplicate key"
 
 abbrev pub words_of : RunFault → List ℕ
 words_of (Malformed k n) = words_for k

@@ -129,14 +129,14 @@ fn words_for(kind: FaultKind) -> &'static str
     ensures { result.now ≡ words_for kind }
 {
     match kind {
-        FaultKind::Depth => "nests too deep",
+        FaultKind::Depth => "nested too deep",
         FaultKind::Short => "ends too early",
-        FaultKind::Length => "a wrong length",
-        FaultKind::Tag => "no type of BSON",
-        FaultKind::End => "no 0 behind a text",
-        FaultKind::Utf8 => "no UTF-8",
+        FaultKind::Length => "invalid length",
+        FaultKind::Tag => "unknown element type",
+        FaultKind::End => "missing NUL after a string",
+        FaultKind::Utf8 => "invalid UTF-8",
         FaultKind::Boolean => "a boolean is neither 0 nor 1",
-        FaultKind::Trailing => "bytes behind the document",
-        FaultKind::DuplicateKey => "a key stands twice",
+        FaultKind::Trailing => "trailing bytes after the document",
+        FaultKind::DuplicateKey => "duplicate key",
     }
 }

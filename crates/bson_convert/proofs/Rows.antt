@@ -42,7 +42,7 @@ lines_told = (refl, refl, refl, refl, refl, refl)
 
 -- ---- words of texts that give no bytes
 
-no_bytes_told : (words_of (error.NoBytes without.NoDocument) ≡ codes "no document")
+no_bytes_told : (words_of (error.NoBytes without.NoDocument) ≡ codes "not a document")
     × (words_of (error.NoBytes without.ZeroInKey) ≡ codes "a key has a 0 byte in it")
     × (words_of (error.NoBytes without.ZeroInRegex) ≡ codes "a regular expression has a 0 byte in it")
     × (words_of (error.NoBytes without.TooLong) ≡ codes "a part is too long for BSON")

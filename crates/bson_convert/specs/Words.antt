@@ -21,7 +21,7 @@ words_for (reason.BadObjectId e) = codes "bad object id"
 words_for (reason.WrongShape message) = codes "not Extended JSON"
 
 abbrev pub words_without : NoBytes → List ℕ
-words_without NoDocument = codes "no document"
+words_without NoDocument = codes "not a document"
 words_without ZeroInKey = codes "a key has a 0 byte in it"
 words_without ZeroInRegex = codes "a regular expression has a 0 byte in it"
 words_without TooLong = codes "a part is too long for BSON"

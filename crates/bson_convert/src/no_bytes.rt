@@ -6,7 +6,7 @@ ghost use Rattle.bson_convert.specs.Words.{words_without};
 ///
 /// ```
 /// if let Err(Error::NoBytes(why)) = encode_in_order(alloc, Options::default(), b"[1, 2]") {
-///     println!(rt; "{}", why.message())?; // no document
+///     println!(rt; "{}", why.message())?; // not a document
 /// }
 /// ```
 #[derive(Clone, Copy, PartialEq, Eq, Debug)]
@@ -27,7 +27,7 @@ impl NoBytes {
         ensures { result.now ≡ words_without self }
     {
         match self {
-            NoBytes::NoDocument => "no document",
+            NoBytes::NoDocument => "not a document",
             NoBytes::ZeroInKey => "a key has a 0 byte in it",
             NoBytes::ZeroInRegex => "a regular expression has a 0 byte in it",
             NoBytes::TooLong => "a part is too long for BSON",

@@ -94,7 +94,7 @@ abbrev pub IsLineFor : Stop → List ℕ → Type 0
 IsLineFor (stop.Input name error) line = IsUnusable (codes "read ") name.now (codes "input") error line
 IsLineFor (stop.Output name error) line = IsUnusable (codes "write ") name.now (codes "output") error line
 IsLineFor (stop.Both name) line =
-    line ≡ codes "bson: " ++ shown_name name.now (codes "input") ++ codes " is read and written"
+    line ≡ codes "bson: " ++ shown_name name.now (codes "input") ++ codes " is both an input and the output"
 IsLineFor stop.Terminal line =
     line ≡ codes "bson: BSON bytes are not written to a terminal; give -o FILE, or a pipe"
 IsLineFor (stop.Text name number fault place) line = line ≡ told_at name.now number fault (string_bytes place)

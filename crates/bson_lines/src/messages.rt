@@ -55,7 +55,7 @@ pub fn line_of(alloc: Global, stop: Stop<'_>) -> Result<String, AllocError>
         }
         Stop::Both(name) => {
             let name = show_name(alloc, name, "input")?;
-            format!(in alloc; "bson: {name} is read and written")
+            format!(in alloc; "bson: {name} is both an input and the output")
         }
         Stop::Terminal => String::from_str(alloc, TERMINAL),
         Stop::Text(name, number, fault, place) => at_text(alloc, name, number, &fault, &place),

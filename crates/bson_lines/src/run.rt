@@ -32,7 +32,7 @@ pub enum Stop<'a> {
     Input(&'a str, Option<Error>),
     /// The file can't be written.
     Output(&'a str, Option<Error>),
-    /// The file is read and written.
+    /// The file is both an input and the output.
     Both(&'a str),
     /// Bytes would go to a terminal.
     Terminal,

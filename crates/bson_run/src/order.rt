@@ -41,7 +41,7 @@ pub enum Task {
 /// let mut run = LineRun::new(alloc, task, OnRefusal::KeepGoing);
 /// drop(run.run(alloc, &mut lines, &mut output, &mut told));
 /// rt.print(str::from_utf8(&told)?)?;
-/// // bson: line 1: not Extended JSON at a (a key that stands twice in its object)
+/// // bson: line 1: not Extended JSON at a (duplicate key)
 /// ```
 #[derive(Clone, Copy, PartialEq, Eq, Debug)]
 pub enum Taking {
@@ -96,7 +96,7 @@ impl Task {
 /// let (mut output, mut told) = (Vec::new(alloc), Vec::new(alloc));
 /// let mut run = LineRun::new(alloc, Task::Write(Mode::Relaxed), OnRefusal::KeepGoing);
 /// drop(run.run(alloc, &mut lines, &mut output, &mut told));
-/// rt.print(str::from_utf8(&told)?)?; // bson: line 1: not JSON at column 1 (the text ends before its value is whole)
+/// rt.print(str::from_utf8(&told)?)?; // bson: line 1: not JSON at column 1 (unexpected end of input)
 /// rt.print(str::from_utf8(&output)?)?; // 2
 /// ```
 #[derive(Clone, Copy, PartialEq, Eq, Debug)]

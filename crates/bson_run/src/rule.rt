@@ -7,7 +7,7 @@ ghost use Rattle.bson_run.specs.Words.{words_broken};
 /// ```
 /// let text: &[u8] = b"[1, 2,]";
 /// let stop = Stop::of(alloc, text)?;
-/// println!(rt; "{}", stop.rule.message())?; // behind a comma another element is wanted
+/// println!(rt; "{}", stop.rule.message())?; // expected an element after the comma
 /// ```
 #[derive(Clone, Copy, PartialEq, Eq, Debug)]
 pub enum Rule {
@@ -23,7 +23,7 @@ pub enum Rule {
     Number,
     /// A text has a character below U+0020 in it, as a tab or a newline.
     ControlCharacter,
-    /// A text has an escape that stands for no character, as `\x41` or half of a surrogate pair.
+    /// A string has an escape that denotes no character, such as `\x41` or half of a surrogate pair.
     Escape,
     /// Neither a comma nor the closing bracket stands behind an element; or a bracket is closed that
     /// is not open, or a key stands outside of an object.
@@ -48,20 +48,20 @@ impl Rule {
         ensures { result.now ≡ words_broken self }
     {
         match self {
-            Rule::Utf8 => "bytes that are no UTF-8",
-            Rule::EndsEarly => "the text ends before its value is whole",
-            Rule::Quotes => "a key or a text stands in double quotes",
-            Rule::NoValue => "no value begins so",
-            Rule::Number => "no number of JSON is written so",
-            Rule::ControlCharacter => "a control character stands in a text",
-            Rule::Escape => "an escape that stands for no character",
-            Rule::Separator => "a comma or a bracket is missing",
-            Rule::BehindComma => "behind a comma another element is wanted",
-            Rule::BehindKey => "behind a key a colon and a value are wanted",
-            Rule::Depth => "it nests deeper than 127",
-            Rule::MoreBehind => "more stands behind the value",
-            Rule::OutOfRange => "a number is out of range",
-            Rule::RewrittenDepth => "the rewritten text nests deeper than 127 levels",
+            Rule::Utf8 => "invalid UTF-8",
+            Rule::EndsEarly => "unexpected end of input",
+            Rule::Quotes => "keys and strings must be in double quotes",
+            Rule::NoValue => "expected a value",
+            Rule::Number => "invalid number",
+            Rule::ControlCharacter => "unescaped control character in a string",
+            Rule::Escape => "invalid escape sequence",
+            Rule::Separator => "expected a comma or a closing bracket",
+            Rule::BehindComma => "expected an element after the comma",
+            Rule::BehindKey => "expected a colon and a value after the key",
+            Rule::Depth => "nested more than 127 levels deep",
+            Rule::MoreBehind => "unexpected data after the value",
+            Rule::OutOfRange => "number out of range",
+            Rule::RewrittenDepth => "the rewritten input is nested more than 127 levels deep",
         }
     }
 }

@@ -11,7 +11,7 @@ use bson_place::place::{Place, Reason};
 use std::alloc::Global;
 
 /// What is told of a key that stands twice.
-pub(crate) const DOUBLE_KEY: &str = "a key that stands twice in its object";
+pub(crate) const DOUBLE_KEY: &str = "duplicate key";
 
 /// Returns the text that is read instead of the bytes, or `None` if the bytes themselves are read.
 ///

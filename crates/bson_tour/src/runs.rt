@@ -108,7 +108,7 @@ fn encode_in_order_call(rt: &impl Print, alloc: Global) -> anyhow::Result<()> {
 
 fn no_bytes(rt: &impl Print, alloc: Global) -> anyhow::Result<()> {
     if let Err(Error::NoBytes(why)) = encode_in_order(alloc, Options::default(), b"[1, 2]") {
-        println!(rt; "{}", why.message())?; // no document
+        println!(rt; "{}", why.message())?; // not a document
     }
     Ok(())
 }
@@ -215,7 +215,7 @@ fn on_refusal(rt: &impl Print, alloc: Global) -> anyhow::Result<()> {
     let (mut output, mut told) = (Vec::new(alloc), Vec::new(alloc));
     let mut run = LineRun::new(alloc, Task::Write(Mode::Relaxed), OnRefusal::KeepGoing);
     drop(run.run(alloc, &mut lines, &mut output, &mut told));
-    rt.print(str::from_utf8(&told)?)?; // bson: line 1: not JSON at column 1 (the text ends before its value is whole)
+    rt.print(str::from_utf8(&told)?)?; // bson: line 1: not JSON at column 1 (unexpected end of input)
     rt.print(str::from_utf8(&output)?)?; // 2
     Ok(())
 }
@@ -230,7 +230,7 @@ fn stop(rt: &impl Print, alloc: Global) -> anyhow::Result<()> {
 fn rule(rt: &impl Print, alloc: Global) -> anyhow::Result<()> {
     let text: &[u8] = b"[1, 2,]";
     let stop = Stop::of(alloc, text)?;
-    println!(rt; "{}", stop.rule.message())?; // behind a comma another element is wanted
+    println!(rt; "{}", stop.rule.message())?; // expected an element after the comma
     Ok(())
 }
 
@@ -249,7 +249,7 @@ fn taking(rt: &impl Print, alloc: Global) -> anyhow::Result<()> {
     let mut run = LineRun::new(alloc, task, OnRefusal::KeepGoing);
     drop(run.run(alloc, &mut lines, &mut output, &mut told));
     rt.print(str::from_utf8(&told)?)?;
-    // bson: line 1: not Extended JSON at a (a key that stands twice in its object)
+    // bson: line 1: not Extended JSON at a (duplicate key)
     Ok(())
 }
 

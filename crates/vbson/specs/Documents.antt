@@ -79,7 +79,7 @@ pub record HasNoText (o : Options) (number : ℕ) (bytes : List ℕ) : Type 0 wh
 
 -- the number of bytes before the place of a fault, and words for what is wrong there
 abbrev pub words_at : ℕ → List ℕ → List ℕ
-words_at n words = codes "no document at byte " ++ decimal n ++ codes " (" ++ words ++ codes ")"
+words_at n words = codes "not a document at byte " ++ decimal n ++ codes " (" ++ words ++ codes ")"
 
 -- no words for bytes that are a document, and else those for their first fault
 abbrev pub ExplainsDocument : List ℕ → List ℕ → Type 0

@@ -22,7 +22,7 @@ pub extern "C" fn vbson_is_document(bytes: &[u8]) -> u32
     }
 }
 
-/// Leaves the words for why bytes are no document, and where: `no document at byte 4 (ends too
+/// Leaves the words for why bytes are no document, and where: `not a document at byte 4 (ends too
 /// early)`; no words where they are one.
 #[unsafe(no_mangle)]
 pub extern "C" fn vbson_explain_document(
@@ -61,6 +61,6 @@ fn line_at(alloc: Global, offset: usize, words: &str) -> Result<Vec<u8>, AllocEr
     ensures { IfOk result (λ line. IsUtf8 (words_at offset words.now)
         × (line.items ≡ words_at offset words.now ++ newline)) }
 {
-    let line = format!(in alloc; "no document at byte {offset} ({words})\n")?;
+    let line = format!(in alloc; "not a document at byte {offset} ({words})\n")?;
     Ok(line.into_bytes())
 }

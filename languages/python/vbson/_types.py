@@ -109,7 +109,7 @@ class Plain(Types):
         try:
             return Writer(default).pairs([(KEY, value)])
         except RecursionError:
-            raise NotADocument("no document (nests too deep)", "nests too deep") from None
+            raise NotADocument("not a document (nested too deep)", "nested too deep") from None
         except Error as error:
             raise errors.placed(error, error.path[1:])
 

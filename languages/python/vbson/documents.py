@@ -15,8 +15,8 @@ def of_bytes(document):
     status, words = _calls.text_of(_calls.library.vbson_explain_document, document, len(document))
     # (only bytes with a duplicate key have no words; without memory for the words, the error has no path)
     if status == errors.OK and not words:
-        return errors.NotADocument("no document (a duplicate key)", "a duplicate key")
-    return errors.of_bytes(words or "no document", document)
+        return errors.NotADocument("not a document (duplicate key)", "duplicate key")
+    return errors.of_bytes(words or "not a document", document)
 
 
 def expect_documents(status, flags, *documents):
@@ -46,7 +46,7 @@ def explain_document(document: Bytes, **options: bool) -> str:
     """Returns why, and where, the bytes are not a document, as one line; empty if they are one. Raises MemoryError.
 
     >>> explain_document(b"\\x05\\0\\0\\0")
-    'no document at byte 4 (ends too early)'
+    'not a document at byte 4 (ends too early)'
     """
     flags, given = flags_of(options, REJECT_DUPLICATE_KEYS, NO_CHANGE), document_bytes(document)
     status, words = _calls.text_of(_calls.library.vbson_explain_document, given, len(given))

@@ -102,8 +102,8 @@ class NoValue(Error):
 
 _ERRORS = {INVALID_ARGUMENT: (ValueError, "no such mode or flag"), NOT_JSON: (NotJson, "not JSON"),
            BAD_OBJECT_ID: (BadObjectId, "bad object id"), NOT_EXTENDED_JSON: (NotExtendedJson, "not Extended JSON"),
-           OUT_OF_MEMORY: (MemoryError, "out of memory"), INVALID_STRING: (InvalidString, "no such text"),
-           NOT_REPRESENTABLE: (NotRepresentable, "no text"), NOT_A_DOCUMENT: (NotADocument, "no document"),
+           OUT_OF_MEMORY: (MemoryError, "out of memory"), INVALID_STRING: (InvalidString, "invalid string"),
+           NOT_REPRESENTABLE: (NotRepresentable, "not representable"), NOT_A_DOCUMENT: (NotADocument, "not a document"),
            ZERO_IN_KEY: (NotEncodable, "a key has a 0 byte in it"),
            ZERO_IN_REGEX: (NotEncodable, "a regular expression has a 0 byte in it"), TOO_LONG: (NotEncodable, "a part is too long for BSON")}
 # A byte order mark, which is skipped at the start of a block of lines.
@@ -165,9 +165,9 @@ def start_of_line(words, text, explained):
     """Returns where the line of a text begins whose column the words of `explain` name. explained returns those of a part."""
     ends = [it.end() for it in re.finditer(b"\n", text)] + [len(text)]
     found = _OF_JSON.search(words)
-    if found is None or found[2] == "the text ends before its value is whole":
+    if found is None or found[2] == "unexpected end of input":
         return text.rfind(b"\n", 0, max(0, len(text) - 1)) + 1
-    if found[2] == "a number is out of range":
+    if found[2] == "number out of range":
         numbers = ((start, _NUMBER.match(text, start + int(found[1]) - 1)) for start in [0, *ends])
         return next((start for start, it in numbers if it and math.isinf(float(it[0]))), 0)
     low, high = 0, len(ends) - 1
@@ -197,7 +197,7 @@ def of_lines(diagnostics, block):
 
 def of_bytes(words, document):
     """Returns the error of bytes that are not a document, from the words of `explain_document`."""
-    found = _OF_BYTES.fullmatch(words.removeprefix("no document"))
+    found = _OF_BYTES.fullmatch(words.removeprefix("not a document"))
     if not found:
         return NotADocument(words)
     return NotADocument(words, found[2], _paths.at_offset(document, int(found[1])), offset=int(found[1]))
@@ -207,7 +207,7 @@ def of_double(document, hidden=0):
     """Returns the error of a document with a finite double, which has no text without `doubles`. Its path lacks the first keys,
     which are hidden."""
     path, reason = (_paths.of_finite_double(document) or [])[hidden:], "a finite double"
-    return NotRepresentable(f"no text{f' at {_paths.joined(path)}' if path else ''} ({reason})", reason, path)
+    return NotRepresentable(f"not representable{f' at {_paths.joined(path)}' if path else ''} ({reason})", reason, path)
 
 
 def of_documents(diagnostics, block):
@@ -217,7 +217,7 @@ def of_documents(diagnostics, block):
         number, start, reason, offset = _OF_DOCUMENT.fullmatch(diagnostic).groups()
         length = int.from_bytes(block[int(start):int(start) + 4], "little")
         document = block[int(start):int(start) + length]
-        error = of_double(document) if offset is None else of_bytes(f"no document at byte {offset} ({reason})", document)
+        error = of_double(document) if offset is None else of_bytes(f"not a document at byte {offset} ({reason})", document)
         refused.append((int(number), int(start), error))
     return refused
 

@@ -132,7 +132,7 @@ def dump_documents(values: Iterable[Any], file: IO[bytes], types: str = "plain",
             document = made[7:-1]
             if made[4] != 3:
                 reason = f"a document is needed, and not {type(value).__name__}"
-                raise errors.NotADocument(f"no document ({reason})", reason)
+                raise errors.NotADocument(f"not a document ({reason})", reason)
             if not documents.is_document(document):
                 raise documents.of_bytes(document)
         except Error as error:

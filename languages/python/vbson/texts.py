@@ -56,7 +56,7 @@ def convert_lines(block: Given, mode: Mode = CANONICAL, **options: bool) -> Tupl
 
     >>> text, refused = convert_lines('{"n": 1}\\n{"n": \\n', "relaxed")
     >>> text, [(number, error.reason) for number, error in refused]
-    (b'{"n":1}\\n', [(2, 'the text ends before its value is whole')])
+    (b'{"n":1}\\n', [(2, 'unexpected end of input')])
 
     A newline ends a line; bytes after the last newline are a line too. A line of spaces, tabs and carriage returns counts,
     and has no output. A byte order mark at the start of the block is skipped. Raises MemoryError.
@@ -133,7 +133,7 @@ def encode_lines(block: Given, **options: bool) -> Tuple[bytes, List[Tuple[int, 
 
     >>> dump, refused = encode_lines('{"n": 5}\\n[1]\\n')
     >>> len(dump), [(number, str(error)) for number, error in refused]
-    (12, [(2, 'no document')])
+    (12, [(2, 'not a document')])
 
     The lines are those of `convert_lines`. Raises MemoryError.
     """

@@ -63,7 +63,7 @@ fn rejected(kind: ErrorKind, options: ReadOptions, documents: &[&[u8]]) -> Error
     let is_rejected = |it: &&&[u8]| call::hash_document(options.flags(), it) == Err(ErrorKind::NotADocument);
     match documents.iter().find(is_rejected) {
         Some(it) if kind == ErrorKind::NotADocument => {
-            explain_document(it).unwrap_or_else(|| Error::explained(kind, "no document (a duplicate key)"))
+            explain_document(it).unwrap_or_else(|| Error::explained(kind, "not a document (duplicate key)"))
         }
         _ => kind.into(),
     }

@@ -33,9 +33,9 @@ impl ErrorKind {
             ErrorKind::BadObjectId => "bad object id",
             ErrorKind::NotExtendedJson => "not Extended JSON",
             ErrorKind::OutOfMemory => "out of memory",
-            ErrorKind::InvalidString => "no such text",
-            ErrorKind::NotRepresentable => "no text",
-            ErrorKind::NotADocument => "no document",
+            ErrorKind::InvalidString => "invalid string",
+            ErrorKind::NotRepresentable => "not representable",
+            ErrorKind::NotADocument => "not a document",
             ErrorKind::ZeroInKey => "a key has a 0 byte in it",
             ErrorKind::ZeroInRegex => "a regular expression has a 0 byte in it",
             ErrorKind::TooLong => "a part is too long for BSON",
@@ -64,7 +64,7 @@ impl Error {
     }
 
     /// Returns what is wrong there: `a number is no whole number of 64 bits; found 1.5`. If the input is not JSON, it is the
-    /// broken rule, for example `a comma or a bracket is missing`. Otherwise it is the message of the kind.
+    /// broken rule, for example `expected a comma or a closing bracket`. Otherwise it is the message of the kind.
     pub fn reason(&self) -> &str {
         Some(self.parts().1).filter(|it| !it.is_empty()).unwrap_or(self.kind.words())
     }

@@ -94,7 +94,7 @@ fn refusals(diagnostics: &str) -> Vec<(u64, Error)> {
     diagnostics.lines().map(|it| refusal(it).expect("a diagnostic has a number and a kind")).collect()
 }
 
-/// The number and the error of a diagnostic, `bson: line 3: not JSON at column 7 (no value begins so)`.
+/// The number and the error of a diagnostic, `bson: line 3: not JSON at column 7 (expected a value)`.
 fn refusal(diagnostic: &str) -> Option<(u64, Error)> {
     let (number, words) = diagnostic.strip_prefix("bson: line ")?.split_once(": ")?;
     let of_texts = [ErrorKind::NotJson, ErrorKind::BadObjectId, ErrorKind::NotExtendedJson];
@@ -108,7 +108,7 @@ fn refused_document(diagnostic: &str) -> Option<RefusedDocument> {
     let (head, words) = diagnostic.strip_prefix("document ")?.split_once(": ")?;
     let (number, start) = head.split_once(" at byte ")?;
     let error = match words.rsplit_once(" at its byte ") {
-        Some((reason, at)) => Error::explained(ErrorKind::NotADocument, &format!("no document at byte {at} ({reason})")),
+        Some((reason, at)) => Error::explained(ErrorKind::NotADocument, &format!("not a document at byte {at} ({reason})")),
         None => ErrorKind::NotRepresentable.into(),
     };
     Some(RefusedDocument { number: number.parse().ok()?, start: start.parse().ok()?, error })

@@ -67,7 +67,7 @@ fn faults_are_told() {
 #[test]
 fn places_are_told() {
     let number = "a number is no whole number of 64 bits; found 1.5";
-    let (early, quotes) = ("the text ends before its value is whole", "a key or a text stands in double quotes");
+    let (early, quotes) = ("unexpected end of input", "keys and strings must be in double quotes");
     let date = r#"`$date` holds `$numberLong`, an RFC 3339 text or a whole number; found " (a)""#;
     let digit = "the character ' ' at 4 in \"53e3 (\" is no hexadecimal digit";
     // (of a path and of a message 300 characters are told)
@@ -76,7 +76,7 @@ fn places_are_told() {
         ("[1, 2", format!("not JSON at column 5 ({early})"), "column 5", early),
         ("{'a':1}", format!("not JSON at column 2 ({quotes})"), "column 2", quotes),
         ("", format!("not JSON at column 1 ({early})"), "column 1", early),
-        ("[1e400]", "not JSON at column 2 (a number is out of range)".to_owned(), "column 2", "a number is out of range"),
+        ("[1e400]", "not JSON at column 2 (number out of range)".to_owned(), "column 2", "number out of range"),
         (r#"{"a (":[{"b":1.5}]}"#, format!("not Extended JSON at a (.0.b ({number})"), "a (.0.b", number),
         ("1.5", format!("not Extended JSON ({number})"), "", number),
         (r#"{"a (":{"$date":" (a)"}}"#, format!("not Extended JSON at a (.$date ({date})"), "a (.$date", date),
@@ -91,7 +91,7 @@ fn places_are_told() {
         assert_eq!(hash(ReadOptions::default(), text.as_bytes()).as_ref(), Err(&error));
     }
     let error = "53e3".parse::<ObjectId>().unwrap_err();
-    assert_eq!((error.to_string().as_str(), error.path(), error.reason()), ("no such text", "", "no such text"));
+    assert_eq!((error.to_string().as_str(), error.path(), error.reason()), ("invalid string", "", "invalid string"));
 }
 
 #[test]
@@ -116,7 +116,7 @@ fn what_is_compared_has_options() {
     let strict = ReadOptions { reject_duplicate_keys: true, ..doubles };
     let twice = br#"{"a":[{"b":1,"b":2}]}"#;
     let error = same(strict, b"1", twice).unwrap_err();
-    assert_eq!((error.kind(), error.path(), error.reason()), (ErrorKind::NotExtendedJson, "a.0.b", "a key that stands twice in its object"));
+    assert_eq!((error.kind(), error.path(), error.reason()), (ErrorKind::NotExtendedJson, "a.0.b", "duplicate key"));
     assert_eq!(hash(strict, twice), Err(error));
     assert_eq!(same(default, twice, br#"{"a":[{"b":2}]}"#), Ok(true));
     let legacy = ReadOptions { legacy: true, ..default };
@@ -144,7 +144,7 @@ fn documents_are_compared_by_their_bytes() {
     assert_eq!(hash_document(options, twice), hash(options, br#"{"b":6}"#));
     let strict = ReadOptions { reject_duplicate_keys: true, ..options };
     let error = same_documents(strict, twice, &one[..9]).unwrap_err();
-    assert_eq!((error.kind(), error.path(), error.reason()), (ErrorKind::NotADocument, "", "a duplicate key"));
+    assert_eq!((error.kind(), error.path(), error.reason()), (ErrorKind::NotADocument, "", "duplicate key"));
     assert_eq!(hash_document(strict, twice), Err(error));
     assert_eq!(same_documents(strict, &one, &other), Ok(true));
 }
@@ -181,7 +181,7 @@ fn documents_are_decoded_in_one_call() {
     assert_eq!((&*found.text, found.count, found.consumed), ("{\"b\":1.5,\"a\":2}\n{}\n", 4, 37));
     let refused: Vec<_> = found.refused.iter().map(|it| (it.number, it.start, it.error.to_string())).collect();
     let boolean = explain_document(&bad).unwrap().to_string();
-    assert_eq!(refused, [(2, 23, boolean), (4, 37, "no document at byte 0 (ends too early)".to_owned())]);
+    assert_eq!(refused, [(2, 23, boolean), (4, 37, "not a document at byte 0 (ends too early)".to_owned())]);
     let found = decode_documents(Mode::Canonical, options, &double).unwrap();
     assert_eq!((&*found.text, found.count, found.consumed, found.refused.len()), ("", 1, 23, 1));
     assert_eq!(found.refused[0].error, decode(Mode::Canonical, options, &double).unwrap_err());
@@ -208,7 +208,7 @@ fn documents_come_back_from_their_bytes() {
         assert_eq!(explain_document(&five[..len]), Some(error));
     }
     let error = decode(Mode::Show, options, &[9, 0, 0, 0, 8, b'a', 0, 2, 0]).unwrap_err();
-    assert_eq!(error.to_string(), "no document at byte 7 (a boolean is neither 0 nor 1)");
+    assert_eq!(error.to_string(), "not a document at byte 7 (a boolean is neither 0 nor 1)");
     assert_eq!((error.path(), error.reason()), ("byte 7", "a boolean is neither 0 nor 1"));
     for (text, wanted) in [
         ("[]", ErrorKind::NotADocument),
