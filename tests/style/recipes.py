@@ -23,6 +23,8 @@ LIBRARY = f"{sources.TOP}/languages/out/lib/libvbson.so"
 TOOLS, MODULES = ("jq", "sqlite3"), ("pandas", "distributed")
 COMMAND = "    $ "
 ENGINES = ("sc", "ray")
+# The first that has the modules of a block runs it. Debian's packages are modules of the second.
+PYTHONS = (sys.executable, "/usr/bin/python3")
 
 
 def is_built(name):
@@ -55,14 +57,23 @@ def parts(text):
     return made
 
 
+def python_for(code):
+    """The interpreter for a block, and the module that none has."""
+    needed = [it for it in MODULES if re.search(rf"\b(?:import|from) {it}\b", code)]
+    for python in filter(os.path.exists, PYTHONS):
+        missing = [it for it in needed if subprocess.run([python, "-c", f"import {it}"], capture_output=True).returncode]
+        if not missing:
+            return python, ""
+    return "", missing[0]
+
+
 def lacks(heading, kind, code, of_section):
     """What this part needs that is not here."""
     if kind == "Python":
         if not os.path.exists(LIBRARY):
             return "the library for Python is not built"
-        needed = [it for it in MODULES if re.search(rf"\b(?:import|from) {it}\b", code)]
-        missing = [it for it in needed if subprocess.run([sys.executable, "-c", f"import {it}"], capture_output=True).returncode]
-        return f"there is no module {missing[0]}" if missing else ""
+        missing = python_for(code)[1]
+        return f"there is no module {missing}" if missing else ""
     missing = [it for it in TOOLS if re.search(rf"\b{it}\b", of_section) and not shutil.which(it)]
     return f"there is no command {missing[0]}" if missing else ""
 
@@ -70,8 +81,10 @@ def lacks(heading, kind, code, of_section):
 def ran(kind, code, room):
     environment = {**os.environ, "PATH": f"{room}/bin:{os.environ['PATH']}", "VBSON_LIBRARY": LIBRARY, "LC_ALL": "C.UTF-8",
                    "PYTHONPATH": f"{sources.TOP}/languages/python:{os.path.dirname(os.path.realpath(__file__))}"}
-    code = "".join(f"from engines import {it}\n" for it in ENGINES if re.search(rf"\b{it}\.", code) and kind == "Python") + code
-    words = [sys.executable, "-B", "-c", code] if kind == "Python" else ["bash", "-c", code]
+    words = ["bash", "-c", code]
+    if kind == "Python":
+        engines = "".join(f"from engines import {it}\n" for it in ENGINES if re.search(rf"\b{it}\.", code))
+        words = [python_for(code)[0], "-B", "-c", engines + code]
     return subprocess.run(words, cwd=room, env=environment, stdin=subprocess.DEVNULL, capture_output=True, text=True, timeout=60)
 
 
