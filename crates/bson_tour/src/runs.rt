@@ -195,7 +195,7 @@ fn line_run(rt: &impl Print, alloc: Global) -> anyhow::Result<()> {
         let place = run.place(alloc, &fault)?;
         println!(rt; "line {}: {}{place}", run.number(), fault.message())?;
     }
-    // line 1: not Extended JSON at n (a number is no whole number of 64 bits; found 1.5)
+    // line 1: not Extended JSON at n (not a 64-bit integer; found 1.5)
     Ok(())
 }
 
