@@ -41,7 +41,6 @@ def rust(room):
     if not shutil.which("cargo"):
         return None
     shutil.copytree(f"{TOP}/languages/rust", f"{room}/rust")
-    os.mkdir(f"{room}/rust/examples")
     shutil.copy(f"{HERE}/library.rs", f"{room}/rust/examples")
     where = {**os.environ, "VBSON_LIB": f"{TOP}/languages/out/lib", "CARGO_TARGET_DIR": f"{room}/target"}
     words = ["cargo", "build", "--offline", "--quiet", "--release", "--example", "library"]

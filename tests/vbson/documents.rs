@@ -1,6 +1,6 @@
-//! Answers lines `CALL HEX` of standard input: documents.py says which, and what is written of each.
+//! Answers lines `CALL HEX` of standard input: documents.py and rust_parts.py say which, and what is written of each.
 use std::io::{self, BufRead};
-use vbson::{decode, encode, explain_document, is_document, Error, ErrorKind, Mode, Options};
+use vbson::{convert_lines, decode, decode_documents, encode, explain, explain_document, is_document, Error, ErrorKind, Mode, Options, PathElement};
 
 fn main() -> io::Result<()> {
     for line in io::stdin().lock().lines() {
@@ -19,8 +19,9 @@ fn bytes_of(digits: &str) -> Vec<u8> {
 }
 
 fn answer(call: &str, given: &[u8]) -> (i32, Vec<u8>) {
-    let doubles = Options { doubles: true, ..Options::default() };
+    let doubles = Options { doubles: true, ..Options::SPECIFIED };
     let left = match call {
+        "text" | "bytes" | "lines" | "dump" => return (0, fields(call, given).join("\n").into_bytes()),
         "is" => return (if is_document(given) { 0 } else { 10 }, Vec::new()),
         "explain" => return (0, explain_document(given).map_or(String::new(), |it| it.to_string()).into_bytes()),
         "encode" => encode(doubles, given).map(|it| it.to_vec()),
@@ -31,6 +32,34 @@ fn answer(call: &str, given: &[u8]) -> (i32, Vec<u8>) {
         Err(error) if call != "encode" && !is_explained(&error, given) => (-1, Vec::new()),
         Err(error) => (status_of(error.kind()), Vec::new()),
     }
+}
+
+/// The fields of each error of a text, of bytes, of a block of lines, or of a dump.
+fn fields(call: &str, given: &[u8]) -> Vec<String> {
+    let (mode, options) = (Mode::Relaxed, Options::SPECIFIED);
+    match call {
+        "text" => explain(options, given).iter().map(fields_of).collect(),
+        "bytes" => explain_document(given).iter().map(fields_of).collect(),
+        "lines" => {
+            let refused = convert_lines(mode, options, given).expect("there is memory").refused;
+            refused.iter().map(|(number, it)| format!("{number}\0{}", fields_of(it))).collect()
+        }
+        _ => {
+            let refused = decode_documents(mode, options, given).expect("there is memory").refused;
+            refused.iter().map(|it| format!("{}\0{}\0{}", it.number, it.start, fields_of(&it.error))).collect()
+        }
+    }
+}
+
+fn fields_of(error: &Error) -> String {
+    let number = |it: Option<u64>| it.map_or(String::new(), |it| it.to_string());
+    let element = |it: &PathElement| match it {
+        PathElement::Key(key) => format!("key {key}"),
+        PathElement::Index(index) => format!("index {index}"),
+    };
+    let (code, path) = (error.code().map(u64::from), error.path().iter().map(element).collect::<Vec<_>>().join("\u{1}"));
+    let numbers = [code, error.line(), error.column(), error.offset()].map(number).join("\0");
+    [&*numbers, error.message(), error.reason(), &*path].join("\0")
 }
 
 fn mode_of(call: &str) -> Mode {
@@ -44,7 +73,7 @@ fn mode_of(call: &str) -> Mode {
 
 /// Whether the error is made of the words for these bytes, and place and reason are all of them.
 fn is_explained(error: &Error, given: &[u8]) -> bool {
-    let words = format!("not a document at {} ({})", error.path(), error.reason());
+    let words = format!("not a document at byte {} ({})", error.offset().map_or(-1, |it| it as i64), error.reason());
     error.to_string() == words && explain_document(given).as_ref() == Some(error)
 }
 

@@ -18,7 +18,7 @@ fn main() {
 }
 
 fn there_and_back(form: Form, text: &[u8]) -> Result<Text, Error> {
-    let options = Options { doubles: true, keep_order: true };
+    let options = Options::default();
     to_text(form, options, &from_text(form, options, text)?)
 }
 

@@ -98,9 +98,10 @@ def try_filter(given):
     want("filter_dump", (ran.returncode, ran.stdout), (0, b"".join(bson.encode(it) for it in given if it["total"] >= 1000)))
 
 
-try_change(orders())
-try_filter(orders())
-try_duplicates(orders())
-try_validate(orders())
-try_stream(orders())
-end()
+if __name__ == "__main__":
+    try_change(orders())
+    try_filter(orders())
+    try_duplicates(orders())
+    try_validate(orders())
+    try_stream(orders())
+    end()

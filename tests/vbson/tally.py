@@ -56,6 +56,20 @@ def differs(ran, wanted):
     return None if is_right else f"{ran.stdout}{ran.stderr} with status {ran.returncode}"
 
 
+def answers_to(lines, words, **how):
+    given = "".join(f"{line}\n" for line in lines)
+    return subprocess.run(words, input=given, capture_output=True, text=True, timeout=300, **how)
+
+
+def judge_lines(tally, language, cases, words, **how):
+    """A program's answer to each line."""
+    ran = answers_to([line for _, line, _ in cases], words, **how)
+    answers = ran.stdout.splitlines()
+    tally.told(f"documents from {language}", None if ran.returncode == 0 and len(answers) == len(cases) else f"{ran.stderr[-800:]}")
+    for (name, _, wanted), answer in zip(cases, answers):
+        tally.told(f"{name} from {language}", None if answer == wanted else f"{answer} and not {wanted}")
+
+
 def blocks(file, language):
     return re.findall(rf"(?ms)^```{language}\n(.*?)^```$", file.read_text())
 

@@ -47,6 +47,8 @@ pub struct RawValue {
 
 extern "C" {
     fn vbson_version() -> u32;
+    // (this one is vbson_convert_with without flags)
+    #[allow(dead_code)]
     fn vbson_convert(mode: u32, text: *const u8, len: usize, out: *mut RawText) -> u32;
     fn vbson_convert_with(mode: u32, flags: u32, text: *const u8, len: usize, out: *mut RawText) -> u32;
     fn vbson_explain(flags: u32, text: *const u8, len: usize, out: *mut RawText) -> u32;
@@ -135,6 +137,24 @@ fn expect_ok(status: u32) -> Result<(), ErrorKind> {
     }
 }
 
+/// The status of a kind of error, except of input and output.
+pub fn status_of(kind: ErrorKind) -> Option<u32> {
+    Some(match kind {
+        ErrorKind::NotJson => NOT_JSON,
+        ErrorKind::BadObjectId => BAD_OBJECT_ID,
+        ErrorKind::NotExtendedJson => NOT_EXTENDED_JSON,
+        ErrorKind::OutOfMemory => OUT_OF_MEMORY,
+        ErrorKind::InvalidString => INVALID_STRING,
+        ErrorKind::NotRepresentable => NOT_REPRESENTABLE,
+        ErrorKind::NotADocument => NOT_A_DOCUMENT,
+        ErrorKind::ZeroInKey => ZERO_IN_KEY,
+        ErrorKind::ZeroInRegex => ZERO_IN_REGEX,
+        ErrorKind::TooLong => TOO_LONG,
+        ErrorKind::UnexpectedType => UNEXPECTED_TYPE,
+        ErrorKind::Io => return None,
+    })
+}
+
 pub fn version() -> u32 {
     wants_processor();
     // SAFETY: the call takes nothing.
@@ -142,14 +162,8 @@ pub fn version() -> u32 {
 }
 
 /// The text in a block of its own, which the caller frees by `free`.
-pub fn convert(mode: u32, text: &[u8]) -> Result<RawText, ErrorKind> {
-    // SAFETY: the slice is readable, and `out` is a valid text that overlaps nothing.
-    left(|out| unsafe { vbson_convert(mode, text.as_ptr(), text.len(), out) })
-}
-
-/// The same with flags.
 pub fn convert_with(mode: u32, flags: u32, text: &[u8]) -> Result<RawText, ErrorKind> {
-    // SAFETY: as above.
+    // SAFETY: the slice is readable, and `out` is a valid text that overlaps nothing.
     left(|out| unsafe { vbson_convert_with(mode, flags, text.as_ptr(), text.len(), out) })
 }
 

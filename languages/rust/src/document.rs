@@ -1,6 +1,7 @@
 //! BSON documents (BSON 1.1, bsonspec.org).
 use crate::block::Block;
-use crate::text::{error_of, owned};
+use crate::explain::{of_document, of_double, of_texts};
+use crate::text::owned;
 use crate::{call, Error, ErrorKind, Mode, Options, ReadOptions, Text};
 use std::fmt;
 use std::ops::Deref;
@@ -28,22 +29,24 @@ pub fn is_document(bytes: &[u8]) -> bool {
     call::is_document(bytes)
 }
 
-/// Returns why, and where, the bytes are not a document; None if they are one. If memory runs out, the error has no offset.
+/// Returns why, and where, the bytes are not a document; `None` if they are one. If memory runs out, the error has no offset.
+///
+/// ```
+/// let error = vbson::explain_document(b"\x05\0\0\0").unwrap();
+/// assert_eq!((error.offset(), error.reason()), (Some(4), "ends too early"));
+/// assert_eq!(vbson::explain_document(b"\x05\0\0\0\0"), None);
+/// ```
 pub fn explain_document(bytes: &[u8]) -> Option<Error> {
-    match call::explain_document(bytes).map(owned) {
-        Ok(words) if words.is_empty() => None,
-        Ok(words) => Some(Error::explained(ErrorKind::NotADocument, &words)),
-        Err(_) if is_document(bytes) => None,
-        Err(_) => Some(ErrorKind::NotADocument.into()),
-    }
+    of_document(bytes)
 }
 
 /// Compares two documents. The order of their keys doesn't matter.
 ///
 /// # Errors
 ///
-/// `NotADocument`, with the byte offset of the error, if `a` is not a document, or `b` is not one. With
-/// `reject_duplicate_keys` also if a document has a duplicate key. `OutOfMemory` if an allocation fails.
+/// - `NotADocument`, with the offset of the error and the path to it, if `a` is not a document, or `b` is not one. If
+///   `reject_duplicate_keys` is on, also if a document has a duplicate key, at any depth.
+/// - `OutOfMemory` if an allocation fails.
 pub fn same_documents(options: ReadOptions, a: &[u8], b: &[u8]) -> Result<bool, Error> {
     call::same_documents(options.flags(), a, b).map_err(|kind| rejected(kind, options, &[a, b]))
 }
@@ -53,7 +56,9 @@ pub fn same_documents(options: ReadOptions, a: &[u8], b: &[u8]) -> Result<bool, 
 ///
 /// # Errors
 ///
-/// Those of [`same_documents`].
+/// - `NotADocument`, with the offset of the error and the path to it, if the bytes are not a document. If
+///   `reject_duplicate_keys` is on, also if the document has a duplicate key, at any depth.
+/// - `OutOfMemory` if an allocation fails.
 pub fn hash_document(options: ReadOptions, bytes: &[u8]) -> Result<u64, Error> {
     call::hash_document(options.flags(), bytes).map_err(|kind| rejected(kind, options, &[bytes]))
 }
@@ -63,7 +68,7 @@ fn rejected(kind: ErrorKind, options: ReadOptions, documents: &[&[u8]]) -> Error
     let is_rejected = |it: &&&[u8]| call::hash_document(options.flags(), it) == Err(ErrorKind::NotADocument);
     match documents.iter().find(is_rejected) {
         Some(it) if kind == ErrorKind::NotADocument => {
-            explain_document(it).unwrap_or_else(|| Error::explained(kind, "not a document (duplicate key)"))
+            of_document(it).unwrap_or_else(|| Error::new(kind, "not a document (duplicate key)", "duplicate key"))
         }
         _ => kind.into(),
     }
@@ -71,31 +76,37 @@ fn rejected(kind: ErrorKind, options: ReadOptions, documents: &[&[u8]]) -> Error
 
 /// Reads the bytes as one document, and writes it in the mode.
 ///
-/// The canonical and relaxed forms have keys in ascending order at every depth, and with `keep_order` in the document's
-/// own order, which `Mode::Show` always has. The last value of a duplicate key wins.
+/// The canonical and relaxed forms have keys in the document's own order, and without `keep_order` in ascending order at
+/// every depth. `Mode::Show` always has the document's own order. The last value of a duplicate key wins.
 ///
 /// # Errors
 ///
-/// `NotADocument`, with the byte offset of the error. `NotRepresentable` in the two forms if the document has a finite
-/// double other than 0.0, and `doubles` is off. `OutOfMemory` if an allocation fails.
+/// - `NotADocument`, with the offset of the error and the path to it, if the bytes are not a document.
+/// - `NotRepresentable` in the two forms, with the path to the value, if the document has a finite double other than 0.0,
+///   and `doubles` is off.
+/// - `OutOfMemory` if an allocation fails.
 pub fn decode(mode: Mode, options: Options, bytes: &[u8]) -> Result<Text, Error> {
-    match call::decode(mode as u32, options.flags(), bytes) {
-        Ok(raw) => Ok(owned(raw)),
-        Err(ErrorKind::NotADocument) => Err(explain_document(bytes).unwrap_or_else(|| ErrorKind::NotADocument.into())),
-        Err(kind) => Err(kind.into()),
-    }
+    call::decode(mode as u32, options.flags(), bytes).map(owned).map_err(|kind| match kind {
+        ErrorKind::NotADocument => of_document(bytes).unwrap_or_else(|| kind.into()),
+        ErrorKind::NotRepresentable => of_double(bytes),
+        _ => kind.into(),
+    })
 }
 
-/// Reads one Extended JSON text, and writes the canonical bytes of its document. Keys are in ascending order, or with
-/// `keep_order` in that of the input.
+/// Reads one Extended JSON text, and writes the canonical bytes of its document. Keys are in the order of the input, or
+/// without `keep_order` in ascending order.
 ///
 /// # Errors
 ///
-/// Those of [`convert_with`](crate::convert_with). `NotADocument` if the value is not a document. `ZeroInKey`,
-/// `ZeroInRegex` or `TooLong` if the document has no bytes.
+/// - `NotJson`, with line, column and offset, if the input is not UTF-8, is not one JSON text, or nests deeper than 127.
+/// - `BadObjectId`, with the path, if the first error is an invalid object id.
+/// - `NotExtendedJson`, with the path, if the first error is any other, or a finite double while `doubles` is off.
+/// - `NotADocument` if the value is not a document.
+/// - `ZeroInKey` if a key contains a 0 byte.
+/// - `ZeroInRegex` if a regular expression contains a 0 byte.
+/// - `TooLong` if a part has 2^31 bytes or more.
+/// - `OutOfMemory` if an allocation fails.
 pub fn encode(options: Options, text: &[u8]) -> Result<Bytes, Error> {
-    match call::encode(options.flags(), text) {
-        Ok(raw) => Ok(Bytes(Block::of(raw))),
-        Err(kind) => Err(error_of(kind, options.flags(), &[text])),
-    }
+    let made = call::encode(options.flags(), text);
+    made.map(|it| Bytes(Block::of(it))).map_err(|kind| of_texts(kind, options.flags(), &[text]))
 }

@@ -1,8 +1,9 @@
-//! Values of `serde_json`, with the feature of this name. `loads` and `dumps` of the Python module do the same.
+//! Values of `serde_json`, with the feature `serde_json`.
 //!
-//! A `Value` holds Extended JSON as it is written: of the canonical form each type of BSON, `{"$numberLong":"5"}`, and of the
-//! relaxed one plain numbers. Objects keep the order of their keys, and so does what is made of them with
-//! `Options::keep_order`.
+//! A `Value` contains Extended JSON as it is written. In the canonical form each type of BSON has its wrapper, for example
+//! `{"$numberLong":"5"}`, and in the relaxed form numbers are plain. Objects keep the order of their keys, and so does the
+//! text or document that is made of them with `Options::keep_order`.
+use crate::path::{Path, PathElement};
 use crate::text::Text;
 use crate::{convert_with, decode, encode, Bytes, Error, ErrorKind, Mode, Options};
 use serde_json::{Deserializer, Value};
@@ -29,7 +30,10 @@ impl Form {
 ///
 /// # Errors
 ///
-/// Those of `convert_with`.
+/// - `NotJson`, with line, column and offset, if the input is not UTF-8, is not one JSON text, or nests deeper than 127.
+/// - `BadObjectId`, with the path, if the first error is an invalid object id.
+/// - `NotExtendedJson`, with the path, if the first error is any other, or a finite double while `doubles` is off.
+/// - `OutOfMemory` if an allocation fails.
 ///
 /// ```
 /// use vbson::{json, Options};
@@ -45,8 +49,11 @@ pub fn from_text(form: Form, options: Options, text: &[u8]) -> Result<Value, Err
 ///
 /// # Errors
 ///
-/// Those of `convert_with`. An integer past `i64::MAX` is `NotExtendedJson`, also with finite doubles, since the nearest
-/// double is another number.
+/// - `NotJson` if the value nests deeper than 127.
+/// - `BadObjectId`, with the path, if the first error is an invalid object id.
+/// - `NotExtendedJson`, with the path, if the first error is any other, or a finite double while `doubles` is off. It is also
+///   the error of an integer greater than `i64::MAX`, since the nearest double is another number.
+/// - `OutOfMemory` if an allocation fails.
 ///
 /// ```
 /// use vbson::{json, Options};
@@ -62,7 +69,9 @@ pub fn to_text(form: Form, options: Options, value: &Value) -> Result<Text, Erro
 ///
 /// # Errors
 ///
-/// Those of `decode`.
+/// - `NotADocument`, with the offset of the error and the path to it, if the bytes are not a document.
+/// - `NotRepresentable`, with the path, if the document has a finite double other than 0.0, and `doubles` is off.
+/// - `OutOfMemory` if an allocation fails.
 pub fn from_document(form: Form, options: Options, bytes: &[u8]) -> Result<Value, Error> {
     decode(form.mode(), options, bytes).map(parsed)
 }
@@ -71,7 +80,11 @@ pub fn from_document(form: Form, options: Options, bytes: &[u8]) -> Result<Value
 ///
 /// # Errors
 ///
-/// Those of `encode` and of `to_text`.
+/// - `NotJson`, `BadObjectId`, `NotExtendedJson` or `OutOfMemory` as in [`to_text`].
+/// - `NotADocument` if the value is not a document.
+/// - `ZeroInKey` if a key contains a 0 byte.
+/// - `ZeroInRegex` if a regular expression contains a 0 byte.
+/// - `TooLong` if a part has 2^31 bytes or more.
 pub fn to_document(options: Options, value: &Value) -> Result<Bytes, Error> {
     encode(options, &written(value)?)
 }
@@ -86,24 +99,19 @@ fn parsed(text: Text) -> Value {
 
 fn written(value: &Value) -> Result<Vec<u8>, Error> {
     match far_number(value) {
-        Some(path) => {
-            let path: Vec<_> = path.into_iter().rev().collect();
-            let place = if path.is_empty() { String::new() } else { format!(" at {}", path.join(".")) };
-            let words = format!("not Extended JSON{place} (not a 64-bit integer)");
-            Err(Error::explained(ErrorKind::NotExtendedJson, &words))
-        }
+        Some(path) => Err(Error::at_path(ErrorKind::NotExtendedJson, Path::reversed(path), "not a 64-bit integer")),
         None => Ok(serde_json::to_vec(value).expect("a value has a text")),
     }
 }
 
 /// The path, its end first, to an integer past those of 64 bits.
-fn far_number(value: &Value) -> Option<Vec<String>> {
-    let (mut path, key) = match value {
+fn far_number(value: &Value) -> Option<Vec<PathElement>> {
+    let (mut path, element) = match value {
         Value::Number(number) if number.is_u64() && !number.is_i64() => return Some(Vec::new()),
-        Value::Array(items) => items.iter().enumerate().find_map(|(at, it)| Some((far_number(it)?, at.to_string()))),
-        Value::Object(items) => items.iter().find_map(|(key, it)| Some((far_number(it)?, key.clone()))),
+        Value::Array(items) => items.iter().enumerate().find_map(|(at, it)| Some((far_number(it)?, at.into()))),
+        Value::Object(items) => items.iter().find_map(|(key, it)| Some((far_number(it)?, key.as_str().into()))),
         _ => None,
     }?;
-    path.push(key);
+    path.push(element);
     Some(path)
 }

@@ -15,25 +15,43 @@
 //! # Ok::<(), vbson::Error>(())
 //! ```
 
+#![warn(missing_docs)]
+
 #[cfg(not(all(target_os = "linux", target_arch = "x86_64", target_env = "gnu")))]
 compile_error!("libvbson.a is made for x86-64 Linux with glibc alone");
 
 mod block;
 mod call;
+#[cfg(feature = "serde")]
+mod de;
 mod document;
 mod error;
+mod explain;
 #[cfg(feature = "serde_json")]
 pub mod json;
 mod lines;
+mod path;
 mod raw;
 mod scalar;
+#[cfg(feature = "serde")]
+mod ser;
+mod stream;
 mod text;
 
+#[cfg(feature = "serde")]
+pub use de::from_document;
 pub use document::{decode, encode, explain_document, hash_document, is_document, same_documents, Bytes};
 pub use error::{Error, ErrorKind};
-pub use lines::{convert_lines, decode_documents, encode_lines, Documents, EncodedLines, Lines, RefusedDocument};
-pub use raw::{RawBsonRef, RawDocument, RawIter};
-pub use scalar::{DateTime, Decimal128, ObjectId};
+pub use explain::RefusedDocument;
+pub use lines::{convert_lines, decode_documents, encode_lines, Documents, EncodedLines, Lines};
+pub use path::{Path, PathElement};
+pub use raw::{Bson, RawArray, RawBsonRef, RawDocument, RawDocumentBuf, RawIter};
+#[cfg(feature = "serde")]
+pub use scalar::Binary;
+pub use scalar::{DateTime, Decimal128, ObjectId, Timestamp};
+#[cfg(feature = "serde")]
+pub use ser::to_document;
+pub use stream::{DumpReader, DumpWriter, LineReader, LineWriter};
 pub use text::{convert, convert_with, explain, hash, same, Mode, Options, ReadOptions, Text};
 
 /// Returns the version of the library that is linked, for example (0, 2, 0).

@@ -1,10 +1,11 @@
 //! Extended JSON input and output.
 use crate::block::Block;
-use crate::{call, Error, ErrorKind};
+use crate::explain::of_texts;
+use crate::{call, Error};
 use std::ops::Deref;
 use std::{fmt, str};
 
-/// What `convert` writes.
+/// The form that a call writes.
 #[derive(Clone, Copy, Debug, PartialEq, Eq)]
 #[repr(u32)]
 pub enum Mode {
@@ -41,8 +42,18 @@ impl fmt::Debug for Text {
     }
 }
 
-/// What is accepted and written in addition to the default.
-#[derive(Clone, Copy, Debug, Default, PartialEq, Eq)]
+/// What is accepted and written. The default is what MongoDB's data need: finite doubles, and the order of keys.
+///
+/// ```
+/// use vbson::{convert, convert_with, Mode, Options};
+/// let text = br#"{"price": 1.5, "a": 2}"#;
+/// assert_eq!(&*convert(Mode::Relaxed, text)?, r#"{"price":1.5,"a":2}"#);
+/// let sorted = Options { keep_order: false, ..Options::default() };
+/// assert_eq!(&*convert_with(Mode::Relaxed, sorted, text)?, r#"{"a":2,"price":1.5}"#);
+/// assert!(convert_with(Mode::Relaxed, Options::SPECIFIED, text).is_err());
+/// # Ok::<(), vbson::Error>(())
+/// ```
+#[derive(Clone, Copy, Debug, PartialEq, Eq)]
 pub struct Options {
     /// Accepts finite doubles. A number that is not an integer of 64 bits is read as the nearest double. A double is
     /// written as its shortest decimal: `{"$numberDouble":"12.5"}` in the canonical form, `12.5` in the relaxed one.
@@ -52,7 +63,17 @@ pub struct Options {
     pub keep_order: bool,
 }
 
+impl Default for Options {
+    /// Returns the options with finite doubles and the order of keys.
+    fn default() -> Options {
+        Options { doubles: true, keep_order: true }
+    }
+}
+
 impl Options {
+    /// The defaults of the specification and of the C library: no finite doubles, and sorted keys.
+    pub const SPECIFIED: Options = Options { doubles: false, keep_order: false };
+
     pub(crate) fn flags(self) -> u32 {
         let doubles = if self.doubles { call::DOUBLES } else { 0 };
         let keep_order = if self.keep_order { call::KEEP_ORDER } else { 0 };
@@ -60,9 +81,9 @@ impl Options {
     }
 }
 
-/// What [`same`], [`hash`], [`same_documents`](crate::same_documents) and [`hash_document`](crate::hash_document) accept
-/// beyond the default, or reject.
-#[derive(Clone, Copy, Debug, Default, PartialEq, Eq)]
+/// What [`same`], [`hash`], [`same_documents`](crate::same_documents) and [`hash_document`](crate::hash_document) accept or
+/// reject. The default accepts finite doubles and duplicate keys.
+#[derive(Clone, Copy, Debug, PartialEq, Eq)]
 pub struct ReadOptions {
     /// Accepts finite doubles, as [`Options::doubles`] does. The bytes of a document may always have them.
     pub doubles: bool,
@@ -74,7 +95,17 @@ pub struct ReadOptions {
     pub legacy: bool,
 }
 
+impl Default for ReadOptions {
+    /// Returns the options with finite doubles alone.
+    fn default() -> ReadOptions {
+        ReadOptions { doubles: true, ..ReadOptions::SPECIFIED }
+    }
+}
+
 impl ReadOptions {
+    /// The defaults of the specification and of the C library: no finite doubles.
+    pub const SPECIFIED: ReadOptions = ReadOptions { doubles: false, reject_duplicate_keys: false, legacy: false };
+
     pub(crate) fn flags(self) -> u32 {
         let doubles = if self.doubles { call::DOUBLES } else { 0 };
         let reject_duplicate_keys = if self.reject_duplicate_keys { call::REJECT_DUPLICATE_KEYS } else { 0 };
@@ -83,75 +114,73 @@ impl ReadOptions {
     }
 }
 
-/// Reads one Extended JSON text (canonical, relaxed or mixed), and writes its value in the mode.
+/// Reads one Extended JSON text (canonical, relaxed or mixed), and writes its value in the mode, with the default options.
 ///
-/// Keys are written in ascending order, at every depth. The last value of a duplicate key wins. The output can denote
-/// another value in two cases: a NaN of Decimal128 loses its sign and its payload, and in the relaxed form an Int64 that
-/// fits is read again as an Int32.
+/// The last value of a duplicate key wins, at the position of the first. The output can denote another value in two cases: a
+/// NaN of Decimal128 loses its sign and its payload, and in the relaxed form an Int64 that fits is read again as an Int32.
 ///
 /// # Errors
 ///
-/// `NotJson`, `BadObjectId` or `NotExtendedJson`, with the path to the first error. A finite double is `NotExtendedJson`,
-/// and so are numbers such as `1.5` and `0.0`. `OutOfMemory` if an allocation fails.
+/// - `NotJson`, with line, column and offset, if the input is not UTF-8, is not one JSON text, or nests deeper than 127.
+/// - `BadObjectId`, with the path, if the first error is an invalid object id.
+/// - `NotExtendedJson`, with the path, if the first error is any other.
+/// - `OutOfMemory` if an allocation fails.
 pub fn convert(mode: Mode, text: &[u8]) -> Result<Text, Error> {
-    match call::convert(mode as u32, text) {
-        Ok(raw) => Ok(owned(raw)),
-        Err(kind) => Err(error_of(kind, 0, &[text])),
-    }
+    convert_with(mode, Options::default(), text)
 }
 
-/// Does what [`convert`] does, with options.
+/// Reads one Extended JSON text, and writes its value in the mode, with options.
 ///
 /// # Errors
 ///
-/// Those of [`convert`].
+/// - `NotJson`, with line, column and offset, if the input is not UTF-8, is not one JSON text, or nests deeper than 127.
+/// - `BadObjectId`, with the path, if the first error is an invalid object id.
+/// - `NotExtendedJson`, with the path, if the first error is any other, or a number such as 1.5 or 0.0 while `doubles` is off.
+/// - `OutOfMemory` if an allocation fails.
 pub fn convert_with(mode: Mode, options: Options, text: &[u8]) -> Result<Text, Error> {
-    match call::convert_with(mode as u32, options.flags(), text) {
-        Ok(raw) => Ok(owned(raw)),
-        Err(kind) => Err(error_of(kind, options.flags(), &[text])),
-    }
+    let made = call::convert_with(mode as u32, options.flags(), text);
+    made.map(owned).map_err(|kind| of_texts(kind, options.flags(), &[text]))
 }
 
-/// Returns why, and where, `convert_with` rejects the input; None if it accepts it.
+/// Returns why, and where, `convert_with` rejects the input; `None` if it accepts it.
 pub fn explain(options: Options, text: &[u8]) -> Option<Error> {
     convert_with(Mode::Canonical, options, text).err()
 }
 
 /// Compares the values of two inputs. The order of the keys of documents doesn't matter.
 ///
+/// ```
+/// use vbson::{same, ReadOptions};
+/// assert!(same(ReadOptions::default(), br#"{"a": 1, "b": 2.5}"#, br#"{"b": 2.50, "a": {"$numberInt": "1"}}"#)?);
+/// # Ok::<(), vbson::Error>(())
+/// ```
+///
 /// # Errors
 ///
-/// `NotJson`, `BadObjectId` or `NotExtendedJson`, with the path to the first error of `a`, or of `b` if `a` has none. `OutOfMemory` if an allocation fails.
+/// The error is that of `a`, or that of `b` if `a` has none:
+///
+/// - `NotJson`, with line, column and offset, if the input is not UTF-8, is not one JSON text, or nests deeper than 127.
+/// - `BadObjectId`, with the path, if the first error is an invalid object id.
+/// - `NotExtendedJson`, with the path, if the first error is any other, or a duplicate key while `reject_duplicate_keys` is on.
+/// - `OutOfMemory` if an allocation fails.
 pub fn same(options: ReadOptions, a: &[u8], b: &[u8]) -> Result<bool, Error> {
-    let flags = options.flags();
-    call::same(flags, a, b).map_err(|kind| error_of(kind, flags, &[a, b]))
+    call::same(options.flags(), a, b).map_err(|kind| of_texts(kind, options.flags(), &[a, b]))
 }
 
 /// Computes the hash of the input's value. Inputs that [`same`] finds the same have one hash.
 ///
 /// # Errors
 ///
-/// Those of [`same`].
+/// - `NotJson`, with line, column and offset, if the input is not UTF-8, is not one JSON text, or nests deeper than 127.
+/// - `BadObjectId`, with the path, if the first error is an invalid object id.
+/// - `NotExtendedJson`, with the path, if the first error is any other, or a duplicate key while `reject_duplicate_keys` is on.
+/// - `OutOfMemory` if an allocation fails.
 pub fn hash(options: ReadOptions, text: &[u8]) -> Result<u64, Error> {
-    let flags = options.flags();
-    call::hash(flags, text).map_err(|kind| error_of(kind, flags, &[text]))
+    call::hash(options.flags(), text).map_err(|kind| of_texts(kind, options.flags(), &[text]))
 }
 
 pub(crate) fn owned(raw: call::RawText) -> Text {
     let block = Block::of(raw);
     assert!(str::from_utf8(&block).is_ok(), "the library writes UTF-8");
     Text(block)
-}
-
-/// The error of the first rejected input, with its path. Only a rejected input is read again; if that runs out of memory,
-/// the error has no path.
-pub(crate) fn error_of(kind: ErrorKind, flags: u32, texts: &[&[u8]]) -> Error {
-    if !matches!(kind, ErrorKind::NotJson | ErrorKind::BadObjectId | ErrorKind::NotExtendedJson) {
-        return kind.into();
-    }
-    let mut explained = texts.iter().map(|it| call::explain(flags, it).map(owned));
-    match explained.find(|it| it.as_ref().map_or(true, |words| !words.is_empty())) {
-        Some(Ok(words)) => Error::explained(kind, &words),
-        _ => kind.into(),
-    }
 }

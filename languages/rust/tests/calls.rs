@@ -2,7 +2,7 @@
 use std::thread;
 use vbson::{convert, convert_lines, convert_with, decode, encode, explain, explain_document, hash, is_document, same, version};
 use vbson::{decode_documents, encode_lines, hash_document, same_documents, ReadOptions};
-use vbson::{DateTime, Decimal128, Error, ErrorKind, Mode, ObjectId, Options, RawDocument, Text};
+use vbson::{Bson, DateTime, Decimal128, Error, ErrorKind, Mode, ObjectId, Options, PathElement, RawDocument, RawDocumentBuf, Text, Timestamp};
 
 #[test]
 fn texts_are_converted() {
@@ -16,33 +16,35 @@ fn texts_are_converted() {
 
 #[test]
 fn finite_doubles_are_an_option() {
-    let (text, doubles) = (br#"{"b":1.5,"a":1e2}"#, Options { doubles: true, ..Options::default() });
+    let (text, doubles) = (br#"{"b":1.5,"a":1e2}"#, Options { doubles: true, ..Options::SPECIFIED });
+    assert_eq!((Options::default(), ReadOptions::default()), (Options { doubles: true, keep_order: true }, ReadOptions { doubles: true, ..ReadOptions::SPECIFIED }));
+    assert_eq!(&*convert(Mode::Relaxed, text).unwrap(), r#"{"b":1.5,"a":100.0}"#);
     let canonical = r#"{"a":{"$numberDouble":"100.0"},"b":{"$numberDouble":"1.5"}}"#;
     for (mode, wanted) in [(Mode::Canonical, canonical), (Mode::Relaxed, r#"{"a":100.0,"b":1.5}"#)] {
         assert_eq!(&*convert_with(mode, doubles, text).unwrap(), wanted);
-        let kind = convert_with(mode, Options::default(), text).map_err(|it| it.kind()).err();
+        let kind = convert_with(mode, Options::SPECIFIED, text).map_err(|it| it.kind()).err();
         assert_eq!(kind, Some(ErrorKind::NotExtendedJson));
     }
-    assert_eq!(&*convert_with(Mode::Relaxed, Options::default(), b"[ 1 ]").unwrap(), "[1]");
+    assert_eq!(&*convert_with(Mode::Relaxed, Options::SPECIFIED, b"[ 1 ]").unwrap(), "[1]");
     assert_eq!(explain(doubles, text), None);
-    assert!(explain(Options::default(), text).is_some());
+    assert!(explain(Options::SPECIFIED, text).is_some());
     assert_eq!(explain(doubles, b"1e400").map(|it| it.kind()), Some(ErrorKind::NotJson));
 }
 
 #[test]
 fn the_order_of_keys_is_an_option() {
-    let (text, keeps) = (br#"{"b":{"d":1,"c":2},"a":3,"b":4}"#, Options { keep_order: true, ..Options::default() });
+    let (text, keeps) = (br#"{"b":{"d":1,"c":2},"a":3,"b":4}"#, Options { keep_order: true, ..Options::SPECIFIED });
     assert_eq!(&*convert_with(Mode::Relaxed, keeps, text).unwrap(), r#"{"b":4,"a":3}"#);
-    assert_eq!(&*convert_with(Mode::Relaxed, Options::default(), text).unwrap(), r#"{"a":3,"b":4}"#);
+    assert_eq!(&*convert_with(Mode::Relaxed, Options::SPECIFIED, text).unwrap(), r#"{"a":3,"b":4}"#);
     assert_eq!(&*convert_with(Mode::Show, keeps, br#"{"b":1,"a":2}"#).unwrap(), r#"{ "b": 1, "a": 2 }"#);
     let both = Options { doubles: true, keep_order: true };
     let bytes = encode(both, br#"{"b":1.5,"a":2}"#).unwrap();
     assert_eq!(&*decode(Mode::Relaxed, both, &bytes).unwrap(), r#"{"b":1.5,"a":2}"#);
-    let doubles = Options { doubles: true, ..Options::default() };
+    let doubles = Options { doubles: true, ..Options::SPECIFIED };
     assert_eq!(&*decode(Mode::Relaxed, doubles, &bytes).unwrap(), r#"{"a":2,"b":1.5}"#);
     let lines = convert_lines(Mode::Relaxed, keeps, b"{\"b\":1,\"a\":2}\n[1.5]\n").unwrap();
     assert_eq!((&*lines.text, lines.refused.len()), ("{\"b\":1,\"a\":2}\n", 1));
-    assert_eq!(explain(keeps, b"[1.5]"), explain(Options::default(), b"[1.5]"));
+    assert_eq!(explain(keeps, b"[1.5]"), explain(Options::SPECIFIED, b"[1.5]"));
 }
 
 fn kind<T>(answer: Result<T, Error>) -> Option<ErrorKind> {
@@ -53,10 +55,10 @@ fn kind<T>(answer: Result<T, Error>) -> Option<ErrorKind> {
 fn faults_are_told() {
     assert_eq!(kind(convert(Mode::Canonical, b"")), Some(ErrorKind::NotJson));
     assert_eq!(kind(convert(Mode::Canonical, b"\"\xff\"")), Some(ErrorKind::NotJson));
-    assert_eq!(kind(convert(Mode::Canonical, b"1.5")), Some(ErrorKind::NotExtendedJson));
+    assert_eq!(kind(convert_with(Mode::Canonical, Options::SPECIFIED, b"1.5")), Some(ErrorKind::NotExtendedJson));
     assert_eq!(kind(convert(Mode::Relaxed, br#"{"$oid":"zz"}"#)), Some(ErrorKind::BadObjectId));
-    assert_eq!(kind(same(ReadOptions::default(), b"1", b"{")), Some(ErrorKind::NotJson));
-    assert_eq!(kind(hash(ReadOptions::default(), b"1.5")), Some(ErrorKind::NotExtendedJson));
+    assert_eq!(kind(same(ReadOptions::SPECIFIED, b"1", b"{")), Some(ErrorKind::NotJson));
+    assert_eq!(kind(hash(ReadOptions::SPECIFIED, b"1.5")), Some(ErrorKind::NotExtendedJson));
     assert_eq!(kind("1.2.3".parse::<Decimal128>()), Some(ErrorKind::InvalidString));
     assert_eq!(kind("53e3".parse::<ObjectId>()), Some(ErrorKind::InvalidString));
     assert_eq!(kind("2020".parse::<DateTime>()), Some(ErrorKind::InvalidString));
@@ -65,39 +67,91 @@ fn faults_are_told() {
 }
 
 #[test]
+fn places_of_texts_that_are_not_json_are_told() {
+    let (early, quotes) = ("unexpected end of input", "keys and strings must be in double quotes");
+    for (text, line, column, offset, why) in [
+        ("[1, 2", 1, 5, 4, early),
+        ("{'a':1}", 1, 2, 1, quotes),
+        ("", 1, 1, 0, early),
+        ("[1e400]", 1, 2, 1, "number out of range"),
+        ("[1,\n2,\n 1e400\n]", 3, 2, 8, "number out of range"),
+        ("{\"a\": 1,\n \"b\": }", 2, 7, 16, "expected a colon and a value after the key"),
+        ("{\n'a':1}\n", 2, 1, 2, quotes),
+        ("[1,\n2", 2, 1, 4, early),
+    ] {
+        let error = convert(Mode::Relaxed, text.as_bytes()).unwrap_err();
+        assert_eq!((error.kind(), error.code(), error.reason()), (ErrorKind::NotJson, Some(2), why), "{text}");
+        assert_eq!((error.line(), error.column(), error.offset()), (Some(line), Some(column), Some(offset)), "{text}");
+        assert_eq!((error.to_string(), error.path().len()), (format!("not JSON at column {column} ({why})"), 0));
+        assert_eq!(error.message(), error.to_string());
+        assert_eq!(explain(Options::default(), text.as_bytes()).as_ref(), Some(&error));
+        assert_eq!(same(ReadOptions::SPECIFIED, b"1", text.as_bytes()).as_ref(), Err(&error));
+        assert_eq!(hash(ReadOptions::SPECIFIED, text.as_bytes()).as_ref(), Err(&error));
+    }
+}
+
+#[test]
 fn places_are_told() {
     let number = "not a 64-bit integer; found 1.5";
-    let (early, quotes) = ("unexpected end of input", "keys and strings must be in double quotes");
     let date = r#"`$date` must be an RFC 3339 string, an integer or a `$numberLong`; found " (a)""#;
     let digit = "the character ' ' at 4 in \"53e3 (\" is no hexadecimal digit";
     // (of a path and of a message 300 characters are told)
     let (long, cut) = ("a".repeat(1000), "a".repeat(300) + "..");
-    for (text, words, at, why) in [
-        ("[1, 2", format!("not JSON at column 5 ({early})"), "column 5", early),
-        ("{'a':1}", format!("not JSON at column 2 ({quotes})"), "column 2", quotes),
-        ("", format!("not JSON at column 1 ({early})"), "column 1", early),
-        ("[1e400]", "not JSON at column 2 (number out of range)".to_owned(), "column 2", "number out of range"),
-        (r#"{"a (":[{"b":1.5}]}"#, format!("not Extended JSON at a (.0.b ({number})"), "a (.0.b", number),
-        ("1.5", format!("not Extended JSON ({number})"), "", number),
-        (r#"{"a (":{"$date":" (a)"}}"#, format!("not Extended JSON at a (.$date ({date})"), "a (.$date", date),
-        (r#"{"a":{"$oid":"53e3 ("}}"#, format!("bad object id at a.$oid ({digit})"), "a.$oid", digit),
-        (r#"{"\u0007":1.5}"#, format!(r"not Extended JSON at \u0007 ({number})"), r"\u0007", number),
-        (&*format!(r#"{{"{long}":{{"$oid":"53e3 ("}}}}"#), format!("bad object id at {cut} ({digit})"), cut.as_str(), digit),
+    let (a, index): (PathElement, PathElement) = ("a (".into(), 0.into());
+    for (text, words, path, why) in [
+        (r#"{"a (":[{"b":1.5}]}"#, format!("not Extended JSON at a (.0.b ({number})"), vec![a.clone(), index, "b".into()], number),
+        ("1.5", format!("not Extended JSON ({number})"), vec![], number),
+        (r#"{"a.0":1,"a":{"0":1.5}}"#, format!("not Extended JSON at a.0 ({number})"), vec!["a.0".into()], number),
+        (r#"{"a (":{"$date":" (a)"}}"#, format!("not Extended JSON at a (.$date ({date})"), vec![a, "$date".into()], date),
+        (r#"{"a":{"$oid":"53e3 ("}}"#, format!("bad object id at a.$oid ({digit})"), vec!["a".into(), "$oid".into()], digit),
+        (r#"{"\u0007":1.5}"#, format!(r"not Extended JSON at \u0007 ({number})"), vec!["\u{7}".into()], number),
+        (&*format!(r#"{{"{long}":{{"$oid":"53e3 ("}}}}"#), format!("bad object id at {cut} ({digit})"), vec![cut[..300].into(), "".into(), "".into()], digit),
     ] {
-        let error = convert(Mode::Relaxed, text.as_bytes()).unwrap_err();
-        assert_eq!((error.to_string(), error.path(), error.reason()), (words, at, why));
-        assert_eq!(explain(Options::default(), text.as_bytes()).as_ref(), Some(&error));
-        assert_eq!(same(ReadOptions::default(), b"1", text.as_bytes()).as_ref(), Err(&error));
-        assert_eq!(hash(ReadOptions::default(), text.as_bytes()).as_ref(), Err(&error));
+        let error = convert_with(Mode::Relaxed, Options::SPECIFIED, text.as_bytes()).unwrap_err();
+        assert_eq!((error.to_string(), &error.path()[..], error.reason()), (words, &path[..], why));
+        assert_eq!((error.line(), error.column(), error.offset()), (None, None, None));
+        assert_eq!(explain(Options::SPECIFIED, text.as_bytes()).as_ref(), Some(&error));
+        assert_eq!(same(ReadOptions::SPECIFIED, b"1", text.as_bytes()).as_ref(), Err(&error));
+        assert_eq!(hash(ReadOptions::SPECIFIED, text.as_bytes()).as_ref(), Err(&error));
     }
     let error = "53e3".parse::<ObjectId>().unwrap_err();
-    assert_eq!((error.to_string().as_str(), error.path(), error.reason()), ("invalid string", "", "invalid string"));
+    assert_eq!((error.to_string().as_str(), error.path().len(), error.reason()), ("invalid string", 0, "invalid string"));
+}
+
+#[test]
+fn each_kind_has_the_number_of_c() {
+    let kinds = [ErrorKind::NotJson, ErrorKind::BadObjectId, ErrorKind::NotExtendedJson, ErrorKind::OutOfMemory, ErrorKind::InvalidString, ErrorKind::NotRepresentable];
+    assert_eq!(kinds.map(|it| it.code().unwrap()), [2, 3, 4, 5, 6, 7]);
+    let kinds = [ErrorKind::NotADocument, ErrorKind::ZeroInKey, ErrorKind::ZeroInRegex, ErrorKind::TooLong, ErrorKind::UnexpectedType];
+    assert_eq!(kinds.map(|it| it.code().unwrap()), [10, 11, 12, 13, 15]);
+    assert_eq!(ErrorKind::Io.code(), None);
+}
+
+#[test]
+fn values_without_a_text_are_named() {
+    let bytes = encode(Options::default(), br#"{"a":0.0,"c":{"$code":"","$scope":{"b":[1,{"$numberDouble":"NaN"},2.5]}},"d":1.5}"#).unwrap();
+    let error = decode(Mode::Canonical, Options::SPECIFIED, &bytes).unwrap_err();
+    assert_eq!((error.kind(), error.reason()), (ErrorKind::NotRepresentable, "a finite double"));
+    assert_eq!(error.path()[..], ["c".into(), "$scope".into(), "b".into(), 2.into()]);
+    assert_eq!(error.to_string(), "no text at c.$scope.b.2 (a finite double)");
+}
+
+#[test]
+fn places_of_damaged_bytes_are_told() {
+    let mut bytes = encode(Options::default(), br#"{"a":1,"list":[{"x":"y"},{"flag":true}]}"#).unwrap().to_vec();
+    let at = bytes.iter().rposition(|it| *it == 1).unwrap();
+    bytes[at] = 2;
+    let error = explain_document(&bytes).unwrap();
+    assert_eq!((error.kind(), error.offset(), error.reason()), (ErrorKind::NotADocument, Some(at as u64), "a boolean is neither 0 nor 1"));
+    assert_eq!(error.path()[..], ["list".into(), 1.into(), "flag".into()]);
+    assert_eq!(error.to_string(), format!("not a document at byte {at} (a boolean is neither 0 nor 1)"));
+    assert_eq!((error.line(), error.column()), (None, None));
 }
 
 #[test]
 fn texts_are_compared_by_meaning() {
     let (one, other) = (br#"{"a":1,"b":2}"#, br#"{"b":2,"a":{"$numberInt":"1"}}"#);
-    let options = ReadOptions::default();
+    let options = ReadOptions::SPECIFIED;
     assert_eq!(same(options, one, other), Ok(true));
     assert_eq!(hash(options, one), hash(options, other));
     assert_eq!(same(options, one, b"{}"), Ok(false));
@@ -106,7 +160,7 @@ fn texts_are_compared_by_meaning() {
 
 #[test]
 fn what_is_compared_has_options() {
-    let default = ReadOptions::default();
+    let default = ReadOptions::SPECIFIED;
     let doubles = ReadOptions { doubles: true, ..default };
     let (one, other) = (br#"{"price":1.5,"a":1}"#, br#"{"a":1,"price":{"$numberDouble":"1.50"}}"#);
     assert_eq!(same(doubles, one, other), Ok(true));
@@ -116,7 +170,8 @@ fn what_is_compared_has_options() {
     let strict = ReadOptions { reject_duplicate_keys: true, ..doubles };
     let twice = br#"{"a":[{"b":1,"b":2}]}"#;
     let error = same(strict, b"1", twice).unwrap_err();
-    assert_eq!((error.kind(), error.path(), error.reason()), (ErrorKind::NotExtendedJson, "a.0.b", "duplicate key"));
+    assert_eq!((error.kind(), error.reason()), (ErrorKind::NotExtendedJson, "duplicate key"));
+    assert_eq!(error.path()[..], ["a".into(), 0.into(), "b".into()]);
     assert_eq!(hash(strict, twice), Err(error));
     assert_eq!(same(default, twice, br#"{"a":[{"b":2}]}"#), Ok(true));
     let legacy = ReadOptions { legacy: true, ..default };
@@ -128,7 +183,7 @@ fn what_is_compared_has_options() {
 
 #[test]
 fn documents_are_compared_by_their_bytes() {
-    let (options, keeps) = (ReadOptions::default(), Options { doubles: true, keep_order: true });
+    let (options, keeps) = (ReadOptions::SPECIFIED, Options { doubles: true, keep_order: true });
     let one = encode(keeps, br#"{"price":1.5,"a":1}"#).unwrap();
     let other = encode(keeps, br#"{"a":1,"price":1.5}"#).unwrap();
     assert_ne!(&*one, &*other);
@@ -144,36 +199,49 @@ fn documents_are_compared_by_their_bytes() {
     assert_eq!(hash_document(options, twice), hash(options, br#"{"b":6}"#));
     let strict = ReadOptions { reject_duplicate_keys: true, ..options };
     let error = same_documents(strict, twice, &one[..9]).unwrap_err();
-    assert_eq!((error.kind(), error.path(), error.reason()), (ErrorKind::NotADocument, "", "duplicate key"));
+    assert_eq!((error.kind(), error.path().len(), error.reason()), (ErrorKind::NotADocument, 0, "duplicate key"));
     assert_eq!(hash_document(strict, twice), Err(error));
     assert_eq!(same_documents(strict, &one, &other), Ok(true));
 }
 
+/// Compares all of the errors except the line, which is that in the block, and the offset.
+fn same_but_for_line(found: &[(u64, Error)], wanted: impl IntoIterator<Item = (u64, Error)>) {
+    let fields = |number: u64, it: &Error| (number, it.kind(), it.to_string(), it.reason().to_owned(), it.path().clone(), it.column());
+    let wanted: Vec<_> = wanted.into_iter().map(|(number, it)| fields(number, &it)).collect();
+    assert_eq!(found.iter().map(|(number, it)| fields(*number, it)).collect::<Vec<_>>(), wanted);
+    assert!(found.iter().all(|(number, it)| it.line() == Some(*number)));
+}
+
 #[test]
 fn lines_are_converted_in_one_call() {
-    let lines = convert_lines(Mode::Relaxed, Options::default(), b"[ 1 ]\n\n{\"a\":[1.5]}\n[2").unwrap();
+    let lines = convert_lines(Mode::Relaxed, Options::SPECIFIED, b"[ 1 ]\n\n{\"a\":[1.5]}\n[2").unwrap();
     assert_eq!((&*lines.text, lines.count), ("[1]\n", 4));
-    let wanted = [convert(Mode::Relaxed, br#"{"a":[1.5]}"#).unwrap_err(), convert(Mode::Relaxed, b"[2").unwrap_err()];
-    assert_eq!(lines.refused, [(3, wanted[0].clone()), (4, wanted[1].clone())]);
-    let lines = convert_lines(Mode::Relaxed, Options { doubles: true, ..Options::default() }, b"[1.5]\n").unwrap();
+    let wanted = [r#"{"a":[1.5]}"#, "[2"].map(|it| convert_with(Mode::Relaxed, Options::SPECIFIED, it.as_bytes()).unwrap_err());
+    same_but_for_line(&lines.refused, [(3, wanted[0].clone()), (4, wanted[1].clone())]);
+    assert_eq!(lines.refused[1].1.offset(), Some(21));
+    let marked = convert_lines(Mode::Relaxed, Options::SPECIFIED, b"\xef\xbb\xbf[2}\n[}").unwrap();
+    let places = marked.refused.iter().map(|(_, it)| (it.line(), it.column(), it.offset())).collect::<Vec<_>>();
+    assert_eq!(places, [(Some(1), Some(3), Some(5)), (Some(2), Some(2), Some(8))]);
+    let lines = convert_lines(Mode::Relaxed, Options { doubles: true, ..Options::SPECIFIED }, b"[1.5]\n").unwrap();
     assert_eq!((&*lines.text, lines.refused.len()), ("[1.5]\n", 0));
 }
 
 #[test]
 fn lines_are_encoded_in_one_call() {
-    let (options, keeps) = (Options::default(), Options { doubles: true, keep_order: true });
+    let (options, keeps) = (Options::SPECIFIED, Options { doubles: true, keep_order: true });
     let lines = encode_lines(options, b"{\"n\": 5}\n\n[1]\n{\"a\":[1.5]}\n{\"a\\u0000\":1}\n{}").unwrap();
     assert_eq!(&*lines.bytes, &[12, 0, 0, 0, 0x10, b'n', 0, 5, 0, 0, 0, 0, 5, 0, 0, 0, 0]);
     let wanted = [encode(options, b"[1]").unwrap_err(), encode(options, br#"{"a":[1.5]}"#).unwrap_err(), ErrorKind::ZeroInKey.into()];
     let refused: Vec<_> = [3, 4, 5].into_iter().zip(wanted).collect();
-    assert_eq!((lines.count, lines.refused), (6, refused));
+    assert_eq!(lines.count, 6);
+    same_but_for_line(&lines.refused, refused);
     let text = br#"{"b":1.5,"a":2}"#;
     assert_eq!(&*encode_lines(keeps, text).unwrap().bytes, &*encode(keeps, text).unwrap());
 }
 
 #[test]
 fn documents_are_decoded_in_one_call() {
-    let (options, keeps) = (Options::default(), Options { doubles: true, keep_order: true });
+    let (options, keeps) = (Options::SPECIFIED, Options { doubles: true, keep_order: true });
     let double = encode(keeps, br#"{"b":1.5,"a":2}"#).unwrap();
     let bad = [9, 0, 0, 0, 8, b'a', 0, 2, 0];
     let block = [&double[..], &bad, b"\x05\0\0\0\0", b"\x06\0\0"].concat();
@@ -191,7 +259,7 @@ fn documents_are_decoded_in_one_call() {
 
 #[test]
 fn documents_come_back_from_their_bytes() {
-    let (options, doubles) = (Options::default(), Options { doubles: true, ..Options::default() });
+    let (options, doubles) = (Options::SPECIFIED, Options { doubles: true, ..Options::SPECIFIED });
     let five = [12, 0, 0, 0, 0x10, b'n', 0, 5, 0, 0, 0, 0];
     assert_eq!(&*decode(Mode::Relaxed, options, &five).unwrap(), r#"{"n":5}"#);
     assert_eq!(&*decode(Mode::Show, options, &five).unwrap(), r#"{ "n": 5 }"#);
@@ -209,7 +277,8 @@ fn documents_come_back_from_their_bytes() {
     }
     let error = decode(Mode::Show, options, &[9, 0, 0, 0, 8, b'a', 0, 2, 0]).unwrap_err();
     assert_eq!(error.to_string(), "not a document at byte 7 (a boolean is neither 0 nor 1)");
-    assert_eq!((error.path(), error.reason()), ("byte 7", "a boolean is neither 0 nor 1"));
+    assert_eq!((error.offset(), error.reason()), (Some(7), "a boolean is neither 0 nor 1"));
+    assert_eq!(error.path()[..], ["a".into()]);
     for (text, wanted) in [
         ("[]", ErrorKind::NotADocument),
         (r#"{"a\u0000":1}"#, ErrorKind::ZeroInKey),
@@ -219,7 +288,7 @@ fn documents_come_back_from_their_bytes() {
         assert_eq!(kind(encode(options, text.as_bytes())), Some(wanted));
     }
     let error = encode(options, br#"{"a":[1.5]}"#).unwrap_err();
-    assert_eq!((error.kind(), error.path()), (ErrorKind::NotExtendedJson, "a.0"));
+    assert_eq!((error.kind(), &error.path()[..]), (ErrorKind::NotExtendedJson, &["a".into(), 0.into()][..]));
 }
 
 #[test]
@@ -260,7 +329,7 @@ const SOME: &str = r#"{"at":{"$date":{"$numberLong":"-1"}},"big":{"$numberLong":
     "n":5,"none":null,"string":"\u00e9\u0000"}"#;
 
 fn some() -> vbson::Bytes {
-    encode(Options { doubles: true, ..Options::default() }, SOME.as_bytes()).unwrap()
+    encode(Options { doubles: true, ..Options::SPECIFIED }, SOME.as_bytes()).unwrap()
 }
 
 #[test]
@@ -293,11 +362,11 @@ fn raw_documents_nest() {
     let inner = document.get("inner").and_then(|it| it.as_document()).unwrap();
     assert_eq!(inner.get("n").and_then(|it| it.as_i32()), Some(6));
     assert!(inner.get("none").is_none() && inner.get("list").unwrap().as_document().is_none());
-    let list: Vec<_> = inner.get("list").and_then(|it| it.as_array()).unwrap().iter().map(|(_, value)| value).collect();
+    let list: Vec<_> = inner.get("list").and_then(|it| it.as_array()).unwrap().iter().collect();
     assert_eq!((list.len(), list[0].element_type()), (2, 0x0A));
     assert_eq!(list[1].as_document().unwrap().iter().next().and_then(|(_, it)| it.as_i32()), Some(1));
     assert_eq!(document.as_bytes(), &*bytes);
-    assert_eq!(&*decode(Mode::Relaxed, Options::default(), inner.as_bytes()).unwrap(), r#"{"list":[null,{"x":1}],"n":6}"#);
+    assert_eq!(&*decode(Mode::Relaxed, Options::SPECIFIED, inner.as_bytes()).unwrap(), r#"{"list":[null,{"x":1}],"n":6}"#);
 }
 
 #[test]
@@ -316,4 +385,43 @@ fn raw_documents_are_checked_once() {
     assert_eq!(numbers, [("a", Some(1)), ("a", Some(2)), ("b", None)]);
     let empty = RawDocument::new(&[5, 0, 0, 0, 0]).unwrap();
     assert!(empty.get("a").is_none() && empty.iter().next().is_none());
+}
+
+/// A value of each type, by its type.
+#[test]
+fn values_have_their_types() {
+    let text = br#"{"01":1.5,"02":"s","03":{"a":1},"04":[1,"b"],"05":{"$binary":{"base64":"AQI=","subType":"80"}},"06":{"$undefined":true},
+        "07":{"$oid":"0102030405060708090a0b0c"},"08":false,"09":{"$date":{"$numberLong":"-7"}},"0a":null,
+        "0b":{"$regularExpression":{"pattern":"p\u00e9","options":"im"}},"0c":{"$dbPointer":{"$ref":"r","$id":{"$oid":"0102030405060708090a0b0c"}}},
+        "0d":{"$code":"c"},"0e":{"$symbol":"y"},"0f":{"$code":"d\u0000","$scope":{"x":1}},"10":-5,"11":{"$timestamp":{"t":4294967295,"i":6}},
+        "12":{"$numberLong":"5"},"13":{"$numberDecimal":"1.50"},"7f":{"$maxKey":1},"ff":{"$minKey":1}}"#;
+    let bytes = encode(Options::default(), text).unwrap();
+    let document = RawDocument::new(&bytes).unwrap();
+    let inner = |key: &str| document.get(key).unwrap();
+    let id = ObjectId([1, 2, 3, 4, 5, 6, 7, 8, 9, 10, 11, 12]);
+    let scope = encode(Options::default(), br#"{"x":1}"#).unwrap();
+    let wanted = [
+        Bson::Double(1.5), Bson::String("s"), Bson::Document(inner("03").as_document().unwrap()), Bson::Array(inner("04").as_array().unwrap()),
+        Bson::Binary { subtype: 128, bytes: &[1, 2] }, Bson::Undefined, Bson::ObjectId(id), Bson::Boolean(false), Bson::DateTime(DateTime(-7)), Bson::Null,
+        Bson::RegularExpression { pattern: "p\u{e9}", options: "im" }, Bson::DbPointer { namespace: "r", id }, Bson::JavaScriptCode("c"), Bson::Symbol("y"),
+        Bson::JavaScriptCodeWithScope { code: "d\0", scope: RawDocument::new(&scope).unwrap() }, Bson::Int32(-5),
+        Bson::Timestamp(Timestamp { time: u32::MAX, increment: 6 }), Bson::Int64(5), Bson::Decimal128("1.50".parse().unwrap()), Bson::MaxKey, Bson::MinKey,
+    ];
+    assert_eq!(document.iter().count(), 21);
+    for ((key, value), wanted) in document.into_iter().zip(wanted) {
+        assert_eq!((key, value.value()), (&*format!("{:02x}", value.element_type()), wanted));
+        let is_scalar = [value.as_decimal128().is_some(), value.as_timestamp().is_some()];
+        assert_eq!(is_scalar, [key == "13", key == "11"]);
+        assert_eq!(format!("{value:?}"), format!("{wanted:?}"));
+    }
+    // (the bytes of the values, with their types and keys, are those of the document)
+    let parts: Vec<_> = document.iter().map(|(key, it)| [&[it.element_type()], key.as_bytes(), &[0], it.as_bytes()].concat()).collect();
+    assert_eq!([&bytes[..4], &parts.concat(), &[0]].concat(), &bytes[..]);
+    assert_eq!(inner("04").as_array().unwrap().get(1).and_then(|it| it.as_str()), Some("b"));
+    assert!(inner("04").as_array().unwrap().get(2).is_none());
+    assert_eq!(format!("{:?}", inner("04").as_array().unwrap()), r#"[Int32(1), String("b")]"#);
+    assert_eq!(format!("{:?}", inner("03").as_document().unwrap()), r#"{"a": Int32(1)}"#);
+    let owned: RawDocumentBuf = inner("03").as_document().unwrap().to_owned();
+    assert_eq!((owned.as_bytes(), owned.clone().into_bytes()), (inner("03").as_bytes(), inner("03").as_bytes().to_vec()));
+    assert_eq!(kind(RawDocumentBuf::new(vec![5, 0, 0, 0])), Some(ErrorKind::NotADocument));
 }
