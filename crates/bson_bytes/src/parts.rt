@@ -1,5 +1,5 @@
 //! The parts of an element: each reader answers a value and the bytes behind it.
-ghost use Rattle.std.specs.Prelude.{◌≡◌, ◌≤◌, ◌<◌, ◌^◌, length, option_map, string_bytes, Ok, IfOk, IfSome};
+ghost use Rattle.std.specs.Prelude.{◌≡◌, ◌≤◌, ◌<◌, ◌^◌, length, option_map, string_bytes, IfOk, IfSome};
 ghost use Rattle.std.specs.Int.{w32, w64};
 ghost use Rattle.bson_bytes.specs.Fault.{Gives};
 ghost use Rattle.bson_bytes.specs.Reading.{byte_at, bytes_at, number_at, size_at, zero_at, split_zero};
@@ -167,20 +167,13 @@ pub fn name_at(bytes: &[u8]) -> Result<(&str, &[u8]), Fault>
     Ok((utf8_at(name, bytes)?, rest))
 }
 
-// The bytes behind the first 0, where it stands after a name of ASCII.
-fn behind_ascii(bytes: &[u8]) -> Option<&[u8]>
-    ensures given { IfSome result (λ rest. passed (name_at bytes.now) ≡ Ok rest.now) }
-    ensures shorter { IfSome result (λ rest. length rest.now ≤ length bytes.now) }
+// Passes over the name of an element, which may be of any bytes.
+fn behind_any_name(bytes: &[u8]) -> Result<&[u8], Fault>
+    ensures given { Gives (λ x. x.now) result (passed (name_at bytes.now)) }
+    ensures shorter { IfOk result (λ x. length x.now ≤ length bytes.now) }
 {
-    for (i, byte) in bytes.iter().enumerate() {
-        if *byte == 0 {
-            return Some(&bytes[i + 1..]);
-        }
-        if *byte >= 0x80 {
-            return None;
-        }
-    }
-    None
+    let (_, rest) = name_at(bytes)?;
+    Ok(rest)
 }
 
 /// Passes over the name of an element. A name of ASCII is read once.
@@ -193,11 +186,15 @@ pub fn behind_name(bytes: &[u8]) -> Result<&[u8], Fault>
     ensures given { Gives (λ x. x.now) result (passed (name_at bytes.now)) }
     ensures shorter { IfOk result (λ x. length x.now ≤ length bytes.now) }
 {
-    if let Some(rest) = behind_ascii(bytes) {
-        return Ok(rest);
+    for (i, byte) in bytes.iter().enumerate() {
+        if *byte == 0 {
+            return Ok(&bytes[i + 1..]);
+        }
+        if *byte >= 0x80 {
+            return behind_any_name(bytes);
+        }
     }
-    let (_, rest) = name_at(bytes)?;
-    Ok(rest)
+    Err(fault_at(FaultKind::Short, bytes))
 }
 
 /// Reads a text after its length. The text may contain a 0.
