@@ -1,7 +1,9 @@
 -- The bytes after a part that was read.
-use Rattle.std.proofs.Common.{◌≡◌, ℕ, true, List, Some, Result, Ok, Err, refl, sym, ap}
+use Rattle.std.proofs.Common.{◌≡◌, ℕ, true, List, Some, None, Result, Ok, Err, refl, sym, ap}
 use Rattle.std.specs.Str.{is_utf8}
 use Rattle.bson_bytes.specs.declared.fault.Fault.{Fault}
+use Rattle.bson_bytes.specs.declared.fault.FaultKind.TheVariants.{Short}
+use Rattle.bson_bytes.specs.Fault.{at}
 use Rattle.bson_bytes.specs.Reading.{passed, name_at, split_zero}
 use Rattle.bson_bytes.proofs.PartLaws.{ok_is}
 
@@ -22,3 +24,7 @@ pub passed_name : (bytes s rest : List ℕ) → Some (s, rest) ≡ split_zero by
     → passed (name_at bytes) ≡ Ok rest
 unfolding name_at
 passed_name bytes s rest split u = rw (sym split, u) refl
+
+pub passed_short : (bytes : List ℕ) → None ≡ split_zero bytes → passed (name_at bytes) ≡ Err (at Short bytes)
+unfolding name_at
+passed_short bytes none = rw (sym none) refl

@@ -1,5 +1,6 @@
 -- The type that a byte names.
-use Rattle.std.proofs.Common.{◌≡◌, ◌↔◌, ℕ, eqb, List, [], ◌∷◌, Option, Some, None, refl, sym, ap, ◌∙◌, inl, inr}
+use Rattle.std.proofs.Common.{◌≡◌, ◌↔◌, ◌≤◌, ℕ, eqb, List, [], ◌∷◌, Option, Some, None, refl, sym, ap, ◌∙◌, inl, inr}
+use Rattle.std.proofs.Common.{arith}
 use Rattle.std.proofs.lemmas.Bool.{eqb-true}
 use Rattle.bson_types.specs.declared.spec.ElementType.{ElementType}
 use Rattle.bson_types.specs.declared.spec.ElementType.TheVariants as kind
@@ -51,3 +52,30 @@ kind_is t r h = named_is t r (kind_of t) refl h (λ k e. named_from t all_types 
 pub tag_from : (t : ℕ) (k : ElementType) → kind_of t ≡ Some k → tag_of k ≡ t
 unfolding kind_of
 tag_from t k e = named_from t all_types k e
+
+no_high : (t : ℕ) (k : ElementType) → 20 ≤ t → (t ≡ 127 → ⊥) → (t ≡ 255 → ⊥) → tag_of k ≡ t → ⊥
+no_high t kind.Double low n m e = omega (arith, low, e)
+no_high t kind.String low n m e = omega (arith, low, e)
+no_high t kind.EmbeddedDocument low n m e = omega (arith, low, e)
+no_high t kind.Array low n m e = omega (arith, low, e)
+no_high t kind.Binary low n m e = omega (arith, low, e)
+no_high t kind.Undefined low n m e = omega (arith, low, e)
+no_high t kind.ObjectId low n m e = omega (arith, low, e)
+no_high t kind.Boolean low n m e = omega (arith, low, e)
+no_high t kind.DateTime low n m e = omega (arith, low, e)
+no_high t kind.Null low n m e = omega (arith, low, e)
+no_high t kind.RegularExpression low n m e = omega (arith, low, e)
+no_high t kind.DbPointer low n m e = omega (arith, low, e)
+no_high t kind.JavaScriptCode low n m e = omega (arith, low, e)
+no_high t kind.Symbol low n m e = omega (arith, low, e)
+no_high t kind.JavaScriptCodeWithScope low n m e = omega (arith, low, e)
+no_high t kind.Int32 low n m e = omega (arith, low, e)
+no_high t kind.Timestamp low n m e = omega (arith, low, e)
+no_high t kind.Int64 low n m e = omega (arith, low, e)
+no_high t kind.Decimal128 low n m e = omega (arith, low, e)
+no_high t kind.MaxKey low n m e = n (sym e)
+no_high t kind.MinKey low n m e = m (sym e)
+
+-- a byte above the low tags, and not one of the two high ones
+pub no_kind : (t : ℕ) → 20 ≤ t → (t ≡ 127 → ⊥) → (t ≡ 255 → ⊥) → None ≡ kind_of t
+no_kind t low n m = kind_is t None (λ k. (λ e. absurd cc, λ e. absurd (no_high t k low n m e)))

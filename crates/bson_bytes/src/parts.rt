@@ -1,7 +1,6 @@
 //! The parts of an element: each reader answers a value and the bytes behind it.
-ghost use Rattle.std.specs.Prelude.{◌≡◌, ◌≤◌, ◌<◌, ◌^◌, length, option_map, string_bytes, IfOk, IfSome, IsTrue};
+ghost use Rattle.std.specs.Prelude.{◌≡◌, ◌≤◌, ◌<◌, ◌^◌, length, option_map, string_bytes, IfOk, IfSome};
 ghost use Rattle.std.specs.Int.{w32, w64};
-ghost use Rattle.std.specs.Str.{IsAscii};
 ghost use Rattle.bson_bytes.specs.Fault.{Gives};
 ghost use Rattle.bson_bytes.specs.Reading.{byte_at, bytes_at, number_at, size_at, zero_at, split_zero};
 ghost use Rattle.bson_bytes.specs.Reading.{utf8_at, name_at, passed, text_at};
@@ -168,20 +167,13 @@ pub fn name_at(bytes: &[u8]) -> Result<(&str, &[u8]), Fault>
     Ok((utf8_at(name, bytes)?, rest))
 }
 
-// The bytes before the first 0, those behind it, and whether the first ones are ASCII.
-fn split_name(bytes: &[u8]) -> Option<(&[u8], &[u8], bool)>
-    ensures given { option_map (λ p. (p.0.now, p.1.now)) result ≡ split_zero bytes.now }
-    ensures ascii { IfSome result (λ p. IsTrue p.2 → IsAscii p.0.now) }
-    ensures shorter { IfSome result (λ p. length p.1.now ≤ length bytes.now) }
+// Passes over the name of an element, which may be of any bytes.
+fn behind_any_name(bytes: &[u8]) -> Result<&[u8], Fault>
+    ensures given { Gives (λ x. x.now) result (passed (name_at bytes.now)) }
+    ensures shorter { IfOk result (λ x. length x.now ≤ length bytes.now) }
 {
-    let mut is_ascii = true;
-    for (i, byte) in bytes.iter().enumerate() {
-        if *byte == 0 {
-            return Some((&bytes[..i], &bytes[i + 1..], is_ascii));
-        }
-        is_ascii = is_ascii && *byte < 0x80;
-    }
-    None
+    let (_, rest) = name_at(bytes)?;
+    Ok(rest)
 }
 
 /// Passes over the name of an element. A name of ASCII is read once.
@@ -190,19 +182,19 @@ fn split_name(bytes: &[u8]) -> Option<(&[u8], &[u8], bool)>
 ///
 /// - `Short`: no byte is 0.
 /// - `Utf8`: the bytes before the first 0 are not UTF-8.
-#[tactic(auto, unfolding(crate::specs::Reading::name_at))]
 pub fn behind_name(bytes: &[u8]) -> Result<&[u8], Fault>
     ensures given { Gives (λ x. x.now) result (passed (name_at bytes.now)) }
     ensures shorter { IfOk result (λ x. length x.now ≤ length bytes.now) }
 {
-    let Some((name, rest, is_ascii)) = split_name(bytes) else {
-        return Err(fault_at(FaultKind::Short, bytes));
-    };
-    if is_ascii {
-        return Ok(rest);
+    for (i, byte) in bytes.iter().enumerate() {
+        if *byte == 0 {
+            return Ok(&bytes[i + 1..]);
+        }
+        if *byte >= 0x80 {
+            return behind_any_name(bytes);
+        }
     }
-    utf8_at(name, bytes)?;
-    Ok(rest)
+    Err(fault_at(FaultKind::Short, bytes))
 }
 
 /// Reads a text after its length. The text may contain a 0.
@@ -230,7 +222,16 @@ pub fn text_at(bytes: &[u8]) -> Result<(&str, &[u8]), Fault>
 pub fn kind_of(tag: u8) -> Option<ElementType>
     ensures { result ≡ kind_of tag }
 {
-    ElementType::from(tag)
+    if tag < 0x14 {
+        // (a table of the low tags, without those two)
+        ElementType::from(tag)
+    } else if tag == 0x7F {
+        Some(ElementType::MaxKey)
+    } else if tag == 0xFF {
+        Some(ElementType::MinKey)
+    } else {
+        None
+    }
 }
 
 /// Splits off the first 12 bytes.

@@ -25,6 +25,9 @@ use bson_bytes::parts::size_at;
 use std::alloc::Global;
 use std::io::{Read, Write};
 
+/// As much as is asked of a reader at once. A run has one block, which is filled with zeros once.
+const BLOCK: usize = 65536;
+
 /// The greatest number of documents in one run.
 const MOST: u64 = u64::MAX - 1;
 
@@ -142,11 +145,12 @@ pub fn run_documents<R: Read, W: Write, T: Write>(
     ensures justified { IfErr result (λ e. IsJustified run (R.remaining reader.old) e.fault e.start) }
 {
     let mut bytes = Vec::new(alloc);
+    let mut block = [0u8; BLOCK];
     let mut refused: u64 = 0;
     let mut start: u64 = 0;
     for documents in 0..MOST {
         let number = documents + 1;
-        if let Err(error) = take_document(reader, &mut bytes) {
+        if let Err(error) = take_document(reader, &mut block, &mut bytes) {
             let fault = fault_of_reader(error);
             return Err(RunEnd {
                 fault,

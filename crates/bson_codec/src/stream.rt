@@ -1,5 +1,5 @@
 //! Documents from readers, and to writers.
-ghost use Rattle.std.specs.Prelude.{◌≡◌, ◌≤◌, ◌⊎◌, ℕ, List, [], Some, length, vec_len, IfOk, IfErr, OnOk};
+ghost use Rattle.std.specs.Prelude.{◌≡◌, ◌<◌, ◌≤◌, ◌⊎◌, ℕ, List, [], Some, length, vec_len, IfOk, IfErr, OnOk};
 ghost use Rattle.std.specs.Io.KnownBytes.{Appends, Consumes, IsAtEnd};
 ghost use Rattle.bson_model.specs.Value.{Pairs};
 ghost use Rattle.bson_bytes.specs.Laws.{IsRead, IsFront};
@@ -104,7 +104,8 @@ pub fn from_reader<R: Read>(
         (λ e. IsRefusedInput depth (R.remaining reader.old) (R.remaining reader.new) e) }
 {
     let mut bytes = Vec::new(alloc);
-    take_document(reader, &mut bytes)?;
+    let mut block = [0u8; BLOCK];
+    take_document(reader, &mut block, &mut bytes)?;
     match from_slice(alloc, bytes.as_slice(), depth) {
         Ok(document) => Ok(document),
         Err(Error::Malformed { kind, offset }) => Err(ReaderError::Malformed { kind, offset }),
@@ -140,8 +141,14 @@ pub fn to_writer<W: Write>(
     }
 }
 
-/// Takes a document, as long as its length says, or what came of it.
-pub(crate) fn take_document<R: Read>(reader: &mut R, bytes: &mut Vec<u8>) -> Result<(), ReaderError>
+/// Takes a document, as long as its length says, or what came of it. No more than a block is asked of
+/// the reader at once.
+pub(crate) fn take_document<R: Read>(
+    reader: &mut R,
+    block: &mut [u8],
+    bytes: &mut Vec<u8>,
+) -> Result<(), ReaderError>
+    requires { 0 < length block.old }
     ensures taken { OnOk result (Consumes (R.remaining reader.old) (R.remaining reader.new) bytes.new.items) }
     ensures front { (all : List ℕ) → R.remaining reader.old ≡ Some all → OnOk result (bytes.new.items ≡ front_of all) }
     ensures end { OnOk result (bytes.new.items ≡ [] → IsAtEnd (R.remaining reader.new)) }
@@ -149,17 +156,23 @@ pub(crate) fn take_document<R: Read>(reader: &mut R, bytes: &mut Vec<u8>) -> Res
     ensures fault { IfErr result (λ e. (e ≡ read_errors.CannotRead) ⊎ (e ≡ read_errors.OutOfMemory)) }
 {
     bytes.clear();
-    fill(reader, bytes, LENGTH)?;
+    fill(reader, block, bytes, LENGTH)?;
     if bytes.len() < LENGTH {
         return Ok(());
     }
     let size = promised_size(bytes.as_slice());
-    fill(reader, bytes, size)
+    fill(reader, block, bytes, size)
 }
 
 // Takes bytes until there are `count` of them, or the reader has no more.
-fn fill<R: Read>(reader: &mut R, bytes: &mut Vec<u8>, count: usize) -> Result<(), ReaderError>
-    requires { vec_len bytes.old ≤ count }
+fn fill<R: Read>(
+    reader: &mut R,
+    block: &mut [u8],
+    bytes: &mut Vec<u8>,
+    count: usize,
+) -> Result<(), ReaderError>
+    requires room { 0 < length block.old }
+    requires fewer { vec_len bytes.old ≤ count }
     ensures taken { OnOk result
         (IsTaken (R.remaining reader.old) (R.remaining reader.new) bytes.old.items bytes.new.items) }
     ensures end { OnOk result ((length bytes.new.items ≡ count) ⊎ IsAtEnd (R.remaining reader.new)) }
@@ -167,10 +180,13 @@ fn fill<R: Read>(reader: &mut R, bytes: &mut Vec<u8>, count: usize) -> Result<()
     ensures some { (more : List ℕ) × Consumes (R.remaining reader.old) (R.remaining reader.new) more }
     ensures fault { IfErr result (λ e. (e ≡ read_errors.CannotRead) ⊎ (e ≡ read_errors.OutOfMemory)) }
 {
-    let mut block = [0u8; BLOCK];
     while bytes.len() < count {
         let wanted = count - bytes.len();
-        let room = if wanted < BLOCK { wanted } else { BLOCK };
+        let room = if wanted < block.len() {
+            wanted
+        } else {
+            block.len()
+        };
         let piece = &mut block[..room];
         let Ok(given) = reader.read(piece) else {
             return Err(ReaderError::CannotRead);

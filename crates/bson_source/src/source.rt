@@ -87,7 +87,8 @@ fn embedded_at<'a, S: ValueSink>(
         (value_with S.keys (document_in S.keys depth) tag.EmbeddedDocument bytes.now) }
     ensures shorter { IfOk result (λ x. length x.1.now ≤ length bytes.now) }
 {
-    let (given, rest) = document_at(bytes, depth, out)?;
+    let (list, rest) = sized_at(true, bytes, depth, out)?;
+    let given = out.end_document(list)?;
     let value = out.embed(given)?;
     Ok((value, rest))
 }

@@ -1,7 +1,8 @@
 use Rattle.std.proofs.Common.{◌+◌, List, ℕ, arith, refl, subst}
 use Rattle.bson_codec.specs.Documents.{IsGiven, IsUngiven}
 use Rattle.bson_codec.proofs.Justified.{justified, unread_justified}
-use Rattle.bson_codec.proofs.Runs.{run_begins, run_goes_on, run_ends_at, run_ends_unread, one_at_most, some_taken}
+use Rattle.bson_codec.proofs.Runs.{run_begins, run_goes_on, run_ends_at, run_ends_unread, run_stops_between, one_at_most}
+use Rattle.bson_codec.proofs.Runs.{some_taken}
 use Rattle.bson_codec.proofs.documents.run_documents.Goals as goal
 
 pub loop-documents-init : goal.loop-documents-init
@@ -74,3 +75,11 @@ returns-in-Err-give-clause-justified g c =
     c.in_default.ensures.taken refl (some_taken c.take_document.new.bytes.items _ (omega (arith, c.take_document.new.bytes.ok)) c.if-is_empty.ensures) c.in_default.ensures.front
     (subst (λ (b : List ℕ). IsUngiven c.in-Err-give.fault c.args.run number c.loop-documents.start b before after tells after_tells)
     c.as_slice-bytes.ensures.value c.in-Err-give.ensures.fault))
+
+pub returns-clause-fails : goal.returns-clause-fails
+returns-clause-fails g c =
+    run_stops_between c.args.run (g.R.Read.remaining c.args.reader.now) (g.R.Read.remaining c.loop-documents.reader)
+    (g.W.Write.contents c.args.writer.now) (g.W.Write.contents c.loop-documents.writer)
+    (g.T.Write.contents c.args.report.now) (g.T.Write.contents c.loop-documents.report) c.loop-documents.documents
+    c.loop-documents.refused c.loop-documents.start 18446744073709551615 c.loop-documents.invariant.1
+    (omega (arith, c.loop-documents-test.false, c.loop-documents.auto.documents-end))

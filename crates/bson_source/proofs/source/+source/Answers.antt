@@ -1,6 +1,8 @@
 use Rattle.std.proofs.Common.{◌≡◌, ◌≤◌, ◌+◌, ◌-◌, length, arith, sym, ap, ◌∙◌, None, Some, true, false}
 use Rattle.std.proofs.lemmas.Result.{err_from_is_err_and}
 use Rattle.bson_model.specs.Value.{no_pairs}
+use Rattle.bson_types.specs.declared.spec.ElementType.TheVariants as tag
+use Rattle.bson_bytes.specs.Grammar.{one_each}
 use Rattle.bson_bytes.specs.Reading.{key_at, value_with, document_in, none_before, settled}
 use Rattle.bson_bytes.specs.Tags.{kind_of}
 use Rattle.bson_bytes.proofs.Offered.{elements, bad_byte, bad_tag, bad_name, bad_value, too_deep, bad_size, bad_list}
@@ -145,16 +147,31 @@ array_at-returns-clause-given g t c =
     let x = c.in_ok-list.ensures.given in
     (_, array_read g.S.ValueSink.keys c.args.depth c.args.bytes.now x.0 _ x.1, c.in_ok-value.ensures.given c.args.out.now x.0 x.2)
 
+pub embedded_at-end_document-requires : goal.embedded_at-end_document-requires
+embedded_at-end_document-requires g t c =
+    let x = c.in_ok-list.ensures.given in
+    (c.args.out.now, x.0, x.2)
+
+pub embedded_at-returns-in_err-list-clause-given : goal.embedded_at-returns-in_err-list-clause-given
+embedded_at-returns-in_err-list-clause-given g t c =
+    let p = err_from_is_err_and c.from_residual.result c.from_residual.ensures.1 in
+    rw (p.1, p.2) (stops_by g.S.ValueSink.may c.in_err-list.field-0.0 (document_in g.S.ValueSink.keys c.args.depth (keys_before g.S.ValueSink.keys true no_pairs) c.args.bytes.now) _
+    (λ f e. embedded_fault g.S.ValueSink.keys c.args.depth c.args.bytes.now f
+    (ap (settled no_pairs) (begins g.S.ValueSink.keys c.args.depth c.args.bytes.now ∙ e))) c.in_err-list.ensures.given)
+
 pub embedded_at-returns-in_err-given-clause-given : goal.embedded_at-returns-in_err-given-clause-given
 embedded_at-returns-in_err-given-clause-given g t c =
-    let p = err_from_is_err_and c.from_residual.result c.from_residual.ensures.1 in
-    rw (p.1, p.2) (stops_by g.S.ValueSink.may c.in_err-given.field-0.0 (settled no_pairs (document_in g.S.ValueSink.keys c.args.depth (none_before g.S.ValueSink.keys) c.args.bytes.now)) _
-    (λ f e. embedded_fault g.S.ValueSink.keys c.args.depth c.args.bytes.now f e) c.in_err-given.ensures.given)
+    let p = err_from_is_err_and c.from_residual-in_err-given.result c.from_residual-in_err-given.ensures.1 in
+    rw (p.1, p.2) (stops_sink g.S.ValueSink.may c.in_err-given.field-0.0 (value_with g.S.ValueSink.keys (document_in g.S.ValueSink.keys c.args.depth) tag.EmbeddedDocument c.args.bytes.now) c.in_err-given.ensures.stop c.in_err-given.ensures.sound)
 
 pub embedded_at-returns-clause-given : goal.embedded_at-returns-clause-given
 embedded_at-returns-clause-given g t c =
-    let x = c.in_ok-given.ensures.given in
-    (_, embedded_read g.S.ValueSink.keys c.args.depth c.args.bytes.now x.0 _ x.1, c.in_ok-value.ensures.given c.args.out.now x.0 x.2)
+    let x = c.in_ok-list.ensures.given in (
+      _,
+      embedded_read g.S.ValueSink.keys c.args.depth c.args.bytes.now (one_each x.0) _
+          (ap (settled no_pairs) (begins g.S.ValueSink.keys c.args.depth c.args.bytes.now ∙ x.1)),
+      c.in_ok-value.ensures.given c.args.out.now _ (c.in_ok-given.ensures.given c.args.out.now x.0 x.2),
+    )
 
 pub document_at-end_document-requires : goal.document_at-end_document-requires
 document_at-end_document-requires g t c =
