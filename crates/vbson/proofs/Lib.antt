@@ -2,6 +2,7 @@ mod Causes
 mod Decoding
 mod Dumps
 mod Explained
+mod Paths
 mod Preprocessed
 mod RawValues
 mod Rows

@@ -143,13 +143,18 @@ pub(crate) fn owned(raw: call::RawText) -> Text {
     Text(block)
 }
 
+fn message(raw: call::RawError) -> Text {
+    drop((Block::of(raw.path), Block::of(raw.reason)));
+    owned(raw.message)
+}
+
 /// The error of the first rejected input, with its path. Only a rejected input is read again; if that runs out of memory,
 /// the error has no path.
 pub(crate) fn error_of(kind: ErrorKind, flags: u32, texts: &[&[u8]]) -> Error {
     if !matches!(kind, ErrorKind::NotJson | ErrorKind::BadObjectId | ErrorKind::NotExtendedJson) {
         return kind.into();
     }
-    let mut explained = texts.iter().map(|it| call::explain(flags, it).map(owned));
+    let mut explained = texts.iter().map(|it| call::explain(flags, it).map(message));
     match explained.find(|it| it.as_ref().map_or(true, |words| !words.is_empty())) {
         Some(Ok(words)) => Error::explained(kind, &words),
         _ => kind.into(),
