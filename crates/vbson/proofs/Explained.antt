@@ -1,5 +1,5 @@
 -- The struct that tells why a text is refused, under the flags.
-use Rattle.std.proofs.Common.{◌≡◌, ◌≢◌, inl, inr, ℕ, IsUtf8, List, Option, None, Some, refl, sym, subst, arith}
+use Rattle.std.proofs.Common.{◌≡◌, ◌≢◌, inl, inr, ℕ, List, Option, None, Some, refl, subst, arith}
 use Rattle.json.specs.Json.{Json}
 use Rattle.json.specs.Strict.{HasUniqueKeys}
 use Rattle.serde_json.specs.Read.{read}

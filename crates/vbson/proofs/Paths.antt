@@ -1,12 +1,12 @@
 -- The elements of a path, put one after the other.
-use Rattle.std.proofs.Common.{◌≡◌, ℕ, ◌++◌, List, [], ◌∷◌, Ok, Err, refl, sym, ap, ◌∙◌, length, subst, arith}
+use Rattle.std.proofs.Common.{◌≡◌, ℕ, List, [], ◌∷◌, Ok, Err, refl, sym, ap, ◌∙◌, length, subst, arith}
 use Rattle.std.specs.Prelude.{decimal, map}
 use Rattle.std.proofs.lemmas.List.{length-map}
 use Rattle.bson_place.specs.Place.{segment_of}
 use Rattle.bson_place.specs.declared.place.Segment.{Segment}
-use Rattle.bson_model.specs.Value.{Value, Pairs, no_pairs, pair}
+use Rattle.bson_model.specs.Value.{Pairs, no_pairs, pair}
 use Rattle.bson_bytes.specs.Putting.{Put, then, put_name, put_value, put_pairs, put_room, put_end, put_document, StopsFor}
-use Rattle.bson_bytes.specs.Writing.{Cause, type_of, FitsDocument, zero_in_key, zero_in_regex, too_long}
+use Rattle.bson_bytes.specs.Writing.{type_of, FitsDocument, zero_in_key, zero_in_regex, too_long}
 use Rattle.bson_bytes.specs.declared.error.Error.{Error}
 use Rattle.bson_bytes.specs.declared.error.Error.TheVariants as errors
 use Rattle.bson_bytes.proofs.Offered.{told_err, document_fits}

@@ -1,4 +1,4 @@
-use Rattle.std.proofs.Common.{string_bytes, subst, sym}
+use Rattle.std.proofs.Common.{subst, sym}
 use Rattle.bson_run.specs.Place.{IsWhere}
 use Rattle.bson_run.proofs.Explaining.{where_from}
 use Rattle.bson_run.proofs.LinesLaws.{oks_with}

@@ -1,4 +1,4 @@
-use Rattle.std.proofs.Common.{rules, ◌≡◌, ◌≢◌, inl, inr, [], List, ℕ}
+use Rattle.std.proofs.Common.{rules, ◌≡◌, ◌≢◌, inl, inr, []}
 use Rattle.std.proofs.lemmas.Result.{IfErr-weaker, IfOk-weaker}
 use Rattle.bson_bytes.specs.declared.error.Error.{Error as PathError}
 use Rattle.bson_bytes.specs.declared.error.Error.TheVariants as sizes

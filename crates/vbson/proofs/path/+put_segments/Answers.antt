@@ -1,7 +1,6 @@
-use Rattle.std.proofs.Common.{◌≡◌, ◌∙◌, List, ◌∷◌, [], ap, length, rules, subst, sym}
+use Rattle.std.proofs.Common.{◌≡◌, ◌∷◌, length, rules, subst, sym}
 use Rattle.std.proofs.lemmas.Result.{err_from_is_err_and}
 use Rattle.bson_bytes.specs.Putting.{Put, Puts}
-use Rattle.bson_place.specs.declared.place.Segment.{Segment}
 use Rattle.vbson.proofs.Paths.{no_segments, segment_put, segments_stop}
 use Rattle.vbson.proofs.path.+put_segments.Goals as goal
 

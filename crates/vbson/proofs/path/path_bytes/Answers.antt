@@ -1,7 +1,7 @@
-use Rattle.std.proofs.Common.{◌≡◌, ◌∙◌, ◌++◌, List, [], ap, map, subst, sym, ℕ, length, arith}
+use Rattle.std.proofs.Common.{◌∙◌, List, ap, map, subst, sym, ℕ}
 use Rattle.std.proofs.lemmas.Result.{err_from_is_err_and}
 use Rattle.bson_bytes.proofs.Offered.{told_ok}
-use Rattle.bson_bytes.specs.Putting.{Put, Puts, StopsFor, put_document, put_end, put_pairs, put_room}
+use Rattle.bson_bytes.specs.Putting.{Put, StopsFor, put_pairs, put_room}
 use Rattle.bson_place.specs.Place.{segment_of}
 use Rattle.vbson.proofs.Paths.{only_memory, document_put, document_stops}
 use Rattle.vbson.specs.Path.{path_pairs}
