@@ -146,21 +146,47 @@ uint32_t vbson_convert(uint32_t mode, const uint8_t *text, size_t len, vbson_buf
  * VBSON_INVALID_ARGUMENT, VBSON_NOT_JSON, VBSON_BAD_OBJECT_ID, VBSON_NOT_EXTENDED_JSON, VBSON_OUT_OF_MEMORY. */
 uint32_t vbson_convert_with(uint32_t mode, uint32_t flags, const uint8_t *text, size_t len, vbson_buffer *out);
 
-/* Writes why, and where, vbson_convert_with, vbson_same and vbson_hash reject the input under these flags, as one line
- * without a newline. The output is empty if they accept it. VBSON_KEEP_ORDER changes nothing here, and neither does the
- * mode. The line is the message of the status, followed by
- *     " at column N (RULE)"     if the input is not JSON: it stops to be JSON at the byte N of a line, counted from 1. RULE
- *                               is the broken rule, for example "expected a comma or a closing bracket". It is
- *                               "number out of range" if the grammar holds, and a number is too large for a double
- *     " at PATH (MESSAGE)"      for any other error: the path to the first one, its keys and array indexes (from 0) joined
- *                               by points, for example orders.3._id.$oid. MESSAGE mostly is "EXPECTED; found VALUE", with
- *                               the first 60 characters of the value as the input has it, and ".." if it is longer
+/* Why input is rejected, and where. Free path, reason and message with vbson_buffer_free. */
+typedef struct vbson_error {
+    uint32_t code;        /* the status of the rejection; VBSON_OK if the input is accepted */
+    size_t line;          /* of VBSON_NOT_JSON: the line on which the input stops to be JSON, from 1; otherwise 0 */
+    size_t column;        /* of VBSON_NOT_JSON: the byte of that line, from 1; otherwise 0 */
+    size_t offset;        /* of VBSON_NOT_JSON: the number of bytes of the input before that byte; otherwise 0 */
+    vbson_buffer path;    /* the way to the invalid value: the bytes of a BSON array, for vbson_raw_elements. A key is a
+                             string, and an array index, from 0, an integer of 64 bits. It is empty if the error is that of
+                             the whole input, or of JSON */
+    vbson_buffer reason;  /* what is wrong: the RULE or the MESSAGE below */
+    vbson_buffer message; /* all of this as one line for people, without a newline */
+} vbson_error;
+
+#define VBSON_ERROR_INIT { VBSON_OK, 0, 0, 0, VBSON_BUFFER_INIT, VBSON_BUFFER_INIT, VBSON_BUFFER_INIT }
+
+/* Frees the blocks of an error; afterwards it is VBSON_ERROR_INIT. */
+static inline void vbson_error_free(vbson_error *error) {
+    vbson_buffer_free(&error->path);
+    vbson_buffer_free(&error->reason);
+    vbson_buffer_free(&error->message);
+    error->code = VBSON_OK;
+    error->line = error->column = error->offset = 0;
+}
+
+/* Finds why, and where, vbson_convert_with, vbson_same and vbson_hash reject the input under these flags. The code is
+ * VBSON_OK if and only if they accept it; then the path is an empty array, and the strings are empty. VBSON_KEEP_ORDER
+ * changes nothing here, and neither does the mode. The message is that of the status, followed by
+ *     " at column N (RULE)"     if the input is not JSON. RULE is the broken rule, for example "expected a comma or a
+ *                               closing bracket". It is "number out of range" if the grammar holds, and a number is too
+ *                               large for a double
+ *     " at PATH (MESSAGE)"      for any other error: the path to the first one, its keys and indexes joined by points, for
+ *                               example orders.3._id.$oid. MESSAGE mostly is "EXPECTED; found VALUE", with the first 60
+ *                               characters of the value as the input has it, and ".." if it is longer
  *     " (MESSAGE)"              if the error is that of the whole value
  * In PATH and MESSAGE control characters, U+2028 and U+2029 are escaped as in JSON, for example \u001b. After 300
- * characters they are cut off with "..". PATH is ambiguous if a key contains a point or a backslash, or has only digits.
+ * characters they are cut off with "..". PATH is ambiguous if a key contains a point or a backslash, or has only digits;
+ * the array path is exact. With VBSON_LEGACY, all positions are those in the Extended JSON v2 that is read instead.
  * The call reads the input as vbson_convert_with does, so use it only after a rejection. *out is overwritten: its old
- * block is not freed. VBSON_INVALID_ARGUMENT, VBSON_OUT_OF_MEMORY. */
-uint32_t vbson_explain(uint32_t flags, const uint8_t *text, size_t len, vbson_buffer *out);
+ * blocks are not freed. VBSON_TOO_LONG if the array path has 2^31 bytes or more.
+ * VBSON_INVALID_ARGUMENT, VBSON_OUT_OF_MEMORY. */
+uint32_t vbson_explain(uint32_t flags, const uint8_t *text, size_t len, vbson_error *out);
 
 /* The result for a block of lines. Free text and diagnostics with vbson_buffer_free. */
 typedef struct vbson_lines {

@@ -110,18 +110,102 @@ static void keep_order(void) {
     CHECK(refuses_with(3, VBSON_KEEP_ORDER, "{}", VBSON_INVALID_ARGUMENT));
 }
 
+/* The path of an error as its keys and indexes, each behind a '/'. */
+static void print_path(const vbson_error *error, char *words, size_t size) {
+    vbson_slice cursor = VBSON_SLICE_INIT, key = VBSON_SLICE_INIT, name = VBSON_SLICE_INIT;
+    vbson_raw_value value = VBSON_RAW_VALUE_INIT;
+    int64_t index = 0;
+    size_t at = 0, count = 0;
+    char number[32];
+    words[0] = '\0';
+    CHECK(vbson_is_document(error->path.bytes, error->path.len) == VBSON_OK);
+    CHECK(vbson_raw_elements(error->path.bytes, error->path.len, &cursor) == VBSON_OK);
+    while (vbson_raw_next(&cursor, &key, &value) == VBSON_OK && at < size) {
+        CHECK((size_t)snprintf(number, sizeof number, "%zu", count++) == key.len && memcmp(number, key.bytes, key.len) == 0);
+        if (vbson_raw_string(&value, &name) == VBSON_OK) at += (size_t)snprintf(words + at, size - at, "/%.*s", (int)name.len, (const char *)name.bytes);
+        else if (vbson_raw_int64(&value, &index) == VBSON_OK) at += (size_t)snprintf(words + at, size - at, "/%lld", (long long)index);
+        else CHECK(0);
+    }
+}
+
+static int is_string(const vbson_buffer *found, const char *wanted) {
+    return found->len == strlen(wanted) && found->size == found->len + 1 && memcmp(found->bytes, wanted, found->size) == 0;
+}
+
+/* The message is the words of the code, the column or the path, and the reason; without them each field says nothing. */
+static int is_whole(const vbson_error *it) {
+    const char *kind = vbson_status_text(it->code), *message = vbson_chars(&it->message), *reason = vbson_chars(&it->reason);
+    size_t len = strlen(kind);
+    if (it->code == VBSON_OK)
+        return it->message.len == 0 && it->reason.len == 0 && it->path.len == 5 && it->line == 0 && it->column == 0 && it->offset == 0;
+    if (strncmp(message, kind, len) != 0 || it->message.len < len + it->reason.len + 3) return 0;
+    if (it->code != VBSON_NOT_JSON && (it->line != 0 || it->column != 0 || it->offset != 0)) return 0;
+    if (it->code == VBSON_NOT_JSON && (it->line == 0 || it->column == 0 || it->offset + 1 < it->column || it->path.len != 5)) return 0;
+    message += it->message.len - it->reason.len - 1;
+    return message[-1] == '(' && strncmp(message, reason, it->reason.len) == 0 && strcmp(message + it->reason.len, ")") == 0;
+}
+
 static int explains(uint32_t flags, const char *text, const char *wanted) {
-    vbson_buffer out = VBSON_BUFFER_INIT;
-    int is_right = vbson_explain(flags, TEXT(text), &out) == VBSON_OK && out.len == strlen(wanted)
-        && out.size == out.len + 1 && memcmp(out.bytes, wanted, out.size) == 0;
-    if (!is_right) printf("%s\n", vbson_chars(&out));
-    vbson_buffer_free(&out);
+    vbson_error out = VBSON_ERROR_INIT;
+    int is_right = vbson_explain(flags, TEXT(text), &out) == VBSON_OK && is_string(&out.message, wanted) && is_whole(&out);
+    if (!is_right) printf("%s\n", vbson_chars(&out.message));
+    vbson_error_free(&out);
+    return is_right && out.message.size == 0 && out.code == VBSON_OK;
+}
+
+/* The code and the path. */
+static int finds(uint32_t flags, const char *text, uint32_t code, const char *path) {
+    vbson_error out = VBSON_ERROR_INIT;
+    char words[2000];
+    int is_right = vbson_explain(flags, TEXT(text), &out) == VBSON_OK && out.code == code && is_whole(&out);
+    print_path(&out, words, sizeof words);
+    if (!is_right || strcmp(words, path) != 0) printf("%u %s\n", out.code, words);
+    vbson_error_free(&out);
+    return is_right && strcmp(words, path) == 0;
+}
+
+/* Where a text stops to be JSON, and the reason. */
+static int stops(const char *text, size_t line, size_t column, size_t offset, const char *reason) {
+    vbson_error out = VBSON_ERROR_INIT;
+    int is_right = vbson_explain(0, TEXT(text), &out) == VBSON_OK && out.code == VBSON_NOT_JSON && out.line == line && out.column == column
+        && out.offset == offset && is_string(&out.reason, reason) && is_whole(&out);
+    if (!is_right) printf("%zu %zu %zu %s\n", out.line, out.column, out.offset, vbson_chars(&out.reason));
+    vbson_error_free(&out);
     return is_right;
+}
+
+static void errors(void) {
+    char nested[1200], path[1200] = "";
+    CHECK(finds(0, "{\"a\":1}", VBSON_OK, "") && finds(0, "1.5", VBSON_NOT_EXTENDED_JSON, "") && finds(0, "[1,]", VBSON_NOT_JSON, ""));
+    CHECK(finds(0, "{\"orders\":[1,{\"price\":1.5}]}", VBSON_NOT_EXTENDED_JSON, "/orders/1/price"));
+    CHECK(finds(0, "{\"a\":{\"$oid\":\"53e3\"}}", VBSON_BAD_OBJECT_ID, "/a/$oid"));
+    CHECK(finds(0, "{\"a.b\":{\"0\":[{\"\":1.5}]}}", VBSON_NOT_EXTENDED_JSON, "/a.b/0/0/"));
+    CHECK(finds(0, "{\"a\":{\"b\":1},\"a.b\":1.5}", VBSON_NOT_EXTENDED_JSON, "/a.b"));
+    CHECK(finds(0, "{\"\xc3\xa9\":{\"\\u001b\":1.5}}", VBSON_NOT_EXTENDED_JSON, "/\xc3\xa9/\x1b"));
+    CHECK(finds(0, "{\"f\":{\"$code\":\"\",\"$scope\":{\"x\":[0,1,2,3,4,5,6,7,8,9,10,1.5]}}}", VBSON_NOT_EXTENDED_JSON, "/f/$scope/x/11"));
+    CHECK(finds(VBSON_REJECT_DUPLICATE_KEYS, "{\"a\":[{\"b\":1,\"b\":2}]}", VBSON_NOT_EXTENDED_JSON, "/a/0/b"));
+    CHECK(finds(VBSON_LEGACY, "{\"a\":{\"$binary\":\"AQI=\",\"$type\":\"0\"}}", VBSON_NOT_EXTENDED_JSON, "/a/$binary"));
+    memset(nested, '[', 127), strcpy(nested + 127, "1.5"), memset(nested + 130, ']', 127), nested[257] = '\0';
+    for (int i = 0; i < 127; i++) strcat(path, "/0");
+    CHECK(finds(0, nested, VBSON_NOT_EXTENDED_JSON, path));
+    memset(nested, 'a', 1001), memcpy(nested, "{\"", 2), strcpy(nested + 1002, "\":1.5}");
+    memset(path, 'a', 1000), path[0] = '/', path[1001] = '\0';
+    nested[1001] = 'a', path[1000] = 'a';
+    CHECK(finds(0, nested, VBSON_NOT_EXTENDED_JSON, path));
+    CHECK(stops("", 1, 1, 0, "unexpected end of input"));
+    CHECK(stops("[1, 2", 1, 5, 4, "unexpected end of input"));
+    CHECK(stops("{\"a\": [1,\n 2}", 2, 3, 12, "expected a comma or a closing bracket"));
+    CHECK(stops("[\n[\n\xc3\xa9]]", 3, 1, 4, "expected a value"));
+    CHECK(stops("[1,\n\n", 2, 1, 4, "unexpected end of input"));
+    CHECK(stops("[1]\n\n x", 3, 2, 6, "unexpected data after the value"));
+    CHECK(stops("{\"a\":1,\n\"b\":\n  1e400}", 3, 3, 15, "number out of range"));
+    CHECK(stops("[\n\"\xff\"]", 2, 2, 3, "invalid UTF-8"));
 }
 
 static void explain(void) {
     static const uint8_t before[] = "before";
-    vbson_buffer out = {before, 7, 6};
+    const vbson_error was = {77, 7, 8, 9, {before, 7, 6}, {before, 6, 5}, {before, 5, 4}};
+    vbson_error out = was;
     const char *number = "not Extended JSON at orders.1.price (not a 64-bit integer; found 1.5)";
     CHECK(explains(0, "{\"orders\":[1,{\"price\":1.5}]}", number));
     CHECK(explains(VBSON_DOUBLES, "{\"orders\":[1,{\"price\":1.5}]}", ""));
@@ -136,7 +220,7 @@ static void explain(void) {
     CHECK(explains(0, "{\"a\":1}", ""));
     CHECK(explains(VBSON_KEEP_ORDER, "{\"b\":{\"$oid\":\"5\"},\"a\":[1.5]}", "not Extended JSON at a.0 (not a 64-bit integer; found 1.5)"));
     CHECK(explains(VBSON_DOUBLES | VBSON_KEEP_ORDER, "[1.5]", ""));
-    CHECK(vbson_explain(16, TEXT("{}"), &out) == VBSON_INVALID_ARGUMENT && out.bytes == before && out.size == 7 && out.len == 6);
+    CHECK(vbson_explain(16, TEXT("{}"), &out) == VBSON_INVALID_ARGUMENT && memcmp(&out, &was, sizeof out) == 0);
     CHECK(explains(VBSON_REJECT_DUPLICATE_KEYS, "{\"a\":[{\"b\":1,\"b\":2}]}", "not Extended JSON at a.0.b (duplicate key)"));
     CHECK(explains(0, "{\"a\":[{\"b\":1,\"b\":2}]}", "") && explains(VBSON_REJECT_DUPLICATE_KEYS, "{\"a\":[{\"b\":1},{\"b\":2}]}", ""));
     CHECK(explains(VBSON_REJECT_DUPLICATE_KEYS | VBSON_LEGACY, "[1.5,", "not JSON at column 5 (unexpected end of input)"));
@@ -145,7 +229,7 @@ static void explain(void) {
         "not Extended JSON (`$binary` must be the only key of its object; found {\"$binary\":\"AQI=\",\"$type\":\"00\"})"));
     CHECK(explains(VBSON_LEGACY, "{\"a\":{\"$binary\":\"AQI=\",\"$type\":\"0\"}}",
         "not Extended JSON at a.$binary (`subType` must be two hexadecimal digits; found {\"base64\":\"AQI=\",\"subType\":\"0\"})"));
-    CHECK(vbson_explain(UINT32_MAX, TEXT("!"), &out) == VBSON_INVALID_ARGUMENT && out.bytes == before && out.len == 6);
+    CHECK(vbson_explain(UINT32_MAX, TEXT("!"), &out) == VBSON_INVALID_ARGUMENT && memcmp(&out, &was, sizeof out) == 0);
 }
 
 /* ---- values */
@@ -475,6 +559,7 @@ int main(void) {
     convert_with();
     keep_order();
     explain();
+    errors();
     same();
     same_by_flags();
     hash();

@@ -27,14 +27,15 @@ def try_places():
             ('{"a (":[{"b)":1.5}]}', f"not Extended JSON at a (.0.b) ({number})", ["a (", 0, "b)"], number, both[0]),
             ("1.5", f"not Extended JSON ({number})", [], number, both[0]),
             ('{"a (":{"$date":" (a)"}}', f'not Extended JSON at a (.$date ({date}; found " (a)")', ["a (", "$date"], f'{date}; found " (a)"', both[0]),
-            ('{"":1.5}', f"not Extended JSON ({number})", [], number, both[0]),
+            ('{"":1.5}', f"not Extended JSON ({number})", [""], number, both[0]),
             ('{"\u00e9":1.5}', f"not Extended JSON at \u00e9 ({number})", ["\u00e9"], number, both[0]),
             ('{"a":{"$oid":"53e3"}}', f"bad object id at a.$oid ({digits})", ["a", "$oid"], digits, both[1]),
             ('{"$oid":"5 (xy)"}', f"bad object id at $oid ({blank})", ["$oid"], blank, both[1]),
             ('[{"$dbPointer":{"$ref":"a","$id":{"$oid":"zz (a)"}}}]', f"bad object id at 0.$dbPointer ({letter})",
              [0, "$dbPointer"], letter, both[1]),
             ('{"a\\u0007\\u2028":1.5}', f"not Extended JSON at a\\u0007\\u2028 ({number})", ["a\a\u2028"], number, both[0]),
-            ('{"%s":{"$oid":"zz (a)"}}' % long, f"bad object id at {cut} ({letter})", [*cut.split(".")], letter, both[1]),
+            ('{"%s":{"$oid":"zz (a)"}}' % long, f"bad object id at {cut} ({letter})", [long, "$oid"], letter, both[1]),
+            ('{"a) at b.0 (c": {"1": [{"": 1.5}]}}', f"not Extended JSON at a) at b.0 (c.1.0. ({number})", ["a) at b.0 (c", "1", 0, ""], number, both[0]),
             ('{"$oid":"%s"}' % long, f"bad object id at $oid ({digits[:33]}{cut[:267]}..)", ["$oid"], f"{digits[:33]}{cut[:267]}..", both[1])):
         wanted = words, path, why, error
         want(f"{text} explained", vbson.explain(text, **STRICT), words)
@@ -79,7 +80,7 @@ def try_texts():
     json, extended = (vbson.NotJson, vbson.NOT_JSON), (vbson.NotExtendedJson, vbson.NOT_EXTENDED_JSON)
     for text, wanted in (("[1, 2", (*json, [], 1, 5, 4)), ('{"a": [1,\n 2}', (*json, [], 2, 3, 12)), ('["\u00e9", x]', (*json, [], 1, 8, 7)),
                          ("[\n[\n\u00e9]]", (*json, [], 3, 1, 4)), ('{"a.b":{"0":[{"c":1.5}]}}', (*extended, ["a.b", "0", 0, "c"], None, None, None)),
-                         ('{"a":{"b":1},"a.b":1.5}', (*extended, ["a", "b"], None, None, None)), ('[[],[],{"":[1.5]}]', (*extended, [2, "", 0], None, None, None)),
+                         ('{"a":{"b":1},"a.b":1.5}', (*extended, ["a.b"], None, None, None)), ('[[],[],{"":[1.5]}]', (*extended, [2, "", 0], None, None, None)),
                          ('{"a":1,"b":{"$oid":"5"}}', (vbson.BadObjectId, vbson.BAD_OBJECT_ID, ["b", "$oid"], None, None, None))):
         want(f"{text} and its fields", fields(vbson.convert, text, **STRICT), wanted)
     for text, wanted in (('{"a":1,\n"b":\n  1e400,\n"c": 5\n}\n', (3, 3, 15)), ("[1,\n\n", (2, 1, 4)), ("[1]\n\n x", (3, 2, 6)), ('["a\nb",\n1]', (1, 2, 1)),

@@ -78,6 +78,18 @@ static uint32_t convert_lines(uint32_t flags, const char *text, struct answer *i
     return status;
 }
 
+/* The message as the text, the reason as the diagnostics, and the numbers and the path as the number. */
+static uint32_t explain(uint32_t flags, const char *text, struct answer *it) {
+    vbson_error out = {42, it->number, it->number, it->number, it->text, it->diagnostics, it->text};
+    uint32_t status = vbson_explain(flags, TEXT(text), &out);
+    it->diagnostics = out.reason, it->text = out.message;
+    if (status == VBSON_OK) {
+        it->number = 1000 * out.path.len + 100 * out.offset + 10 * out.column + out.line + out.code;
+        vbson_buffer_free(&out.path);
+    } else CHECK(out.code == 42 && out.path.bytes == before && out.line == it->number && out.column == it->number && out.offset == it->number);
+    return status;
+}
+
 static uint32_t encode_lines(uint32_t flags, const char *text, struct answer *it) {
     vbson_lines out = {it->text, it->diagnostics, it->number, it->number};
     uint32_t status = vbson_encode_lines(flags, TEXT(text), &out);
@@ -110,7 +122,7 @@ static struct answer call(int kind, const char *text, long number) {
     else if (kind == 5) it.status = vbson_decimal128_print(decimal, it.room, sizeof it.room, &it.len);
     else if (kind == 6) it.status = vbson_date_time_print(-1, it.room, sizeof it.room, &it.len);
     else if (kind == 7) it.status = vbson_convert_with(VBSON_RELAXED, VBSON_DOUBLES, TEXT(text), &it.text);
-    else if (kind < 10) it.status = vbson_explain(kind == 8 ? 0 : VBSON_DOUBLES, TEXT(text), &it.text);
+    else if (kind < 10) it.status = explain(kind == 8 ? 0 : VBSON_DOUBLES, text, &it);
     else if (kind == 10) it.status = vbson_encode(0, TEXT(text), &it.text);
     else if (kind == 11) it.status = vbson_explain_document(document.bytes, document.len, &it.text);
     else if (kind < 15) it.status = vbson_decode((uint32_t)kind - 12, 0, document.bytes, document.len, &it.text);
@@ -122,7 +134,7 @@ static struct answer call(int kind, const char *text, long number) {
     else if (kind < 24) it.status = decode_documents(kind == 22 ? 0 : VBSON_DOUBLES | VBSON_KEEP_ORDER, &it);
     else if (kind == 24) it.status = vbson_same(VBSON_DOUBLES | VBSON_REJECT_DUPLICATE_KEYS, TEXT(text), TEXT(texts[0]));
     else if (kind == 25) it.status = vbson_hash(VBSON_REJECT_DUPLICATE_KEYS | VBSON_LEGACY, TEXT(text), &it.number);
-    else if (kind < 28) it.status = vbson_explain(kind == 26 ? VBSON_LEGACY : VBSON_REJECT_DUPLICATE_KEYS, TEXT(text), &it.text);
+    else if (kind < 28) it.status = explain(kind == 26 ? VBSON_LEGACY : VBSON_REJECT_DUPLICATE_KEYS, text, &it);
     else if (kind == 28) it.status = vbson_same_documents(VBSON_REJECT_DUPLICATE_KEYS, document.bytes, document.len, document.bytes, document.len);
     else it.status = vbson_hash_document(0, document.bytes, document.len, &it.number);
     refused = 0;

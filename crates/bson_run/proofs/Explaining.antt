@@ -1,5 +1,5 @@
 -- The place of a refused text's fault.
-use Rattle.std.proofs.Common.{◌≡◌, ◌<◌, ◌==◌, ◌^◌, ◌-◌, ◌++◌, ℕ, List, [], ◌∷◌, true, false, cond, length, codes, refl, sym, ap}
+use Rattle.std.proofs.Common.{◌≡◌, ◌<◌, ◌==◌, ◌^◌, ◌-◌, ◌++◌, ℕ, List, [], ◌∷◌, true, false, cond, length, codes, refl, sym, ap, subst}
 use Rattle.std.proofs.Common.{◌∙◌, inl, inr, arith, Option, Some, None, Result, Ok, Err, OnOk, take, nat_lt}
 use Rattle.std.specs.Char.{is_control}
 use Rattle.std.specs.Fmt.{digits, digits_output, format_spec, padded_integral, radix_digits, styled_digits_output, ◌++?◌}
@@ -12,7 +12,11 @@ use Rattle.std.proofs.lemmas.Fmt.{hex_byte}
 use Rattle.std.proofs.lemmas.Option.{slice_get_cases, slice_get_within}
 use Rattle.bson_place.specs.Place.{dotted, path_of}
 use Rattle.bson_place.specs.declared.place.Place.{Place}
-use Rattle.bson_run.specs.Place.{IsPlaced, IsReasonIn, at_path, cut_at, shown, told_as}
+use Rattle.bson_convert.specs.declared.error.Error.{Error}
+use Rattle.bson_convert.specs.declared.error.Error.TheVariants as errors
+use Rattle.bson_run.specs.Place.{IsExplanation, IsOfNoText, IsWhere, at_path, column_at, cut_at, shown, told_as, words_at}
+use Rattle.bson_run.specs.declared.explain.Explanation.{Explanation}
+use Rattle.bson_run.specs.declared.explain.Explanation.TheVariants as explained
 
 at_none : (path : List ℕ) → length path ≡ 0 → at_path path ≡ []
 at_none [] h = refl
@@ -22,24 +26,39 @@ at_some : (path : List ℕ) → 0 < length path → at_path path ≡ codes " at 
 at_some [] h = absurd (omega arith)
 at_some (x ∷ xs) h = refl
 
-pub placed_bare : (text : List ℕ) (place : Place) (path reason message words : List ℕ) → IsReasonIn text place.reason reason → path ≡ told_as (dotted (path_of place))
-    → message ≡ told_as reason → length path ≡ 0 → words ≡ codes " (" ++ message ++ codes ")" → IsPlaced text place words
-placed_bare text place path reason message words why e m none is = (
-  reason,
-  why,
-  is ∙ ap (λ p. p ++ codes " (" ++ message ++ codes ")") (sym (at_none path none) ∙ ap at_path e)
-      ∙ ap (λ t. at_path (told_as (dotted (path_of place))) ++ codes " (" ++ t ++ codes ")") m,
-)
+pub placed_bare : (place : Place) (path reason words : List ℕ) → path ≡ told_as (dotted (path_of place)) → length path ≡ 0
+    → words ≡ codes " (" ++ reason ++ codes ")"
+    → words ≡ at_path (told_as (dotted (path_of place))) ++ codes " (" ++ reason ++ codes ")"
+placed_bare place path reason words e none is =
+    is ∙ ap (λ p. p ++ codes " (" ++ reason ++ codes ")") (sym (at_none path none) ∙ ap at_path e)
 
-pub placed_at : (text : List ℕ) (place : Place) (path reason message words : List ℕ) → IsReasonIn text place.reason reason → path ≡ told_as (dotted (path_of place))
-    → message ≡ told_as reason → 0 < length path
-    → words ≡ codes " at " ++ path ++ codes " (" ++ message ++ codes ")" → IsPlaced text place words
-placed_at text place path reason message words why e m some is = (
-  reason,
-  why,
-  is ∙ ap (λ p. p ++ codes " (" ++ message ++ codes ")") (sym (at_some path some) ∙ ap at_path e)
-      ∙ ap (λ t. at_path (told_as (dotted (path_of place))) ++ codes " (" ++ t ++ codes ")") m,
-)
+pub placed_at : (place : Place) (path reason words : List ℕ) → path ≡ told_as (dotted (path_of place)) → 0 < length path
+    → words ≡ codes " at " ++ path ++ codes " (" ++ reason ++ codes ")"
+    → words ≡ at_path (told_as (dotted (path_of place))) ++ codes " (" ++ reason ++ codes ")"
+placed_at place path reason words e some is =
+    is ∙ ap (λ p. p ++ codes " (" ++ reason ++ codes ")") (sym (at_some path some) ∙ ap at_path e)
+
+-- ---- an explanation
+
+other_where : (text : List ℕ) (fault : Error) → IsOfNoText fault → IsWhere text fault []
+other_where text errors.CannotRead h = refl
+other_where text errors.NotJson h = absurd h
+other_where text (errors.NotExtendedJson place) h = absurd h
+other_where text (errors.NoBytes why) h = refl
+other_where text errors.OutOfMemory h = refl
+other_where text errors.CannotWrite h = refl
+
+-- the words of an explanation say where the fault lies
+pub where_from : (text : List ℕ) (fault : Error) (e : Explanation) → IsExplanation text fault e → IsWhere text fault (words_at text e)
+where_from text fault (explained.Syntax stop) h =
+    subst (λ (f : Error). IsWhere text f (words_at text (explained.Syntax stop))) (sym h.0) (column_at stop.offset text, stop.rule, h.1, refl)
+where_from text fault (explained.Value place reason) h =
+    subst (λ (f : Error). IsWhere text f (words_at text (explained.Value place reason))) (sym h.0) (
+      h.1.0,
+      h.1.1,
+      ap (λ t. at_path (told_as (dotted (path_of place.now))) ++ codes " (" ++ t ++ codes ")") h.1.2,
+    )
+where_from text fault explained.Other h = other_where text fault h
 
 -- ---- words as they are told
 

@@ -1,5 +1,5 @@
 -- Where the fault of a refused text lies, in words.
-use Rattle.std.specs.Prelude.{◌≡◌, ◌≢◌, ◌⊎◌, ◌↔◌, ◌+◌, ◌<◌, ◌/◌, ◌%◌, ◌==◌, ℕ, List, [], ◌∷◌, ◌++◌, codes, length, nat_lt, take, sum_by, Some, IsUtf8, Bool, true, false, not, suc, ◌-◌, min}
+use Rattle.std.specs.Prelude.{◌≡◌, ◌≢◌, ◌⊎◌, ◌↔◌, ◌+◌, ◌<◌, ◌/◌, ◌%◌, ◌==◌, ℕ, List, [], ◌∷◌, ◌++◌, codes, length, nat_lt, take, sum_by, Some, IsUtf8, string_bytes, Bool, true, false, not, suc, ◌-◌, min}
 use Rattle.std.specs.Prelude.{count_by, reverse, take_while}
 use Rattle.std.specs.Prelude.{if◌then◌else◌}
 use Rattle.std.specs.Char.{is_control, digit_char, encode_utf8}
@@ -18,6 +18,8 @@ use Rattle.bson_place.specs.declared.place.Reason.{Reason}
 use Rattle.bson_place.specs.declared.place.Reason.TheVariants.{BadObjectId, WrongShape}
 use Rattle.bson_convert.specs.declared.error.Error.{Error}
 use Rattle.bson_convert.specs.declared.error.Error.TheVariants.{NotJson, NotExtendedJson}
+use Rattle.bson_run.specs.declared.explain.Explanation.{Explanation}
+use Rattle.bson_run.specs.declared.explain.Explanation.TheVariants as explained
 use Rattle.bson_run.specs.declared.rule.Rule.{Rule}
 use Rattle.bson_run.specs.declared.rule.Rule.TheVariants.{Utf8, EndsEarly, MoreBehind, OutOfRange}
 use Rattle.bson_run.specs.declared.rule.Rule.TheVariants.{NoValue, Number, ControlCharacter, Escape, BehindComma}
@@ -146,6 +148,27 @@ at_column n rule = codes " at column " ++ decimal n ++ codes " (" ++ words_broke
 -- where bytes that are no text stop to be one, and which rule they break
 abbrev pub IsStop : List ℕ → List ℕ → Type 0
 IsStop bytes words = (n : ℕ) × (rule : Rule) × Breaks bytes rule × (words ≡ at_column n rule)
+
+-- the fault is not that of a text
+abbrev pub IsOfNoText : Error → Type 0
+IsOfNoText NotJson = ⊥
+IsOfNoText (NotExtendedJson place) = ⊥
+IsOfNoText other = Unit {0}
+
+-- why a text is refused: the rule that it breaks, or the place of its fault and the reason as it is told, or nothing
+abbrev pub IsExplanation : List ℕ → Error → Explanation → Type 0
+IsExplanation text fault (explained.Syntax stop) = (fault ≡ NotJson) × Breaks text stop.rule
+IsExplanation text fault (explained.Value place reason) =
+    (fault ≡ NotExtendedJson place.now)
+    × ((message : List ℕ) × IsReasonIn text place.now.reason message × (string_bytes reason ≡ told_as message))
+IsExplanation text fault explained.Other = IsOfNoText fault
+
+-- the words of an explanation
+abbrev pub words_at : List ℕ → Explanation → List ℕ
+words_at text (explained.Syntax stop) = at_column (column_at stop.offset text) stop.rule
+words_at text (explained.Value place reason) =
+    at_path (told_as (dotted (path_of place.now))) ++ codes " (" ++ string_bytes reason ++ codes ")"
+words_at text explained.Other = []
 
 -- where the fault of a text lies in it; nothing for a fault that no text has
 abbrev pub IsWhere : List ℕ → Error → List ℕ → Type 0

@@ -1,6 +1,7 @@
-//! Where the fault of a refused text lies, in words.
-ghost use Rattle.std.specs.Prelude.{IfOk, string_bytes};
-ghost use Rattle.bson_run.specs.Place.{IsPlaced, IsQuote, IsReasonIn, IsStop, IsWhere};
+//! Why a text is rejected, and where: as data, and in words.
+ghost use Rattle.std.specs.Prelude.{◌≡◌, ◌++◌, codes, ℕ, List, IfOk, string_bytes};
+ghost use Rattle.bson_place.specs.Place.{dotted, path_of};
+ghost use Rattle.bson_run.specs.Place.{IsExplanation, IsQuote, IsReasonIn, IsWhere, at_path, told_as, words_at};
 
 use crate::order::{Taking, Task};
 use crate::quoted::quote;
@@ -13,6 +14,56 @@ use std::alloc::{AllocError, Global};
 
 /// How many characters are told of a path, and of a message.
 const MOST: usize = 300;
+
+/// Why a text is rejected, and where.
+///
+/// ```
+/// let text: &[u8] = br#"{"orders": [1.5]}"#;
+/// if let Err(error) = convert(alloc, Mode::Canonical, text) {
+///     if let Explanation::Value(place, reason) = Explanation::of(alloc, &error, text)? {
+///         println!(rt; "{:?}", place.segments)?; // [Element(0), Key("orders")]
+///         println!(rt; "{reason}")?; // not a 64-bit integer; found 1.5
+///     }
+/// }
+/// ```
+#[derive(Debug, Drop)]
+pub enum Explanation<'a> {
+    /// The text is not JSON: where it stops to be JSON, and the rule that it breaks.
+    Syntax(Stop),
+    /// A value is invalid: its place, and the reason as a message has it. That is what was expected,
+    /// and the value in the text, in at most 300 characters.
+    Value(&'a Place, String),
+    /// The error is not that of a text.
+    Other,
+}
+
+impl<'a> Explanation<'a> {
+    /// Explains the error of a rejected text.
+    ///
+    /// # Errors
+    ///
+    /// Returns `AllocError` if an allocation fails.
+    pub fn of(alloc: Global, fault: &'a Error, text: &[u8]) -> Result<Explanation<'a>, AllocError>
+        ensures { IfOk result (λ found. IsExplanation text.now fault.now found) }
+    {
+        explanation_in(alloc, fault, text, None)
+    }
+
+    /// Writes the explanation in the words of [`explain`].
+    ///
+    /// # Errors
+    ///
+    /// Returns `AllocError` if an allocation fails.
+    pub fn message(&self, alloc: Global, text: &[u8]) -> Result<String, AllocError>
+        ensures { IfOk result (λ words. string_bytes words ≡ words_at text.now self.now) }
+    {
+        match self {
+            Explanation::Syntax(stop) => stop.message(alloc, text),
+            Explanation::Value(place, reason) => place_text(alloc, place, reason.as_str()),
+            Explanation::Other => Ok(String::new(alloc)),
+        }
+    }
+}
 
 /// Returns the place of the fault of a rejected text, in words that follow those of the error. They
 /// are empty for a fault that no text has.
@@ -36,11 +87,7 @@ const MOST: usize = 300;
 pub fn explain(alloc: Global, fault: &Error, text: &[u8]) -> Result<String, AllocError>
     ensures place { IfOk result (λ words. IsWhere text.now fault.now (string_bytes words)) }
 {
-    match fault {
-        Error::NotJson => column(alloc, text),
-        Error::NotExtendedJson(place) => place_text(alloc, place, text, None),
-        _ => Ok(String::new(alloc)),
-    }
+    explain_in(alloc, fault, text, None)
 }
 
 /// [`explain`] of a text that a task refused. If another text was read in its place, the path leads
@@ -57,12 +104,12 @@ pub fn explain_under(
 ) -> Result<String, AllocError>
     ensures place { IfOk result (λ words. IsWhere text.now fault.now (string_bytes words)) }
 {
-    let Error::NotExtendedJson(place) = fault else {
+    let Error::NotExtendedJson(_) = fault else {
         return explain(alloc, fault, text);
     };
     match newer_text(alloc, task, text)? {
-        Some(newer) => place_text(alloc, place, text, Some(newer.as_bytes())),
-        None => place_text(alloc, place, text, None),
+        Some(newer) => explain_in(alloc, fault, text, Some(newer.as_bytes())),
+        None => explain_in(alloc, fault, text, None),
     }
 }
 
@@ -79,30 +126,62 @@ fn newer_text(alloc: Global, task: Task, text: &[u8]) -> Result<Option<String>, 
     }
 }
 
-// The column at which a text stops to be JSON, and the rule that it breaks.
-fn column(alloc: Global, text: &[u8]) -> Result<String, AllocError>
-    ensures { IfOk result (λ words. IsStop text.now (string_bytes words)) }
+// The words for the error of a text, or of the newer one that was read.
+fn explain_in(
+    alloc: Global,
+    fault: &Error,
+    text: &[u8],
+    newer: Option<&[u8]>,
+) -> Result<String, AllocError>
+    ensures { IfOk result (λ words. IsWhere text.now fault.now (string_bytes words)) }
 {
-    Stop::of(alloc, text)?.message(alloc, text)
+    explanation_in(alloc, fault, text, newer)?.message(alloc, text)
 }
 
-// The words for a place in a text, or in the newer one that was read.
-fn place_text(
+// Explains the error of a text, or of the newer one that was read.
+fn explanation_in<'a>(
+    alloc: Global,
+    fault: &'a Error,
+    text: &[u8],
+    newer: Option<&[u8]>,
+) -> Result<Explanation<'a>, AllocError>
+    ensures { IfOk result (λ found. IsExplanation text.now fault.now found) }
+{
+    match fault {
+        Error::NotJson => Ok(Explanation::Syntax(Stop::of(alloc, text)?)),
+        Error::NotExtendedJson(place) => {
+            let reason = told_reason(alloc, place, text, newer)?;
+            Ok(Explanation::Value(place, reason))
+        }
+        _ => Ok(Explanation::Other),
+    }
+}
+
+// The words for a place, and for the reason there.
+fn place_text(alloc: Global, place: &Place, reason: &str) -> Result<String, AllocError>
+    ensures { IfOk result (λ words. string_bytes words
+        ≡ at_path (told_as (dotted (path_of place.now))) ++ codes " (" ++ reason.now ++ codes ")") }
+{
+    let whole = place.path(alloc)?;
+    let path = shorten(alloc, whole.as_str(), MOST, true)?;
+    if path.is_empty() {
+        return format!(in alloc; " ({reason})");
+    }
+    format!(in alloc; " at {path} ({reason})")
+}
+
+// The reason at a place, as a message has it.
+fn told_reason(
     alloc: Global,
     place: &Place,
     text: &[u8],
     newer: Option<&[u8]>,
 ) -> Result<String, AllocError>
-    ensures { IfOk result (λ words. IsPlaced text.now place.now (string_bytes words)) }
+    ensures { IfOk result (λ words. (message : List ℕ) × IsReasonIn text.now place.now.reason message
+        × (string_bytes words ≡ told_as message)) }
 {
-    let whole = place.path(alloc)?;
-    let path = shorten(alloc, whole.as_str(), MOST, true)?;
     let reason = reason_in(alloc, place, text, newer)?;
-    let message = shorten(alloc, reason.as_str(), MOST, true)?;
-    if path.is_empty() {
-        return format!(in alloc; " ({message})");
-    }
-    format!(in alloc; " at {path} ({message})")
+    shorten(alloc, reason.as_str(), MOST, true)
 }
 
 // The words for what was expected at a place, and for what is found there in a text.

@@ -10,6 +10,7 @@ use bson_convert::mode::{Mode, mode_of};
 use bson_convert::run::run;
 use bson_run::accepted::Accepted;
 use bson_run::encode::{encode_in_order, encode_with};
+use bson_run::explain::Explanation;
 use bson_run::in_order::convert_in_order;
 use bson_run::indent::indent_text;
 use bson_run::indented::{convert_in_order_indented, convert_indented};
@@ -40,6 +41,7 @@ pub(crate) fn print(rt: &impl Print, alloc: Global) -> anyhow::Result<()> {
     on_refusal(rt, alloc)?;
     stop(rt, alloc)?;
     rule(rt, alloc)?;
+    explanation(rt, alloc)?;
     taken_call(rt, alloc)?;
     taking(rt, alloc)?;
     work(rt, alloc)
@@ -231,6 +233,17 @@ fn rule(rt: &impl Print, alloc: Global) -> anyhow::Result<()> {
     let text: &[u8] = b"[1, 2,]";
     let stop = Stop::of(alloc, text)?;
     println!(rt; "{}", stop.rule.message())?; // expected an element after the comma
+    Ok(())
+}
+
+fn explanation(rt: &impl Print, alloc: Global) -> anyhow::Result<()> {
+    let text: &[u8] = br#"{"orders": [1.5]}"#;
+    if let Err(error) = convert(alloc, Mode::Canonical, text) {
+        if let Explanation::Value(place, reason) = Explanation::of(alloc, &error, text)? {
+            println!(rt; "{:?}", place.segments)?; // [Element(0), Key("orders")]
+            println!(rt; "{reason}")?; // not a 64-bit integer; found 1.5
+        }
+    }
     Ok(())
 }
 

@@ -1,67 +1,130 @@
--- The line that tells why a text is refused.
-use Rattle.std.proofs.Common.{◌≡◌, ◌≢◌, inl, inr, ℕ, IsUtf8, List, [], ◌++◌, refl}
-use Rattle.std.proofs.lemmas.Str.{IsUtf8-nil}
+-- The struct that tells why a text is refused, under the flags.
+use Rattle.std.proofs.Common.{◌≡◌, ◌≢◌, inl, inr, ℕ, List, Option, None, Some, refl, subst, arith}
+use Rattle.json.specs.Json.{Json}
+use Rattle.json.specs.Strict.{HasUniqueKeys}
+use Rattle.serde_json.specs.Read.{read}
+use Rattle.bson.specs.TextMeaning.{HasTextMeaningIn}
+use Rattle.bson.specs.Value.{Value}
 use Rattle.bson.specs.declared.extjson.options.Options.{Options}
-use Rattle.bson_convert.specs.Convert.{ConvertsIn, IsRefusedIn, newline}
-use Rattle.bson_run.specs.Place.{IsWhere}
-use Rattle.bson_convert.specs.Words.{words_of}
+use Rattle.bson_bytes.specs.declared.error.Error.{Error as PathError}
+use Rattle.bson_bytes.specs.declared.error.Error.TheVariants as sizes
+use Rattle.bson_convert.specs.Convert.{IsRefusedIn}
 use Rattle.bson_convert.specs.declared.error.Error.{Error}
-use Rattle.bson_convert.specs.declared.error.Error.TheVariants.{OutOfMemory}
-use Rattle.bson_convert.specs.declared.mode.Mode.{Mode}
-use Rattle.vbson.specs.Convert.{options_of}
-use Rattle.vbson.specs.Explain.{Explains, ExplainsRead}
-use Rattle.vbson.specs.Reading.{IsReadAs, IsUnread, preprocessing_of}
+use Rattle.bson_convert.specs.declared.error.Error.TheVariants as errors
+use Rattle.bson_distinct.specs.Double.{DoubleAt}
+use Rattle.bson_model.specs.Means.{MeansIn}
+use Rattle.bson_place.specs.Place.{PathSegment}
+use Rattle.bson_place.specs.declared.place.Reason.{Reason}
+use Rattle.bson_place.specs.declared.place.Reason.TheVariants.{BadObjectId, WrongShape}
+use Rattle.bson_run.specs.Place.{IsExplanation, IsOfNoText}
+use Rattle.bson_run.specs.declared.explain.Explanation.{Explanation}
+use Rattle.bson_run.specs.declared.explain.Explanation.TheVariants as explained
+use Rattle.bson_run.specs.declared.order.Taking.{Taking}
+use Rattle.vbson.proofs.Preprocessed.{meant, not_read, rejected_key}
+use Rattle.vbson.specs.Convert.{options_of, status_for}
+use Rattle.vbson.specs.Explain.{Explains, ExplainsRead, IsError, IsLongPath, IsRejectedFor, IsTooLong, IsUnexplained, Refuses, code_in}
+use Rattle.vbson.specs.Reading.{IsReadAs, IsUnread, MeansUnder, preprocessing_of}
+use Rattle.vbson.specs.declared.explain.Rejection.{Rejection}
 
--- the words, and a newline
-abbrev pub IsLine : Options → List ℕ → List ℕ → Type 0
-IsLine o text line = (words : List ℕ) × ExplainsRead o text words × IsUtf8 words × (line ≡ words ++ newline)
+-- ---- of what is read in the place of the text, and of a text that preprocessing rejects
 
-pub accepted : (o : Options) (mode : Mode) (text output line : List ℕ) → ConvertsIn o mode text output → line ≡ newline
-    → IsLine o text line
-accepted o mode text output line h is =
-    ([], inl ((h.value, record { tree = h.tree; text = h.text; meaning = h.meaning }), refl), IsUtf8-nil, is)
+pub of_read : (flags : ℕ) (text read : List ℕ) (out : Rejection) → IsReadAs (preprocessing_of flags) text read
+    → ExplainsRead (options_of flags) read out → Explains flags text out
+of_read flags text read out is (inl h) = inl ((h.0.0, record { read = read; read_as = is; meaning = h.0.1 }), h.1)
+of_read flags text read out is (inr h) =
+    inr (record { fault = h.0; read = read; refused = inl (is, h.1); told = h.2; error = h.3 })
 
-pub refused : (o : Options) (fault : Error) (text place line : List ℕ) → IsRefusedIn o fault text → fault ≢ OutOfMemory
-    → IsWhere text fault place → IsUtf8 (words_of fault ++ place) → line ≡ (words_of fault ++ place) ++ newline
-    → IsLine o text line
-refused o fault text place line h told lies utf8 is = (
-  words_of fault ++ place,
-  inr (record {
-    fault = fault;
-    refused = h;
-    told = told;
-    place = place;
-    lies = lies;
-    said = refl;
-  }),
-  utf8,
-  is,
-)
+pub long_of_read : (flags : ℕ) (text read : List ℕ) (e : PathError) → IsReadAs (preprocessing_of flags) text read
+    → IsUnexplained e (λ fault. IsRefusedIn (options_of flags) fault read) → e ≢ sizes.OutOfMemory → IsTooLong flags text
+long_of_read flags text read e is h told =
+    let it = h told in record { fault = it.0; read = read; refused = inl (is, it.1); long = it.2 }
 
--- ---- under flags
+pub refused_first : (flags : ℕ) (fault : Error) (text : List ℕ) (out : Rejection) → IsUnread (preprocessing_of flags) fault text
+    → fault ≢ errors.OutOfMemory → IsError text fault out → Explains flags text out
+refused_first flags fault text out h told is =
+    inr (record { fault = fault; read = text; refused = inr (refl, h); told = told; error = is })
 
-abbrev pub IsLineUnder : ℕ → List ℕ → List ℕ → Type 0
-IsLineUnder flags text line = (words : List ℕ) × Explains flags text words × IsUtf8 words × (line ≡ words ++ newline)
+pub long_first : (flags : ℕ) (fault : Error) (text : List ℕ) (e : PathError) → IsUnread (preprocessing_of flags) fault text
+    → (e ≢ sizes.OutOfMemory → IsLongPath fault) → e ≢ sizes.OutOfMemory → IsTooLong flags text
+long_first flags fault text e h long told =
+    record { fault = fault; read = text; refused = inr (refl, h); long = long told }
 
--- of what is read in the place of the text
-pub of_read : (flags : ℕ) (text read line : List ℕ) → IsReadAs (preprocessing_of flags) text read
-    → IsLine (options_of flags) read line → IsLineUnder flags text line
-of_read flags text read line is h = (h.0, inl (read, is, h.1), h.2, h.3)
+-- ---- the code
 
--- of a text that preprocessing rejects
-pub refused_first : (flags : ℕ) (fault : Error) (text place line : List ℕ) → IsUnread (preprocessing_of flags) fault text
-    → fault ≢ OutOfMemory → IsWhere text fault place → IsUtf8 (words_of fault ++ place)
-    → line ≡ (words_of fault ++ place) ++ newline → IsLineUnder flags text line
-refused_first flags fault text place line h told lies utf8 is = (
-  words_of fault ++ place,
-  inr (record {
-    fault = fault;
-    refused = h;
-    told = told;
-    place = place;
-    lies = lies;
-    said = refl;
-  }),
-  utf8,
-  is,
-)
+of_text : (o : Options) (fault : Error) (bytes : List ℕ) → IsRefusedIn o fault bytes → fault ≢ errors.OutOfMemory
+    → IsOfNoText fault → ⊥
+of_text o errors.CannotRead bytes h told none = h
+of_text o errors.NotJson bytes h told none = none
+of_text o (errors.NotExtendedJson place) bytes h told none = none
+of_text o (errors.NoBytes why) bytes h told none = h
+of_text o errors.OutOfMemory bytes h told none = told refl
+of_text o errors.CannotWrite bytes h told none = h
+
+of_unread : (preprocessing : Option Taking) (fault : Error) (text : List ℕ) → IsUnread preprocessing fault text
+    → fault ≢ errors.OutOfMemory → IsOfNoText fault → ⊥
+of_unread None fault text h told none = h
+of_unread (Some taking) errors.CannotRead text h told none = h
+of_unread (Some taking) errors.NotJson text h told none = none
+of_unread (Some taking) (errors.NotExtendedJson place) text h told none = none
+of_unread (Some taking) (errors.NoBytes why) text h told none = h
+of_unread (Some taking) errors.OutOfMemory text h told none = told refl
+of_unread (Some taking) errors.CannotWrite text h told none = h
+
+of_rejected : (flags : ℕ) (text read : List ℕ) (fault : Error) → IsRejectedFor flags text read fault → fault ≢ errors.OutOfMemory
+    → IsOfNoText fault → ⊥
+of_rejected flags text read fault (inl h) told none = of_text (options_of flags) fault read h.1 told none
+of_rejected flags text read fault (inr h) told none = of_unread (preprocessing_of flags) fault text h.1 told none
+
+reason_code : (reason : Reason) (n : ℕ) → n ≡ status_for reason → n ≡ 0 → ⊥
+reason_code (BadObjectId e) n is zero = absurd (omega (arith, is, zero))
+reason_code (WrongShape message) n is zero = absurd (omega (arith, is, zero))
+
+some_code : (text : List ℕ) (fault : Error) (it : Explanation) (n : ℕ) → IsExplanation text fault it → (IsOfNoText fault → ⊥)
+    → n ≡ code_in it → n ≡ 0 → ⊥
+some_code text fault (explained.Syntax stop) n h told is zero = absurd (omega (arith, is, zero))
+some_code text fault (explained.Value place reason) n h told is zero = reason_code place.now.reason n is zero
+some_code text fault explained.Other n h told is zero = told h
+
+-- a text that is refused has a code
+refuses_code : (flags : ℕ) (text : List ℕ) (out : Rejection) → Refuses flags text out → out.code ≡ 0 → ⊥
+refuses_code flags text out h zero =
+    some_code h.read h.fault h.error.explanation out.code h.error.lies
+    (of_rejected flags text h.read h.fault h.refused h.told) h.error.said.code zero
+
+pub accepted_from : (flags : ℕ) (text : List ℕ) (out : Rejection) → Explains flags text out → out.code ≡ 0
+    → (value : Value) × MeansUnder flags text value
+accepted_from flags text out (inl h) zero = h.0
+accepted_from flags text out (inr h) zero = absurd (refuses_code flags text out h zero)
+
+-- ---- a text that means a value is not refused
+
+not_refused : (o : Options) (fault : Error) (bytes : List ℕ) (value : Value) → HasTextMeaningIn o.doubles bytes value
+    → IsRefusedIn o fault bytes → fault ≢ errors.OutOfMemory → ⊥
+not_refused o errors.CannotRead bytes value means h told = h
+not_refused o errors.NotJson bytes value means h told =
+    let some : read bytes ≡ Some means.tree = means.text.tree_read in
+    let none : read bytes ≡ None = h means.text.utf8 in
+    absurd cc
+not_refused o (errors.NotExtendedJson place) bytes value means h told =
+    let x : read bytes ≡ Some means.tree = means.text.tree_read in
+    let y : read bytes ≡ Some h.0 = h.1.tree_read in
+    let trees : means.tree ≡ h.0 = cc in
+    h.2.nothing value (subst (λ t. MeansIn o.doubles t value) trees means.meaning.means)
+not_refused o (errors.NoBytes why) bytes value means h told = h
+not_refused o errors.OutOfMemory bytes value means h told = told refl
+not_refused o errors.CannotWrite bytes value means h told = h
+
+not_rejected : ((j : Json) (path : List PathSegment) → DoubleAt j path → ¬ HasUniqueKeys j) → (flags : ℕ)
+    (text read : List ℕ) (fault : Error) (value : Value) → MeansUnder flags text value → IsRejectedFor flags text read fault
+    → fault ≢ errors.OutOfMemory → ⊥
+not_rejected twice flags text read fault value means (inl h) told =
+    not_refused (options_of flags) fault read value (meant flags text read value h.0 means) h.1 told
+not_rejected twice flags text read fault value means (inr h) told =
+    not_read twice (preprocessing_of flags) text means.read (rejected_key (preprocessing_of flags) fault text h.1 told)
+    means.read_as
+
+pub accepts_from : ((j : Json) (path : List PathSegment) → DoubleAt j path → ¬ HasUniqueKeys j) → (flags : ℕ)
+    (text : List ℕ) (out : Rejection) (value : Value) → MeansUnder flags text value → Explains flags text out → out.code ≡ 0
+accepts_from twice flags text out value means (inl h) = h.1.code
+accepts_from twice flags text out value means (inr h) =
+    absurd (not_rejected twice flags text h.read h.fault value means h.refused h.told)

@@ -4,6 +4,7 @@ mod Decoding
 mod Dumps
 mod Elements
 mod Explained
+mod Paths
 mod Preprocessed
 mod RawValues
 mod Rows

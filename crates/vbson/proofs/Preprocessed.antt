@@ -90,12 +90,12 @@ no_memory flags text = record {
 }
 
 -- a text that preprocessing rejects is not read
-not_read : ((j : Json) (path : List PathSegment) → DoubleAt j path → ¬ HasUniqueKeys j) → (preprocessing : Option Taking)
+pub not_read : ((j : Json) (path : List PathSegment) → DoubleAt j path → ¬ HasUniqueKeys j) → (preprocessing : Option Taking)
     (text read : List ℕ) → HasRejectedKey preprocessing text → IsReadAs preprocessing text read → ⊥
 not_read twice None text read h is = h
 not_read twice (Some taking) text read h is = not_taken twice taking h.0 text read h.1 is
 
-rejected_key : (preprocessing : Option Taking) (fault : Error) (text : List ℕ) → IsUnread preprocessing fault text
+pub rejected_key : (preprocessing : Option Taking) (fault : Error) (text : List ℕ) → IsUnread preprocessing fault text
     → fault ≢ OutOfMemory → HasRejectedKey preprocessing text
 rejected_key None fault text h some = h
 rejected_key (Some taking) CannotRead text h some = absurd h

@@ -1,47 +1,145 @@
--- Why a text is refused, and where, in words.
-use Rattle.std.specs.Prelude.{◌≡◌, ◌≢◌, ◌⊎◌, ℕ, IsUtf8, List, [], ◌++◌}
+-- Why a text is refused, and where, as a struct.
+use Rattle.std.specs.Prelude.{◌≡◌, ◌≢◌, ◌⊎◌, ◌-◌, ℕ, IsUtf8, List, [], ◌++◌, length, min, take, string_bytes}
 use Rattle.bson.specs.TextMeaning.{HasTextMeaningIn}
 use Rattle.bson.specs.Value.{Value}
 use Rattle.bson.specs.declared.extjson.options.Options.{Options}
-use Rattle.bson_convert.specs.Convert.{IsRefusedIn}
-use Rattle.bson_run.specs.Place.{IsWhere}
+use Rattle.bson_bytes.specs.Writing.{document_bytes, FitsDocument}
+use Rattle.bson_bytes.specs.declared.error.Error.{Error as PathError}
+use Rattle.bson_bytes.specs.declared.error.Error.TheVariants as sizes
+use Rattle.bson_convert.specs.Convert.{IsRefusedIn, newline}
 use Rattle.bson_convert.specs.Words.{words_of}
 use Rattle.bson_convert.specs.declared.error.Error.{Error}
-use Rattle.bson_convert.specs.declared.error.Error.TheVariants.{OutOfMemory}
-use Rattle.vbson.specs.Convert.{options_of}
-use Rattle.vbson.specs.Reading.{IsReadAs, IsUnread, preprocessing_of}
+use Rattle.bson_convert.specs.declared.error.Error.TheVariants.{NotExtendedJson, OutOfMemory}
+use Rattle.bson_place.specs.Place.{PathSegment, path_of}
+use Rattle.bson_run.specs.Place.{IsExplanation, column_at, line_at, words_at}
+use Rattle.bson_run.specs.Words.{words_broken}
+use Rattle.bson_run.specs.declared.explain.Explanation.{Explanation}
+use Rattle.bson_run.specs.declared.explain.Explanation.TheVariants.{Syntax, Other}
+use Rattle.bson_run.specs.declared.explain.Explanation.TheVariants as explained
+use Rattle.vbson.specs.Convert.{options_of, status_for}
+use Rattle.vbson.specs.Path.{path_pairs}
+use Rattle.vbson.specs.Reading.{IsReadAs, IsUnread, MeansUnder, preprocessing_of}
 use Rattle.vbson.specs.Text.{IsText}
-use Rattle.vbson.specs.declared.text.Text.{Text}
+use Rattle.vbson.specs.declared.explain.Parts.{Parts}
+use Rattle.vbson.specs.declared.explain.Rejection.{Rejection}
 
--- the text is refused for the fault, for which there are words, and behind them where it lies
-pub record Refuses (o : Options) (text words : List ℕ) : Type 0 where
+-- ---- what an explanation is in the struct
+
+-- the status of the error, or 0 for none
+abbrev pub code_in : Explanation → ℕ
+code_in (Syntax stop) = 2
+code_in (explained.Value place reason) = status_for place.now.reason
+code_in Other = 0
+
+-- where a text stops to be JSON: the line and the column, from 1, and the bytes before it, which are not all; else 0
+abbrev pub line_in : List ℕ → Explanation → ℕ
+line_in text (Syntax stop) = line_at stop.offset text
+line_in text (explained.Value place reason) = 0
+line_in text Other = 0
+
+abbrev pub column_in : List ℕ → Explanation → ℕ
+column_in text (Syntax stop) = column_at stop.offset text
+column_in text (explained.Value place reason) = 0
+column_in text Other = 0
+
+abbrev pub offset_in : List ℕ → Explanation → ℕ
+offset_in text (Syntax stop) = min stop.offset (length text - 1)
+offset_in text (explained.Value place reason) = 0
+offset_in text Other = 0
+
+-- the path from the invalid value outward
+abbrev pub path_in : Explanation → List PathSegment
+path_in (Syntax stop) = []
+path_in (explained.Value place reason) = path_of place.now
+path_in Other = []
+
+abbrev pub reason_in : Explanation → List ℕ
+reason_in (Syntax stop) = words_broken stop.rule
+reason_in (explained.Value place reason) = string_bytes reason
+reason_in Other = []
+
+-- the struct has this of an explanation of an error of the text, and these words as its message
+pub record Says (text : List ℕ) (it : Explanation) (words : List ℕ) (out : Rejection) : Type 0 where
+  pub code : out.code ≡ code_in it
+  pub line : out.line ≡ line_in text it
+  pub column : out.column ≡ column_in text it
+  pub offset : out.offset ≡ offset_in text it
+  pub path : IsText (document_bytes (path_pairs (path_in it))) out.path
+  pub reason : IsText (reason_in it) out.reason
+  pub message : IsText words out.message
+
+-- the struct explains the error of the text, with the words for the error and behind them those for its place
+pub record IsError (text : List ℕ) (fault : Error) (out : Rejection) : Type 0 where
+  pub explanation : Explanation
+  pub lies : IsExplanation text fault explanation
+  pub said : Says text explanation (words_of fault ++ words_at text explanation) out
+  pub utf8 : IsUtf8 (words_of fault ++ words_at text explanation)
+
+-- ---- which text
+
+-- the text that the flags read in the place of this one is rejected for the error, or preprocessing rejects this one
+abbrev pub IsRejectedFor : (flags : ℕ) (text read : List ℕ) → Error → Type 0
+IsRejectedFor flags text read fault =
+    (IsReadAs (preprocessing_of flags) text read × IsRefusedIn (options_of flags) fault read)
+    ⊎ ((read ≡ text) × IsUnread (preprocessing_of flags) fault text)
+
+-- it is rejected, and the struct explains why
+pub record Refuses (flags : ℕ) (text : List ℕ) (out : Rejection) : Type 0 where
   pub fault : Error
-  pub refused : IsRefusedIn o fault text
+  pub read : List ℕ
+  pub refused : IsRejectedFor flags text read fault
   pub told : fault ≢ OutOfMemory
-  pub place : List ℕ
-  pub lies : IsWhere text fault place
-  pub said : words ≡ words_of fault ++ place
+  pub error : IsError read fault out
 
--- no words for bytes that mean a value, with no preprocessing, and else those for their fault
-abbrev pub ExplainsRead : Options → List ℕ → List ℕ → Type 0
-ExplainsRead o text words =
-    (((value : Value) × HasTextMeaningIn o.doubles text value) × (words ≡ [])) ⊎ Refuses o text words
+-- the text means a value, and the struct has the code 0 and no words; or it is rejected
+abbrev pub Explains : ℕ → List ℕ → Rejection → Type 0
+Explains flags text out =
+    (((value : Value) × MeansUnder flags text value) × Says [] Other [] out) ⊎ Refuses flags text out
 
--- preprocessing rejects the text, with these words for the fault, and behind them where it lies
-pub record RefusesFirst (flags : ℕ) (text words : List ℕ) : Type 0 where
+-- the path to the error is too long for BSON
+abbrev pub IsLongPath : Error → Type 0
+IsLongPath (NotExtendedJson place) = FitsDocument (path_pairs (path_of place)) → ⊥
+IsLongPath other = ⊥
+
+pub record IsTooLong (flags : ℕ) (text : List ℕ) : Type 0 where
   pub fault : Error
-  pub refused : IsUnread (preprocessing_of flags) fault text
-  pub told : fault ≢ OutOfMemory
-  pub place : List ℕ
-  pub lies : IsWhere text fault place
-  pub said : words ≡ words_of fault ++ place
+  pub read : List ℕ
+  pub refused : IsRejectedFor flags text read fault
+  pub long : IsLongPath fault
 
--- such words for what the flags read in the place of the text, or those for why preprocessing rejects it
-abbrev pub Explains : ℕ → List ℕ → List ℕ → Type 0
-Explains flags text words =
-    ((read : List ℕ) × IsReadAs (preprocessing_of flags) text read × ExplainsRead (options_of flags) read words)
-    ⊎ RefusesFirst flags text words
+-- ---- for private clauses
 
--- the text that is left has such words, which are UTF-8
-abbrev pub IsExplained : ℕ → List ℕ → Text → Type 0
-IsExplained flags text out = (words : List ℕ) × Explains flags text words × IsUtf8 words × IsText words out
+-- the same of a text, with no preprocessing
+abbrev pub ExplainsRead : Options → List ℕ → Rejection → Type 0
+ExplainsRead o text out =
+    (((value : Value) × HasTextMeaningIn o.doubles text value) × Says [] Other [] out)
+    ⊎ ((fault : Error) × IsRefusedIn o fault text × (fault ≢ OutOfMemory) × IsError text fault out)
+
+-- memory ran out, or the path to such an error is too long
+abbrev pub IsUnexplained : PathError → (Error → Type 0) → Type 0
+IsUnexplained e refused = e ≢ sizes.OutOfMemory → (fault : Error) × refused fault × IsLongPath fault
+
+abbrev pub IsLong : Explanation → Type 0
+IsLong it = FitsDocument (path_pairs (path_in it)) → ⊥
+
+-- the parts are those of an explanation of an error of the text
+pub record ArePartsOf (text : List ℕ) (it : Explanation) (parts : Parts) : Type 0 where
+  pub code : parts.code ≡ code_in it
+  pub line : parts.line ≡ line_in text it
+  pub column : parts.column ≡ column_in text it
+  pub offset : parts.offset ≡ offset_in text it
+  pub path : parts.path.items ≡ document_bytes (path_pairs (path_in it)) ++ newline
+  pub reason : parts.reason.items ≡ reason_in it ++ newline
+
+-- the line without its end
+abbrev pub front : List ℕ → List ℕ
+front line = take (length line - 1) line
+
+pub record IsMadeOf (parts : Parts) (words : List ℕ) (out : Rejection) : Type 0 where
+  pub code : out.code ≡ parts.code
+  pub line : out.line ≡ parts.line
+  pub column : out.column ≡ parts.column
+  pub offset : out.offset ≡ parts.offset
+  pub path : IsText (front parts.path.items) out.path
+  pub reason : IsText (front parts.reason.items) out.reason
+  pub message : IsText (front words) out.message

@@ -5,6 +5,7 @@ pub mod Documents
 pub mod Dumps
 pub mod Explain
 pub mod Lines
+pub mod Path
 pub mod Raw
 pub mod Reading
 pub mod Text

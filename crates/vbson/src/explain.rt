@@ -1,81 +1,134 @@
 //! Why a text is refused, and where.
-ghost use Rattle.std.specs.Prelude.{◌≡◌, ◌⊎◌, ◌↔◌, ◌<◌, ◌++◌, List, ℕ, IfOk, IsUtf8};
-ghost use Rattle.bson_convert.specs.Convert.{newline};
+ghost use Rattle.std.specs.Prelude.{◌≡◌, ◌≢◌, ◌⊎◌, ◌↔◌, ◌<◌, ◌++◌, ℕ, List, [], length, map, IfOk, IfErr, IsUtf8};
+ghost use Rattle.bson.specs.Value.{Value};
+ghost use Rattle.bson_convert.specs.Convert.{IsRefusedIn, newline};
 ghost use Rattle.bson_convert.specs.Words.{words_of};
-ghost use Rattle.bson_run.specs.Place.{IsWhere};
-ghost use Rattle.vbson.specs.Explain.{Explains, ExplainsRead, IsExplained};
+ghost use Rattle.bson_place.specs.Place.{segment_of};
+ghost use Rattle.vbson.specs.Explain.{ArePartsOf, Explains, ExplainsRead, IsError, IsLong, IsLongPath, IsMadeOf, IsTooLong, IsUnexplained, Says};
+ghost use Rattle.vbson.specs.Explain.{code_in, column_in, line_in, offset_in, path_in, reason_in};
+ghost use Rattle.vbson.specs.Reading.{MeansUnder};
+ghost use Rattle.bson_bytes.specs.declared.error.Error.TheVariants as sizes;
+ghost use Rattle.bson_run.specs.declared.explain.Explanation.TheVariants as explained;
 
 use crate::flags::{ALL, options_of, preprocessing_of};
+use crate::path::path_line;
 use crate::reading::preprocess;
 use crate::status;
 use crate::text::{Text, text_of_line};
 use bson::extjson::Options;
+use bson_bytes::error::Error as PathError;
 use bson_convert::convert::convert_with;
 use bson_convert::error::Error;
 use bson_convert::mode::Mode;
-use bson_run::explain::explain;
+use bson_distinct::laws::one_double;
+use bson_place::place::{Reason, Segment};
+use bson_run::explain::Explanation;
 use std::alloc::{AllocError, Global};
 
-/// Leaves the words for why a text is refused, and where: `not JSON at column 7 (RULE)`, or
-/// `not Extended JSON at orders.0.price (MESSAGE)`; no words if it is accepted. The flags are those
-/// of `vbson_convert_with` and `vbson_same`, whose status this explains; `KEEP_ORDER` changes
-/// nothing here.
+/// Why a text is refused, and where. The caller frees each text by `free`.
+#[repr(C)]
+#[derive(Drop)]
+pub struct Rejection<'a> {
+    /// The status of the error, or `OK` if the text is accepted.
+    pub code: u32,
+    /// If the code is `NOT_JSON`, the line on which the text stops to be JSON, from 1; else 0.
+    pub line: usize,
+    /// The byte of the line there, from 1.
+    pub column: usize,
+    /// How many bytes of the text are before that byte.
+    pub offset: usize,
+    /// The path to the invalid value: the bytes of an array of keys and indexes. It has no element
+    /// if the error is that of the whole text.
+    pub path: Text<'a>,
+    /// What is wrong.
+    pub reason: Text<'a>,
+    /// The words for all of this, on one line.
+    pub message: Text<'a>,
+}
+
+/// Leaves why a text is refused, and where; the code 0, and no words, if it is accepted. The flags
+/// are those of `vbson_convert_with` and `vbson_same`, whose status this explains; `KEEP_ORDER`
+/// changes nothing here.
 #[unsafe(no_mangle)]
 pub extern "C" fn vbson_explain(
     alloc: Global,
     flags: u32,
     text: &[u8],
-    out: &mut Text<'static>,
+    out: &mut Rejection<'static>,
 ) -> u32
-    ensures done { result ≡ 0 → IsExplained flags text.now out.new }
+    ensures done { result ≡ 0 → Explains flags text.now out.new }
+    // The code is 0 if and only if the text means a value.
+    ensures accepted { result ≡ 0 → out.new.code ≡ 0 → (value : Value) × MeansUnder flags text.now value }
+    ensures accepts { (value : Value) → MeansUnder flags text.now value → result ≡ 0 → out.new.code ≡ 0 }
 
     // When each other status comes, and that nothing is left then.
     ensures no_mode { result ≡ 1 ↔ 15 < flags }
-    ensures listed { (result ≡ 0) ⊎ (result ≡ 1) ⊎ (result ≡ 5) }
+    ensures long { result ≡ 13 → IsTooLong flags text.now }
+    ensures listed { (result ≡ 0) ⊎ (result ≡ 1) ⊎ (result ≡ 5) ⊎ (result ≡ 13) }
     ensures kept { 0 < result → out.new ≡ out.old }
 {
     if flags > ALL {
         return status::INVALID_ARGUMENT;
     }
-    match line_of(alloc, flags, text) {
-        Ok(line) => *out = text_of_line(line),
-        Err(_) => return status::OUT_OF_MEMORY,
+    // A law: no text with a duplicate key has unique keys.
+    one_double();
+    match explained(alloc, flags, text) {
+        Ok(rejection) => *out = rejection,
+        Err(PathError::OutOfMemory) => return status::OUT_OF_MEMORY,
+        Err(_) => return status::TOO_LONG,
     }
     status::OK
 }
 
-// The words, and a newline.
-fn line_of(alloc: Global, flags: u32, text: &[u8]) -> Result<Vec<u8>, AllocError>
-    ensures { IfOk result
-        (λ line. (words : List ℕ) × Explains flags text.now words × IsUtf8 words × (line.items ≡ words ++ newline)) }
+// Explains the text, under the flags.
+fn explained(alloc: Global, flags: u32, text: &[u8]) -> Result<Rejection<'static>, PathError>
+    ensures said { IfOk result (λ out. Explains flags text.now out) }
+    ensures long { IfErr result (λ e. e ≢ sizes.OutOfMemory → IsTooLong flags text.now) }
 {
     match preprocess(alloc, preprocessing_of(flags), text) {
-        Ok(Some(newer)) => line_of_read(alloc, options_of(flags), newer.as_bytes()),
-        Ok(None) => line_of_read(alloc, options_of(flags), text),
-        Err(fault) if fault.is_memory() => Err(AllocError),
-        Err(fault) => line_for(alloc, &fault, text),
+        Ok(Some(newer)) => explained_read(alloc, options_of(flags), newer.as_bytes()),
+        Ok(None) => explained_read(alloc, options_of(flags), text),
+        Err(fault) if fault.is_memory() => Err(PathError::OutOfMemory),
+        Err(fault) => rejected(alloc, &fault, text),
     }
 }
 
-// The words for the text that is read, and a newline.
-fn line_of_read(alloc: Global, options: Options, text: &[u8]) -> Result<Vec<u8>, AllocError>
-    ensures { IfOk result (λ line. (words : List ℕ) × ExplainsRead options text.now words × IsUtf8 words
-        × (line.items ≡ words ++ newline)) }
+// Explains the text that is read.
+fn explained_read(
+    alloc: Global,
+    options: Options,
+    text: &[u8],
+) -> Result<Rejection<'static>, PathError>
+    ensures said { IfOk result (λ out. ExplainsRead options text.now out) }
+    ensures long { IfErr result (λ e. IsUnexplained e (λ fault. IsRefusedIn options fault text.now)) }
 {
     match convert_with(alloc, options, Mode::Canonical, text) {
-        Ok(_) => Vec::from_slice(alloc, b"\n"),
-        Err(Error::OutOfMemory) => Err(AllocError),
-        Err(fault) => line_for(alloc, &fault, text),
+        Ok(_) => accepted(alloc),
+        Err(Error::OutOfMemory) => Err(PathError::OutOfMemory),
+        Err(fault) => rejected(alloc, &fault, text),
     }
 }
 
-// The words for a fault of the text and for where it lies, and a newline.
-fn line_for(alloc: Global, fault: &Error, text: &[u8]) -> Result<Vec<u8>, AllocError>
-    ensures { IfOk result (λ line. (place : List ℕ) × IsWhere text.now fault.now place
-        × IsUtf8 (words_of fault.now ++ place) × (line.items ≡ (words_of fault.now ++ place) ++ newline)) }
+// The struct of a text that is accepted.
+fn accepted(alloc: Global) -> Result<Rejection<'static>, PathError>
+    ensures said { IfOk result (λ out. Says [] explained.Other [] out) }
+    ensures memory { IfErr result (λ e. e ≡ sizes.OutOfMemory) }
 {
-    let place = explain(alloc, fault, text)?;
-    line_at(alloc, fault, &place)
+    let parts = parts_of(alloc, &Explanation::Other, b"")?;
+    let message = Vec::from_slice(alloc, b"\n")?;
+    Ok(filled(parts, message))
+}
+
+// The struct for an error of the text.
+fn rejected(alloc: Global, fault: &Error, text: &[u8]) -> Result<Rejection<'static>, PathError>
+    ensures said { IfOk result (λ out. IsError text.now fault.now out) }
+    ensures long { IfErr result (λ e. e ≢ sizes.OutOfMemory → IsLongPath fault.now) }
+{
+    let found = Explanation::of(alloc, fault, text)?;
+    let place = found.message(alloc, text)?;
+    let message = line_at(alloc, fault, &place)?;
+    let parts = parts_of(alloc, &found, text)?;
+    Ok(filled(parts, message))
 }
 
 // The words for a fault and its place, and a newline.
@@ -86,4 +139,121 @@ fn line_at(alloc: Global, fault: &Error, place: &str) -> Result<Vec<u8>, AllocEr
     let words = fault.message();
     let line = format!(in alloc; "{words}{place}\n")?;
     Ok(line.into_bytes())
+}
+
+// What a struct is made of, without its message. The bytes end in a newline.
+#[derive(Drop)]
+struct Parts {
+    code: u32,
+    line: usize,
+    column: usize,
+    offset: usize,
+    path: Vec<u8>,
+    reason: Vec<u8>,
+}
+
+// The struct of these parts.
+fn filled(parts: Parts, message: Vec<u8>) -> Rejection<'static>
+    requires { (0 < length parts.path.items) × (0 < length parts.reason.items) × (0 < length message.items) }
+    ensures { IsMadeOf parts message.items result }
+{
+    Rejection {
+        code: parts.code,
+        line: parts.line,
+        column: parts.column,
+        offset: parts.offset,
+        path: text_of_line(parts.path),
+        reason: text_of_line(parts.reason),
+        message: text_of_line(message),
+    }
+}
+
+// The parts for an explanation of an error of the text.
+fn parts_of(alloc: Global, found: &Explanation<'_>, text: &[u8]) -> Result<Parts, PathError>
+    ensures said { IfOk result (λ parts. ArePartsOf text.now found.now parts) }
+    ensures long { IfErr result (λ e. e ≢ sizes.OutOfMemory → IsLong found.now) }
+{
+    let path = path_line(alloc, segments_of(found))?;
+    let reason = line_of(alloc, reason_of(found))?;
+    Ok(Parts {
+        code: code_of(found),
+        line: line_in(found, text),
+        column: column_in(found, text),
+        offset: offset_in(found, text),
+        path,
+        reason,
+    })
+}
+
+// The words, and a newline.
+fn line_of(alloc: Global, words: &str) -> Result<Vec<u8>, AllocError>
+    ensures { IfOk result (λ line. line.items ≡ words.now ++ newline) }
+{
+    let line = format!(in alloc; "{words}\n")?;
+    Ok(line.into_bytes())
+}
+
+// The status of an explained error, or 0 for none.
+fn code_of(found: &Explanation<'_>) -> u32
+    ensures { result ≡ code_in found.now }
+{
+    match found {
+        Explanation::Syntax(_) => status::NOT_JSON,
+        Explanation::Value(place, _) => match &place.reason {
+            Reason::BadObjectId(_) => status::BAD_OBJECT_ID,
+            Reason::WrongShape(_) => status::NOT_EXTENDED_JSON,
+        },
+        Explanation::Other => status::OK,
+    }
+}
+
+// The line on which the text stops to be JSON, or 0.
+fn line_in(found: &Explanation<'_>, text: &[u8]) -> usize
+    ensures { result ≡ line_in text.now found.now }
+{
+    match found {
+        Explanation::Syntax(stop) => stop.line(text),
+        _ => 0,
+    }
+}
+
+// The byte of the line there, or 0.
+fn column_in(found: &Explanation<'_>, text: &[u8]) -> usize
+    ensures { result ≡ column_in text.now found.now }
+{
+    match found {
+        Explanation::Syntax(stop) => stop.column(text),
+        _ => 0,
+    }
+}
+
+// How many bytes are before that byte, or 0.
+fn offset_in(found: &Explanation<'_>, text: &[u8]) -> usize
+    ensures { result ≡ offset_in text.now found.now }
+{
+    match found {
+        Explanation::Syntax(stop) => stop.offset.min(text.len().saturating_sub(1)),
+        _ => 0,
+    }
+}
+
+// The segments that lead to the invalid value, from the value outward.
+fn segments_of<'a>(found: &'a Explanation<'_>) -> &'a [Segment]
+    ensures { map segment_of result.now ≡ path_in found.now }
+{
+    match found {
+        Explanation::Value(place, _) => place.segments.as_slice(),
+        _ => &[],
+    }
+}
+
+// What is wrong.
+fn reason_of<'a>(found: &'a Explanation<'_>) -> &'a str
+    ensures { result.now ≡ reason_in found.now }
+{
+    match found {
+        Explanation::Syntax(stop) => stop.rule.message(),
+        Explanation::Value(_, reason) => reason.as_str(),
+        Explanation::Other => "",
+    }
 }

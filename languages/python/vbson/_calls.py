@@ -24,6 +24,11 @@ class Documents(ctypes.Structure):
     _fields_ = [("text", Buffer), ("diagnostics", Buffer), ("documents", ctypes.c_uint64), ("consumed", ctypes.c_uint64)]
 
 
+class Error(ctypes.Structure):
+    _fields_ = [("code", ctypes.c_uint32), ("line", ctypes.c_size_t), ("column", ctypes.c_size_t), ("offset", ctypes.c_size_t),
+                ("path", Buffer), ("reason", Buffer), ("message", Buffer)]
+
+
 class Slice(ctypes.Structure):
     _fields_ = [("bytes", ctypes.c_void_p), ("len", ctypes.c_size_t)]
 
@@ -63,7 +68,7 @@ def loaded():
         "version": [], "convert_with": [number, number, text, size, out(Buffer)],
         "convert_lines": [number, number, text, size, out(Lines)], "encode_lines": [number, text, size, out(Lines)],
         "decode_documents": [number, number, text, size, out(Documents)],
-        "explain": [number, text, size, out(Buffer)], "same": [number, text, size, text, size],
+        "explain": [number, text, size, out(Error)], "same": [number, text, size, text, size],
         "hash": [number, text, size, out(ctypes.c_uint64)], "same_documents": [number, text, size, text, size],
         "hash_document": [number, text, size, out(ctypes.c_uint64)],
         "is_document": [text, size], "explain_document": [text, size, out(Buffer)],
@@ -140,6 +145,21 @@ def text_of(call, *arguments):
     """Returns the status of a call that fills a buffer with a string, and the string."""
     status, made = bytes_of(call, *arguments)
     return status, made.decode()
+
+
+class Explained:
+    """What vbson_explain found: its fields, as values of Python."""
+
+    def __init__(self, out):
+        self.code, self.line, self.column, self.offset = out.code, out.line, out.column, out.offset
+        self.path, self.reason, self.message = taken(out.path), taken(out.reason).decode(), taken(out.message).decode()
+
+
+def explained(flags, given):
+    """Returns the status of vbson_explain, and what it found; None if the status is not OK."""
+    out = Error(0, 0, 0, 0, empty(), empty(), empty())
+    status = library.vbson_explain(flags, given, len(given), ctypes.byref(out))
+    return status, Explained(out) if status == OK else None
 
 
 def text_by(name, mode, flags, given):

@@ -1,5 +1,4 @@
-"""The path to a value, as a list of keys and indexes: in the text of JSON, and in the bytes of a document."""
-import json
+"""The path to a value, as a list of keys and indexes: from the library's array, and in the bytes of a document."""
 import math
 import re
 import struct
@@ -8,7 +7,7 @@ _DOUBLE = struct.Struct("<d")
 _SIZES = {0x01: 8, 0x06: 0, 0x07: 12, 0x08: 1, 0x09: 8, 0x0A: 0, 0x10: 4, 0x11: 8, 0x12: 8, 0x13: 16, 0x7F: 0, 0xFF: 0}
 # How many bytes a value has in addition to the number at its start.
 _SIZES_AFTER_LENGTH = {0x02: 4, 0x03: 0, 0x04: 0, 0x05: 5, 0x0C: 16, 0x0D: 4, 0x0E: 4, 0x0F: 0}
-_DOCUMENT, _ARRAY, _SCOPED = 0x03, 0x04, 0x0F
+_STRING, _DOCUMENT, _ARRAY, _SCOPED = 0x02, 0x03, 0x04, 0x0F
 
 
 def joined(path):
@@ -21,28 +20,10 @@ def _shown(key):
     return re.sub("[\0-\x1f\x7f-\x9f\u2028\u2029]", lambda it: f"\\u{ord(it[0]):04x}", key)
 
 
-def in_text(text, words):
-    """Returns the first path in a JSON text whose keys and indexes, joined by points, are the words.
-
-    If there is none, since the words are cut off or the text has another form, the words are split at their points.
-    """
-    try:
-        value = json.loads(text, object_pairs_hook=list, parse_int=str, parse_float=str, parse_constant=str)
-    except (ValueError, RecursionError):
-        value = None
-    split = [int(it) if it.isascii() and it.isdigit() else it for it in words.split(".")]
-    return next(_paths(value, words), split) if words else []
-
-
-def _paths(value, words):
-    """Yields the paths inside a value, in which an object is a list of pairs."""
-    is_object = isinstance(value, list) and value and isinstance(value[0], tuple)
-    for key, child in value if is_object else enumerate(value if isinstance(value, list) else ()):
-        shown = _shown(str(key))
-        if words == shown:
-            yield [key]
-        elif words.startswith(f"{shown}."):
-            yield from ([key, *rest] for rest in _paths(child, words[len(shown) + 1:]))
+def of_array(data):
+    """Returns the path of an array of the library: strings are keys, and integers of 64 bits indexes."""
+    return [data[start + 4:end - 1].decode() if tag == _STRING else int.from_bytes(data[start:end], "little")
+            for _, tag, start, end in elements(data, 0, True)]
 
 
 def _value_end(data, tag, at):

@@ -1,5 +1,4 @@
-"""The errors of the library, as data. Only this module reads the library's messages."""
-import math
+"""The errors of the library, as data. Only this module reads diagnostics of the library."""
 import re
 from typing import List, Optional, Union
 
@@ -17,8 +16,7 @@ class Error(ValueError):
     code     the status of the C library, for example NOT_EXTENDED_JSON
     reason   what is wrong: 'not a 64-bit integer; found 1.5'. Without a longer one it is the message
     path     the keys and indexes that lead to the wrong value, for example ['orders', 3, 'price']. It is empty if the error
-             is that of the whole value, or if the input is not JSON. The library joins them by points; if several values
-             of the input have the same joined path, this is the path to the first of them
+             is that of the whole value, or if the input is not JSON
     offset   the bytes of the input before the error, if the input is not JSON or not a document; otherwise None
     line, column    the same for JSON: the line, and the byte in that line, both from 1. An error of a block of lines always
              has the line. For other errors they are None
@@ -109,7 +107,6 @@ _ERRORS = {INVALID_ARGUMENT: (ValueError, "no such mode or flag"), NOT_JSON: (No
 # A byte order mark, which is skipped at the start of a block of lines.
 MARK = b"\xef\xbb\xbf"
 _OF_TEXTS = (NOT_JSON, BAD_OBJECT_ID, NOT_EXTENDED_JSON)
-_STATUSES = {words: status for status, (_, words) in _ERRORS.items()}
 
 
 def of_status(status):
@@ -124,73 +121,37 @@ def expect_ok(status):
         raise of_status(status)
 
 
-# What follows the message of the class: a column or a path, and a reason. The reason of a bad object id may have any
-# characters, but its path ends in a wrapper's key, or in two points if it is cut off. No other reason has a bracket
-# before the value that it quotes.
-_ON_ID = r" \(((?:the character '|an object id has ).*)\)"
-_OF_ID = re.compile(r" at (.*?\$(?:oid|dbPointer))" + _ON_ID, re.S)
-_OF_LONG = re.compile(r" at (.*?\.\.)" + _ON_ID, re.S)
-_OF_SHAPE = re.compile(r"(?: at (.*?))? \(([^(]*?(?:; found .*)?)\)", re.S)
-_OF_JSON = re.compile(r" at column (\d+) \((.*)\)", re.S)
-_NUMBER = re.compile(rb"-?[0-9]+(?:\.[0-9]+)?(?:[eE][+-]?[0-9]+)?")
+# The message for bytes that are not a document, and the diagnostics of documents.
 _OF_BYTES = re.compile(r" at byte (\d+) \((.*)\)")
-_OF_LINE = re.compile(rf"bson: line (\d+): ({'|'.join(_STATUSES)})(.*)", re.S)
 _OF_DOCUMENT = re.compile(r"document (\d+) at byte (\d+): (.*?)(?: at its byte (\d+))?")
 
 
 def is_of_text(status):
-    """Returns whether `explain` has more words for a text with this status."""
+    """Returns whether `vbson_explain` has more for a text with this status."""
     return status in _OF_TEXTS
 
 
-def of_text(status, words, text, start=0):
-    """Returns the error of a rejected text, from the words of `explain`, which are empty if memory ran out. The line whose
-    column they name begins at the start."""
-    kind = _ERRORS[status][1]
-    rest = words.removeprefix(kind)
-    found = _OF_JSON.fullmatch(rest) if status == NOT_JSON else None
-    if found:
-        error = NotJson(words, found[2], offset=start + int(found[1]) - 1)
-        error.line, error.column = text.count(b"\n", 0, start) + 1, int(found[1])
-        return error
-    if status == BAD_OBJECT_ID:
-        found = _OF_ID.fullmatch(rest) or _OF_LONG.fullmatch(rest)
-    elif is_of_text(status):
-        found = _OF_SHAPE.fullmatch(rest)
-    path = _paths.in_text(text, found[1] or "") if found else ()
-    return _ERRORS[status][0](words or kind, found[2] if found else kind, path, code=status)
+def of_text(found):
+    """Returns the error of a rejected text, from what `vbson_explain` found."""
+    error = _ERRORS[found.code][0](found.message, found.reason, _paths.of_array(found.path), code=found.code)
+    if found.code == NOT_JSON:
+        error.line, error.column, error.offset = found.line, found.column, found.offset
+    return error
 
 
-def start_of_line(words, text, explained):
-    """Returns where the line of a text begins whose column the words of `explain` name. explained returns those of a part."""
-    ends = [it.end() for it in re.finditer(b"\n", text)] + [len(text)]
-    found = _OF_JSON.search(words)
-    if found is None or found[2] == "unexpected end of input":
-        return text.rfind(b"\n", 0, max(0, len(text) - 1)) + 1
-    if found[2] == "number out of range":
-        numbers = ((start, _NUMBER.match(text, start + int(found[1]) - 1)) for start in [0, *ends])
-        return next((start for start, it in numbers if it and math.isinf(float(it[0]))), 0)
-    low, high = 0, len(ends) - 1
-    while low < high:
-        # (the lines up to that of the error have the same error, and fewer lines end early)
-        middle = (low + high) // 2
-        low, high = (low, middle) if explained(text[:ends[middle]]) == words else (middle + 1, high)
-    return ends[low - 1] if low else 0
-
-
-def of_lines(diagnostics, block):
-    """Returns the number and the error of each rejected line of a block, from its diagnostic."""
+def of_lines(diagnostics, block, error_of):
+    """Returns the number and the error of each rejected line of a block: error_of returns that of the line alone."""
     # (the columns of the first line count from after a byte order mark)
     refused, number, start = [], 1, len(MARK) if block.startswith(MARK) else 0
     for diagnostic in diagnostics:
-        found = _OF_LINE.fullmatch(diagnostic)
-        while number < int(found[1]):
+        wanted = int(diagnostic.split(":", 2)[1].removeprefix(" line "))
+        while number < wanted:
             start, number = block.index(b"\n", start) + 1, number + 1
         end = block.find(b"\n", start)
-        error = of_text(_STATUSES[found[2]], found[2] + found[3], block[start:end if end >= 0 else len(block)])
-        error.line = number
+        error = error_of(block[start:end if end >= 0 else len(block)])
         if error.offset is not None:
             error.offset += start
+        error.line = number
         refused.append((number, error))
     return refused
 

@@ -12,15 +12,29 @@ def version() -> str:
     return f"{number // 10000}.{number // 100 % 100}.{number % 100}"
 
 
-def expect_accepted(status, flags, *texts):
-    """Raises the error of a status; for a rejected text, that of the first of the texts that is rejected."""
+def error_of(status, flags, *texts):
+    """Returns the error of a status; for a rejected text, that of the first of the texts that is rejected."""
     if errors.is_of_text(status):
-        # (only a text that was rejected is read again; without memory for the words, the error has no path)
-        said = ((it, _calls.text_of(_calls.library.vbson_explain, flags, it, len(it))) for it in texts)
-        text, words = next(((it, words) for it, (found, words) in said if words or found != errors.OK), (b"", ""))
-        explained = lambda part: _calls.text_of(_calls.library.vbson_explain, flags, part, len(part))[1]
-        raise errors.of_text(status, words, text, errors.start_of_line(words, text, explained) if status == errors.NOT_JSON else 0)
+        # (only a text that was rejected is read again; without memory for that, the error has no path)
+        explained = (_calls.explained(flags, it) for it in texts)
+        found = next((it for it_status, it in explained if it_status != errors.OK or it.code != errors.OK), None)
+        if found is not None:
+            return errors.of_text(found)
+    return errors.of_status(status)
+
+
+def expect_accepted(status, flags, *texts):
+    """Raises the error of a status that is not OK."""
+    if status != errors.OK:
+        raise error_of(status, flags, *texts)
+
+
+def _error_of_line(flags, line):
+    """Returns the error of a line that `vbson_convert_lines` or `vbson_encode_lines` rejected."""
+    status, found = _calls.explained(flags, line)
     errors.expect_ok(status)
+    # (a text that means a value may have no bytes)
+    return errors.of_text(found) if found.code != errors.OK else errors.of_status(_calls.encoded(flags, line)[0])
 
 
 def writing_flags(options, given):
@@ -65,7 +79,7 @@ def convert_lines(block: Given, mode: Mode = CANONICAL, **options: bool) -> Tupl
     out = _calls.Lines(_calls.empty(), _calls.empty(), 0, 0)
     status, made, diagnostics = _calls.block_by(_calls.library.vbson_convert_lines, out, mode, flags, given, len(given))
     errors.expect_ok(status)
-    return made, errors.of_lines(diagnostics, given)
+    return made, errors.of_lines(diagnostics, given, lambda line: _error_of_line(flags, line))
 
 
 def explain(text: Given, **options: bool) -> str:
@@ -77,9 +91,9 @@ def explain(text: Given, **options: bool) -> str:
     Raises MemoryError.
     """
     flags, given = flags_of(options, READING, KEEP_ORDER), text_bytes(text)
-    status, words = _calls.text_of(_calls.library.vbson_explain, flags, given, len(given))
+    status, found = _calls.explained(flags, given)
     errors.expect_ok(status)
-    return words
+    return found.message
 
 
 def same(a: Given, b: Given, **options: bool) -> bool:
@@ -141,4 +155,4 @@ def encode_lines(block: Given, **options: bool) -> Tuple[bytes, List[Tuple[int, 
     out = _calls.Lines(_calls.empty(), _calls.empty(), 0, 0)
     status, made, diagnostics = _calls.block_by(_calls.library.vbson_encode_lines, out, flags, given, len(given))
     errors.expect_ok(status)
-    return made, errors.of_lines(diagnostics, given)
+    return made, errors.of_lines(diagnostics, given, lambda line: _error_of_line(flags, line))

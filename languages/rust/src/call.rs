@@ -27,6 +27,18 @@ pub struct RawDocuments {
     pub consumed: u64,
 }
 
+/// `vbson_error`.
+#[repr(C)]
+pub struct RawError {
+    pub code: u32,
+    pub line: usize,
+    pub column: usize,
+    pub offset: usize,
+    pub path: RawText,
+    pub reason: RawText,
+    pub message: RawText,
+}
+
 /// `vbson_slice`.
 #[repr(C)]
 #[derive(Clone, Copy)]
@@ -51,7 +63,7 @@ extern "C" {
     #[allow(dead_code)]
     fn vbson_convert(mode: u32, text: *const u8, len: usize, out: *mut RawText) -> u32;
     fn vbson_convert_with(mode: u32, flags: u32, text: *const u8, len: usize, out: *mut RawText) -> u32;
-    fn vbson_explain(flags: u32, text: *const u8, len: usize, out: *mut RawText) -> u32;
+    fn vbson_explain(flags: u32, text: *const u8, len: usize, out: *mut RawError) -> u32;
     fn vbson_convert_lines(mode: u32, flags: u32, block: *const u8, len: usize, out: *mut RawLines) -> u32;
     fn vbson_same(flags: u32, a: *const u8, a_len: usize, b: *const u8, b_len: usize) -> u32;
     fn vbson_hash(flags: u32, text: *const u8, len: usize, out: *mut u64) -> u32;
@@ -167,10 +179,13 @@ pub fn convert_with(mode: u32, flags: u32, text: &[u8]) -> Result<RawText, Error
     left(|out| unsafe { vbson_convert_with(mode, flags, text.as_ptr(), text.len(), out) })
 }
 
-/// The words in a block of their own, as above.
-pub fn explain(flags: u32, text: &[u8]) -> Result<RawText, ErrorKind> {
-    // SAFETY: as above.
-    left(|out| unsafe { vbson_explain(flags, text.as_ptr(), text.len(), out) })
+/// Its three texts in blocks of their own, as above.
+pub fn explain(flags: u32, text: &[u8]) -> Result<RawError, ErrorKind> {
+    wants_processor();
+    let mut out = RawError { code: OK, line: 0, column: 0, offset: 0, path: none(), reason: none(), message: none() };
+    // SAFETY: the slice is readable, and `out` is a valid struct that overlaps nothing.
+    expect_ok(unsafe { vbson_explain(flags, text.as_ptr(), text.len(), &mut out) })?;
+    Ok(out)
 }
 
 pub fn is_document(bytes: &[u8]) -> bool {

@@ -9,27 +9,21 @@ use Rattle.bson_run.proofs.explain.place_text.Goals as goal
 pub returns-then-is_empty : goal.returns-then-is_empty
 returns-then-is_empty c =
     let path = string_bytes c.in_ok-path.path in
-    let reason = string_bytes c.in_ok-reason.reason in
-    let message = string_bytes c.in_ok-message.message in
+    let reason = c.args.reason.now in
     let told : path ≡ told_as (dotted (path_of c.args.place.now)) =
     c.in_ok-path.ensures ∙ ap told_as (c.as_str.ensures.value ∙ c.in_ok-whole.ensures) in
-    let why : message ≡ told_as reason = c.in_ok-message.ensures ∙ ap told_as c.as_str-2.ensures.value in
     let none : length path ≡ 0 = grind (arith, common_steps) in
-    let said : IfOk c.format.result (λ s. string_bytes s ≡ codes " (" ++ message ++ codes ")") =
+    let said : IfOk c.format.result (λ s. string_bytes s ≡ codes " (" ++ reason ++ codes ")") =
     simp append_assoc c.format.ensures.ok in
-    oks_with c.format.result said (λ s e.
-    placed_bare c.args.text.now c.args.place.now path reason message (string_bytes s) c.in_ok-reason.ensures told why none e)
+    oks_with c.format.result said (λ s e. placed_bare c.args.place.now path reason (string_bytes s) told none e)
 
 pub returns : goal.returns
 returns c =
     let path = string_bytes c.in_ok-path.path in
-    let reason = string_bytes c.in_ok-reason.reason in
-    let message = string_bytes c.in_ok-message.message in
+    let reason = c.args.reason.now in
     let told : path ≡ told_as (dotted (path_of c.args.place.now)) =
     c.in_ok-path.ensures ∙ ap told_as (c.as_str.ensures.value ∙ c.in_ok-whole.ensures) in
-    let why : message ≡ told_as reason = c.in_ok-message.ensures ∙ ap told_as c.as_str-2.ensures.value in
     let some : 0 < length path = grind (arith, common_steps) in
-    let said : IfOk c.format-2.result (λ s. string_bytes s ≡ codes " at " ++ path ++ codes " (" ++ message
-    ++ codes ")") = simp append_assoc c.format-2.ensures.ok in
-    oks_with c.format-2.result said (λ s e.
-    placed_at c.args.text.now c.args.place.now path reason message (string_bytes s) c.in_ok-reason.ensures told why some e)
+    let said : IfOk c.format-2.result (λ s. string_bytes s ≡ codes " at " ++ path ++ codes " (" ++ reason ++ codes ")") =
+    simp append_assoc c.format-2.ensures.ok in
+    oks_with c.format-2.result said (λ s e. placed_at c.args.place.now path reason (string_bytes s) told some e)

@@ -1,0 +1,47 @@
+use Rattle.std.proofs.Common.{rules, ◌≡◌, ◌≢◌, inl, inr, []}
+use Rattle.std.proofs.lemmas.Result.{IfErr-weaker, IfOk-weaker}
+use Rattle.bson_bytes.specs.declared.error.Error.{Error as PathError}
+use Rattle.bson_bytes.specs.declared.error.Error.TheVariants as sizes
+use Rattle.bson_convert.specs.Convert.{IsRefusedIn}
+use Rattle.bson_convert.specs.declared.error.Error.TheVariants.{OutOfMemory}
+use Rattle.bson_run.specs.declared.explain.Explanation.TheVariants.{Other}
+use Rattle.vbson.specs.Explain.{ExplainsRead, IsError, IsLongPath, IsUnexplained, Says}
+use Rattle.vbson.specs.declared.explain.Rejection.{Rejection}
+use Rattle.vbson.proofs.explain.explained_read.Goals as goal
+
+pub returns-in-Ok-clause-said : goal.returns-in-Ok-clause-said
+returns-in-Ok-clause-said c =
+    let o = c.args.options in
+    let text = c.args.text.now in
+    let h = c.in-Ok.ensures.ok in
+    IfOk-weaker c.accepted.result (λ (out : Rejection). Says [] Other [] out) (λ (out : Rejection). ExplainsRead o text out)
+    (λ out says. inl ((h.value, record { tree = h.tree; text = h.text; meaning = h.meaning }), says)) c.accepted.ensures.said
+
+pub returns-in-Ok-clause-long : goal.returns-in-Ok-clause-long
+returns-in-Ok-clause-long c =
+    let o = c.args.options in
+    let text = c.args.text.now in
+    IfErr-weaker c.accepted.result (λ (e : PathError). e ≡ sizes.OutOfMemory)
+    (λ (e : PathError). IsUnexplained e (λ fault. IsRefusedIn o fault text)) (λ e is told. absurd (told is))
+    c.accepted.ensures.memory
+
+-- the arm before this one is that of running out of memory
+told : (c : goal.Joined-fault) → c.in-Err.fault ≡ OutOfMemory → ⊥
+told c none = search rules
+
+pub returns-clause-said : goal.returns-clause-said
+returns-clause-said c =
+    let o = c.args.options in
+    let text = c.args.text.now in
+    let fault = c.in-Err.fault in
+    IfOk-weaker c.rejected.result (λ (out : Rejection). IsError text fault out) (λ (out : Rejection). ExplainsRead o text out)
+    (λ out is. inr (fault, c.in-Err.ensures.fault, told c, is)) c.rejected.ensures.said
+
+pub returns-clause-long : goal.returns-clause-long
+returns-clause-long c =
+    let o = c.args.options in
+    let text = c.args.text.now in
+    let fault = c.in-Err.fault in
+    IfErr-weaker c.rejected.result (λ (e : PathError). e ≢ sizes.OutOfMemory → IsLongPath fault)
+    (λ (e : PathError). IsUnexplained e (λ f. IsRefusedIn o f text))
+    (λ e long some. (fault, c.in-Err.ensures.fault, long some)) c.rejected.ensures.long

@@ -1,0 +1,95 @@
+//! The path to a wrong value, as bytes of BSON.
+ghost use Rattle.std.specs.Prelude.{◌≡◌, ◌≤◌, ◌++◌, decimal, length, map, IfOk, IfErr, OnOk};
+ghost use Rattle.bson_convert.specs.Convert.{newline};
+ghost use Rattle.bson_bytes.specs.Putting.{put_pairs, Puts};
+ghost use Rattle.bson_bytes.specs.Writing.{document_bytes, FitsDocument};
+ghost use Rattle.bson_bytes.specs.declared.error.Error.TheVariants as errors;
+ghost use Rattle.bson_model.specs.Value.{no_pairs, pair};
+ghost use Rattle.bson_place.specs.Place.{segment_of};
+ghost use Rattle.vbson.specs.Path.{index_value, name_value, path_pairs, value_of};
+
+use bson_bytes::error::Error;
+use bson_bytes::put::{put_end, put_key, put_room, put_text, put_u64};
+use bson_place::place::Segment;
+use bson_types::spec::ElementType;
+use std::alloc::Global;
+
+/// Returns the bytes of a path, whose segments lead from the value outward, and a newline.
+///
+/// # Errors
+///
+/// - `Size`: the path has 2^31 bytes or more.
+/// - `OutOfMemory`: an allocation failed.
+pub fn path_line(alloc: Global, segments: &[Segment]) -> Result<Vec<u8>, Error>
+    ensures ok { IfOk result (λ out. out.items
+        ≡ document_bytes (path_pairs (map segment_of segments.now)) ++ newline) }
+    ensures only { FitsDocument (path_pairs (map segment_of segments.now))
+        → IfErr result (λ e. e ≡ errors.OutOfMemory) }
+{
+    let mut line = path_bytes(alloc, segments)?;
+    line.push(b'\n')?;
+    Ok(line)
+}
+
+// The bytes of a path.
+fn path_bytes(alloc: Global, segments: &[Segment]) -> Result<Vec<u8>, Error>
+    ensures ok { IfOk result (λ out. out.items ≡ document_bytes (path_pairs (map segment_of segments.now))) }
+    ensures only { FitsDocument (path_pairs (map segment_of segments.now))
+        → IfErr result (λ e. e ≡ errors.OutOfMemory) }
+{
+    let mut out = Vec::new(alloc);
+    put_room(&mut out)?;
+    put_segments(alloc, &mut out, segments)?;
+    put_end(&mut out, 0)?;
+    Ok(out)
+}
+
+// Appends the elements of a path, the outermost first.
+fn put_segments(alloc: Global, out: &mut Vec<u8>, segments: &[Segment]) -> Result<(), Error>
+    ensures put { Puts result out.new.items (put_pairs (path_pairs (map segment_of segments.now)) out.old.items) }
+    ensures grows { OnOk result (length out.old.items ≤ length out.new.items) }
+{
+    let Some((segment, outer)) = segments.split_first() else {
+        return Ok(());
+    };
+    put_segments(alloc, out, outer)?;
+    put_segment(alloc, out, outer.len(), segment)
+}
+
+// Appends a segment, under its number as its key.
+fn put_segment(
+    alloc: Global,
+    out: &mut Vec<u8>,
+    number: usize,
+    segment: &Segment,
+) -> Result<(), Error>
+    ensures put { Puts result out.new.items
+        (put_pairs (pair (decimal number) (value_of (segment_of segment.now)) no_pairs) out.old.items) }
+    ensures grows { OnOk result (length out.old.items ≤ length out.new.items) }
+{
+    let key = format!(in alloc; "{number}")?;
+    match segment {
+        Segment::Key(name) => put_name(out, &key, name.as_str()),
+        Segment::Element(index) => put_index(out, &key, *index),
+    }
+}
+
+// Appends a string with its key.
+#[tactic(auto, unfolding(bson_bytes::specs::Putting::put_value))]
+fn put_name(out: &mut Vec<u8>, key: &str, name: &str) -> Result<(), Error>
+    ensures put { Puts result out.new.items (put_pairs (pair key.now (name_value name.now) no_pairs) out.old.items) }
+    ensures grows { OnOk result (length out.old.items ≤ length out.new.items) }
+{
+    put_key(out, ElementType::String, key)?;
+    put_text(out, name)
+}
+
+// Appends an integer of 64 bits with its key.
+#[tactic(auto, unfolding(bson_bytes::specs::Putting::put_value))]
+fn put_index(out: &mut Vec<u8>, key: &str, index: usize) -> Result<(), Error>
+    ensures put { Puts result out.new.items (put_pairs (pair key.now (index_value index) no_pairs) out.old.items) }
+    ensures grows { OnOk result (length out.old.items ≤ length out.new.items) }
+{
+    put_key(out, ElementType::Int64, key)?;
+    Ok(put_u64(out, index as u64)?)
+}
