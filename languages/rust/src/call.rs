@@ -149,6 +149,11 @@ fn expect_ok(status: u32) -> Result<(), ErrorKind> {
     }
 }
 
+/// The kind of error of a status; `None` for `OK`.
+pub fn kind_of(status: u32) -> Option<ErrorKind> {
+    expect_ok(status).err()
+}
+
 /// The status of a kind of error, except of input and output.
 pub fn status_of(kind: ErrorKind) -> Option<u32> {
     Some(match kind {

@@ -2,7 +2,7 @@
 use crate::block::Block;
 use crate::explain::{of_documents, of_lines, RefusedDocument};
 use crate::text::owned;
-use crate::{call, Bytes, Error, Mode, Options, Text};
+use crate::{call, convert_with, encode, Bytes, Error, Mode, Options, Text};
 
 /// The result for a block of lines.
 #[derive(Debug)]
@@ -26,7 +26,8 @@ pub struct Lines {
 pub fn convert_lines(mode: Mode, options: Options, block: &[u8]) -> Result<Lines, Error> {
     let raw = call::convert_lines(mode as u32, options.flags(), block)?;
     let (text, diagnostics) = (owned(raw.text), owned(raw.diagnostics));
-    Ok(Lines { text, count: raw.lines, refused: of_lines(&diagnostics, block) })
+    let error_of = |line: &[u8]| convert_with(mode, options, line).expect_err("the line was rejected");
+    Ok(Lines { text, count: raw.lines, refused: of_lines(&diagnostics, block, error_of) })
 }
 
 /// The result for a block of lines that are encoded.
@@ -48,7 +49,8 @@ pub struct EncodedLines {
 pub fn encode_lines(options: Options, block: &[u8]) -> Result<EncodedLines, Error> {
     let raw = call::encode_lines(options.flags(), block)?;
     let (bytes, diagnostics) = (Bytes(Block::of(raw.text)), owned(raw.diagnostics));
-    Ok(EncodedLines { bytes, count: raw.lines, refused: of_lines(&diagnostics, block) })
+    let error_of = |line: &[u8]| encode(options, line).expect_err("the line was rejected");
+    Ok(EncodedLines { bytes, count: raw.lines, refused: of_lines(&diagnostics, block, error_of) })
 }
 
 /// The result for a block of documents.

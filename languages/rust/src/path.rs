@@ -1,4 +1,4 @@
-//! The path to a value, as keys and indexes: in the text of JSON, and in the bytes of a document.
+//! The path to a value, as keys and indexes, and the path to an error in the bytes of a document.
 use std::fmt::{self, Write};
 use std::ops::Deref;
 
@@ -35,6 +35,12 @@ impl Deref for Path {
     }
 }
 
+impl FromIterator<PathElement> for Path {
+    fn from_iter<I: IntoIterator<Item = PathElement>>(elements: I) -> Path {
+        Path(elements.into_iter().collect())
+    }
+}
+
 impl From<&str> for PathElement {
     fn from(key: &str) -> PathElement {
         PathElement::Key(key.to_owned())
@@ -64,115 +70,6 @@ impl fmt::Display for PathElement {
 impl fmt::Display for Path {
     fn fmt(&self, f: &mut fmt::Formatter<'_>) -> fmt::Result {
         self.0.iter().enumerate().try_for_each(|(at, it)| write!(f, "{}{it}", if at == 0 { "" } else { "." }))
-    }
-}
-
-/// The first path in a JSON text that is displayed as the words. If there is none, since the words are cut off or the text
-/// has another form, the words are split at their points.
-pub(crate) fn in_text(text: &[u8], words: &str) -> Path {
-    let mut scanner = Scanner { text, at: 0, path: Vec::new() };
-    if words.is_empty() || scanner.find(Some(words)) == Some(true) {
-        return Path(scanner.path);
-    }
-    let is_index = |it: &str| !it.is_empty() && it.bytes().all(|byte| byte.is_ascii_digit());
-    let element = |it: &str| it.parse().ok().filter(|_| is_index(it)).map_or(it.into(), PathElement::Index);
-    Path(words.split('.').map(element).collect())
-}
-
-/// A reader of a JSON text. On input that is not JSON its methods end with `None`.
-struct Scanner<'a> {
-    text: &'a [u8],
-    at: usize,
-    path: Vec<PathElement>,
-}
-
-impl Scanner<'_> {
-    /// Reads a value, and returns whether the path to a value inside it is displayed as the words. It is then in `path`.
-    fn find(&mut self, words: Option<&str>) -> Option<bool> {
-        match self.next()? {
-            b'"' => self.string().map(|_| false),
-            opening @ (b'{' | b'[') => {
-                self.at += 1;
-                self.find_inside(opening == b'{', words)
-            }
-            _ => {
-                let is_end = |it: &u8| b",]} \t\r\n".contains(it);
-                self.at += self.text[self.at..].iter().position(is_end).unwrap_or(self.text.len() - self.at);
-                Some(false)
-            }
-        }
-    }
-
-    fn find_inside(&mut self, is_object: bool, words: Option<&str>) -> Option<bool> {
-        for index in 0.. {
-            if self.next()? == b',' {
-                self.at += 1;
-            }
-            if matches!(self.next()?, b'}' | b']') {
-                self.at += 1;
-                break;
-            }
-            let element = if is_object { PathElement::Key(self.key()?) } else { PathElement::Index(index) };
-            let rest = words.and_then(|it| it.strip_prefix(&element.to_string()));
-            self.path.push(element);
-            if rest == Some("") || self.find(rest.and_then(|it| it.strip_prefix('.')))? {
-                return Some(true);
-            }
-            self.path.pop();
-        }
-        Some(false)
-    }
-
-    /// The next byte that is not white space.
-    fn next(&mut self) -> Option<u8> {
-        self.at += self.text.get(self.at..)?.iter().position(|it| !b" \t\r\n".contains(it))?;
-        Some(self.text[self.at])
-    }
-
-    /// A string and the colon after it.
-    fn key(&mut self) -> Option<String> {
-        let key = self.string()?;
-        self.next()?;
-        self.at += 1;
-        Some(key)
-    }
-
-    fn string(&mut self) -> Option<String> {
-        let (mut bytes, mut units) = (Vec::new(), Vec::new());
-        self.at += 1;
-        loop {
-            let byte = *self.text.get(self.at)?;
-            self.at += 1;
-            if byte == b'\\' {
-                let (unit, length) = escape(self.text.get(self.at..)?)?;
-                units.push(unit);
-                self.at += length;
-                continue;
-            }
-            bytes.extend(String::from_utf16_lossy(&units).bytes());
-            units.clear();
-            if byte == b'"' {
-                return Some(String::from_utf8_lossy(&bytes).into_owned());
-            }
-            bytes.push(byte);
-        }
-    }
-}
-
-/// The UTF-16 unit of an escape, and the length of what follows its backslash.
-fn escape(text: &[u8]) -> Option<(u16, usize)> {
-    let simple = |it: u8| Some((u16::from(it), 1));
-    match text.first()? {
-        b'b' => simple(8),
-        b'f' => simple(12),
-        b'n' => simple(b'\n'),
-        b'r' => simple(b'\r'),
-        b't' => simple(b'\t'),
-        b'u' => {
-            let digits = std::str::from_utf8(text.get(1..5)?).ok()?;
-            Some((u16::from_str_radix(digits, 16).ok()?, 5))
-        }
-        other => simple(*other),
     }
 }
 
@@ -289,26 +186,4 @@ fn double_inside(data: &[u8], at: usize, is_array: bool) -> Option<Vec<PathEleme
         path.push(it.name);
         Some(path)
     })
-}
-
-#[cfg(test)]
-mod tests {
-    use super::*;
-
-    fn shown(text: &str, words: &str) -> Vec<PathElement> {
-        in_text(text.as_bytes(), words).to_vec()
-    }
-
-    #[test]
-    fn paths_are_found_in_texts() {
-        let text = r#" {"x" : [1, "a,]", {"b.c" : [ true , {"d\u0007\n":{"0":[]}} ] } ], "\ud83d\ude00":{ "":-1.5e3}}"#;
-        assert_eq!(shown(text, "x.2.b.c.1"), ["x".into(), 2.into(), "b.c".into(), 1.into()]);
-        assert_eq!(shown(text, r"x.2.b.c.1.d\u0007\u000a.0"), ["x".into(), 2.into(), "b.c".into(), 1.into(), "d\u{7}\n".into(), "0".into()]);
-        assert_eq!(shown(text, "\u{1f600}."), ["\u{1f600}".into(), "".into()]);
-        assert_eq!(shown(text, ""), []);
-        // (a path that is cut off, or of a text that is not JSON, is split)
-        assert_eq!(shown(text, "x.2.b.."), ["x".into(), 2.into(), "b".into(), "".into(), "".into()]);
-        assert_eq!(shown("[1, {\"a", "1.a"), [1.into(), "a".into()]);
-        assert_eq!(shown("", "a"), ["a".into()]);
-    }
 }
