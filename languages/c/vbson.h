@@ -2,7 +2,7 @@
  * For C11 and C++ on x86-64 Linux with glibc. The processor must have SSE4.2 and POPCNT (x86-64-v2).
  *
  * Each call except vbson_version returns a status of the list below: VBSON_OK if it did its work. On every other status
- * its arguments are unchanged, except that VBSON_BUFFER_TOO_SMALL sets *len.
+ * its arguments are unchanged, except that VBSON_BUFFER_TOO_SMALL sets *len, or the builder's needed.
  *
  * What the caller must guarantee on every call (nothing checks it):
  *   - A pointer with a length points to that many readable bytes (writable, if not const) for the whole call. The length
@@ -343,6 +343,112 @@ uint32_t vbson_raw_date_time(const vbson_raw_value *value, int64_t *out);
 
 /* Reads the subtype and the bytes of binary data. VBSON_UNEXPECTED_TYPE. */
 uint32_t vbson_raw_binary(const vbson_raw_value *value, uint32_t *subtype, vbson_slice *out);
+
+/* ---- build documents
+ *
+ * A builder appends elements to documents in the caller's memory. The calls allocate nothing. If the memory is too small, a
+ * call changes nothing but builder->needed, and returns VBSON_BUFFER_TOO_SMALL; vbson_builder_reserve makes it larger.
+ * Documents nest: keep the start that each begin call sets, and pass it to vbson_document_end. A finished document is the
+ * bytes from its start up to builder->len, and the next one can follow it. The bytes are canonical if the keys of each array
+ * are "0", "1", "2" .. in this order, and no key of a document is appended twice. */
+typedef struct vbson_builder {
+    uint8_t *bytes; /* the memory of the caller */
+    size_t size;    /* the size of the memory */
+    size_t len;     /* the number of bytes that are built */
+    size_t needed;  /* after VBSON_BUFFER_TOO_SMALL the size that the call needs */
+} vbson_builder;
+
+/* A builder with no memory yet, for vbson_builder_reserve. */
+#define VBSON_BUILDER_INIT { VBSON_CAST(uint8_t *, VBSON_CAST(uintptr_t, "")), 0, 0, 0 }
+
+/* Makes room for so many more bytes. Use it only if the memory is from this call. VBSON_OK, or VBSON_OUT_OF_MEMORY. */
+static inline uint32_t vbson_builder_reserve(vbson_builder *builder, size_t more) {
+    size_t size = builder->size < SIZE_MAX / 4 ? 2 * builder->size : builder->size;
+    void *bytes;
+    if (more <= builder->size - builder->len) return VBSON_OK;
+    if (more > SIZE_MAX / 4 - builder->len) return VBSON_OUT_OF_MEMORY;
+    if (size < builder->len + more) size = builder->len + more;
+    bytes = realloc(builder->size != 0 ? builder->bytes : NULL, size);
+    if (bytes == NULL) return VBSON_OUT_OF_MEMORY;
+    builder->bytes = VBSON_CAST(uint8_t *, bytes);
+    builder->size = size;
+    return VBSON_OK;
+}
+
+/* Frees the memory, if it is from vbson_builder_reserve; afterwards the builder is VBSON_BUILDER_INIT. */
+static inline void vbson_builder_free(vbson_builder *builder) {
+    if (builder->size != 0) free(builder->bytes);
+    builder->bytes = VBSON_CAST(uint8_t *, VBSON_CAST(uintptr_t, ""));
+    builder->size = builder->len = builder->needed = 0;
+}
+
+/* Begins a document, and sets *start to its position. VBSON_BUFFER_TOO_SMALL. */
+uint32_t vbson_document_begin(vbson_builder *builder, size_t *start);
+
+/* Ends the document or the array that begins at the start: writes its length. VBSON_INVALID_ARGUMENT if the builder has
+ * fewer than four bytes from the start on. VBSON_TOO_LONG, VBSON_BUFFER_TOO_SMALL. */
+uint32_t vbson_document_end(vbson_builder *builder, size_t start);
+
+/* Appends a key, and begins a document as its value. *start is set for vbson_document_end.
+ * VBSON_INVALID_STRING if the key is not UTF-8. VBSON_ZERO_IN_KEY, VBSON_BUFFER_TOO_SMALL. */
+uint32_t vbson_append_document_begin(vbson_builder *builder, const uint8_t *key, size_t key_len, size_t *start);
+
+/* Appends a key, and begins an array as its value. *start is set for vbson_document_end.
+ * VBSON_INVALID_STRING if the key is not UTF-8. VBSON_ZERO_IN_KEY, VBSON_BUFFER_TOO_SMALL. */
+uint32_t vbson_append_array_begin(vbson_builder *builder, const uint8_t *key, size_t key_len, size_t *start);
+
+/* Appends a key and a value of the caller's bytes, for example of another document. Its first len bytes are copied, and not
+ * checked. VBSON_INVALID_ARGUMENT if its type is not one of vbson_type, or its len is greater than its size.
+ * VBSON_INVALID_STRING if the key is not UTF-8. VBSON_ZERO_IN_KEY, VBSON_BUFFER_TOO_SMALL. */
+uint32_t vbson_append_value(vbson_builder *builder, const uint8_t *key, size_t key_len, const vbson_raw_value *value);
+
+/* Appends a key and a document, which is checked by vbson_is_document: VBSON_NOT_A_DOCUMENT.
+ * VBSON_INVALID_STRING if the key is not UTF-8. VBSON_ZERO_IN_KEY, VBSON_BUFFER_TOO_SMALL. */
+uint32_t vbson_append_document(vbson_builder *builder, const uint8_t *key, size_t key_len, const uint8_t *bytes, size_t len);
+
+/* Appends a key and an array, whose bytes are those of a document, which is checked by vbson_is_document: VBSON_NOT_A_DOCUMENT.
+ * VBSON_INVALID_STRING if the key is not UTF-8. VBSON_ZERO_IN_KEY, VBSON_BUFFER_TOO_SMALL. */
+uint32_t vbson_append_array(vbson_builder *builder, const uint8_t *key, size_t key_len, const uint8_t *bytes, size_t len);
+
+/* Appends a key and an integer of 32 bits.
+ * VBSON_INVALID_STRING if the key is not UTF-8. VBSON_ZERO_IN_KEY, VBSON_BUFFER_TOO_SMALL. */
+uint32_t vbson_append_int32(vbson_builder *builder, const uint8_t *key, size_t key_len, int32_t value);
+
+/* Appends a key and an integer of 64 bits.
+ * VBSON_INVALID_STRING if the key is not UTF-8. VBSON_ZERO_IN_KEY, VBSON_BUFFER_TOO_SMALL. */
+uint32_t vbson_append_int64(vbson_builder *builder, const uint8_t *key, size_t key_len, int64_t value);
+
+/* Appends a key and a double, by its bit pattern; copy the double into it by memcpy.
+ * VBSON_INVALID_STRING if the key is not UTF-8. VBSON_ZERO_IN_KEY, VBSON_BUFFER_TOO_SMALL. */
+uint32_t vbson_append_double(vbson_builder *builder, const uint8_t *key, size_t key_len, uint64_t value);
+
+/* Appends a key and a boolean: 0 is false, and any other number is true.
+ * VBSON_INVALID_STRING if the key is not UTF-8. VBSON_ZERO_IN_KEY, VBSON_BUFFER_TOO_SMALL. */
+uint32_t vbson_append_boolean(vbson_builder *builder, const uint8_t *key, size_t key_len, uint32_t value);
+
+/* Appends a key and the null value.
+ * VBSON_INVALID_STRING if the key is not UTF-8. VBSON_ZERO_IN_KEY, VBSON_BUFFER_TOO_SMALL. */
+uint32_t vbson_append_null(vbson_builder *builder, const uint8_t *key, size_t key_len);
+
+/* Appends a key and a string, which can contain a 0 byte.
+ * VBSON_INVALID_STRING if the key or the string is not UTF-8. VBSON_ZERO_IN_KEY, VBSON_TOO_LONG, VBSON_BUFFER_TOO_SMALL. */
+uint32_t vbson_append_string(vbson_builder *builder, const uint8_t *key, size_t key_len, const uint8_t *text, size_t len);
+
+/* Appends a key and an object id.
+ * VBSON_INVALID_STRING if the key is not UTF-8. VBSON_ZERO_IN_KEY, VBSON_BUFFER_TOO_SMALL. */
+uint32_t vbson_append_object_id(vbson_builder *builder, const uint8_t *key, size_t key_len, const uint8_t id[12]);
+
+/* Appends a key and a date-time, in milliseconds since 1970-01-01T00:00:00Z.
+ * VBSON_INVALID_STRING if the key is not UTF-8. VBSON_ZERO_IN_KEY, VBSON_BUFFER_TOO_SMALL. */
+uint32_t vbson_append_date_time(vbson_builder *builder, const uint8_t *key, size_t key_len, int64_t millis);
+
+/* Appends a key and binary data with a subtype. VBSON_INVALID_ARGUMENT if the subtype is greater than 255.
+ * VBSON_INVALID_STRING if the key is not UTF-8. VBSON_ZERO_IN_KEY, VBSON_TOO_LONG, VBSON_BUFFER_TOO_SMALL. */
+uint32_t vbson_append_binary(vbson_builder *builder, const uint8_t *key, size_t key_len, uint32_t subtype, const uint8_t *bytes, size_t len);
+
+/* Appends a key and a decimal of 128 bits, the lowest byte first.
+ * VBSON_INVALID_STRING if the key is not UTF-8. VBSON_ZERO_IN_KEY, VBSON_BUFFER_TOO_SMALL. */
+uint32_t vbson_append_decimal128(vbson_builder *builder, const uint8_t *key, size_t key_len, const uint8_t bytes[16]);
 
 /* ---- scalars
  *

@@ -10,7 +10,8 @@ HEADER = LANGUAGES / "c/vbson.h"
 PACKAGE = LANGUAGES / "python/vbson"
 NUMBERS = {"u32": "uint32_t", "i32": "int32_t", "i64": "int64_t", "u64": "uint64_t", "usize": "size_t"}
 STRUCTS = {"Text<'static>": "vbson_buffer", "Lines<'static>": "vbson_lines", "Documents<'static>": "vbson_documents",
-           "Slice<'a>": "vbson_slice", "RawValue<'a>": "vbson_raw_value", "RawValue<'_>": "vbson_raw_value"}
+           "Slice<'a>": "vbson_slice", "RawValue<'a>": "vbson_raw_value", "RawValue<'_>": "vbson_raw_value",
+           "Builder<'_>": "vbson_builder"}
 EXPORT = re.compile(
     r'#\[unsafe\(no_mangle\)\]\npub (?:unsafe )?extern "C" fn (\w+)(?:<.a>)?\(([^)]*)\) -> (\w+)\n(.*?)\n\{\n', re.S)
 
@@ -55,7 +56,7 @@ def of_rust(name, kind):
     found = re.fullmatch(r"\*(const|mut) (?:\[u8; (\d+)\]|(\w+))", kind)
     const = "const " if found[1] == "const" else ""
     kinds = {"u8": "uint8_t", "RawText": "vbson_buffer", "RawLines": "vbson_lines", "RawDocuments": "vbson_documents",
-             "RawSlice": "vbson_slice", "RawValue": "vbson_raw_value", **NUMBERS}
+             "RawSlice": "vbson_slice", "RawValue": "vbson_raw_value", "RawBuilder": "vbson_builder", **NUMBERS}
     if found[2]:
         return f"{const}uint8_t {name}[{found[2]}]"
     return f"{const}{kinds[found[3]]} *{name}"
@@ -201,7 +202,7 @@ def block_fault(name, file, numbers):
     return None if has_fields and names == ["vbson_buffer text", "vbson_buffer diagnostics", *(f"uint64_t {it}" for it in numbers)] else f"{names}"
 
 
-# The fields of the structs of raw documents: in the sources, in the wrapper in Rust and in C.
+# The fields of the structs of documents that are bytes: in the sources, in the wrapper in Rust and in C.
 RAW = {
     "vbson_slice": ("pub struct Slice<'a> {\n    pub bytes: &'a [u8],\n}",
                     "pub struct RawSlice {\n    pub bytes: *const u8,\n    pub len: usize,\n}",
@@ -209,13 +210,17 @@ RAW = {
     "vbson_raw_value": ("pub struct RawValue<'a> {\n    pub bytes: &'a [u8],\n    pub len: usize,\n    pub kind: u8,\n}",
                         "pub struct RawValue {\n    pub bytes: *const u8,\n    pub size: usize,\n    pub len: usize,\n    pub kind: u8,\n}",
                         ["const uint8_t *bytes", "size_t size", "size_t len", "uint8_t type"]),
+    "vbson_builder": ("pub struct Builder<'a> {\n    pub bytes: &'a mut [u8],\n    pub len: usize,\n    pub needed: usize,\n}",
+                      "pub struct RawBuilder {\n    pub bytes: *mut u8,\n    pub size: usize,\n    pub len: usize,\n    pub needed: usize,\n}",
+                      ["uint8_t *bytes", "size_t size", "size_t len", "size_t needed"]),
 }
 
 
 def raw_fault(name):
-    """A struct of raw documents, as the sources, the header and the wrapper in Rust have it."""
+    """A struct of documents that are bytes, as the sources, the header and the wrapper in Rust have it."""
     source, rust, wanted = RAW[name]
-    has_fields = source in (SOURCES / "raw.rt").read_text() and rust in (LANGUAGES / "rust/src/call.rs").read_text()
+    sources = "".join((SOURCES / f"{it}.rt").read_text() for it in ("raw", "builder"))
+    has_fields = source in sources and rust in (LANGUAGES / "rust/src/call.rs").read_text()
     fields = re.search(rf"typedef struct {name} \{{(.*?)\}} {name};", HEADER.read_text(), flags=re.S)[1]
     names = re.findall(r"(\S[^;/*]*\*?\w+);", re.sub(r"/\*.*?\*/", "", fields))
     return None if has_fields and names == wanted else f"{names}"

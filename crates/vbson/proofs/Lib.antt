@@ -1,6 +1,8 @@
+mod Appending
 mod Causes
 mod Decoding
 mod Dumps
+mod Elements
 mod Explained
 mod Preprocessed
 mod RawValues

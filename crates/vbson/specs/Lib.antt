@@ -1,4 +1,5 @@
 pub mod Buffer
+pub mod Builder
 pub mod Convert
 pub mod Documents
 pub mod Dumps

@@ -7,11 +7,14 @@
 //! order: `status`, `flags`, `text` (a text that the caller has and frees) with `convert` (one text
 //! to another), `explain` (why a text is refused, and where) and `lines` (a block of lines), `values` (two texts by what they
 //! mean), `documents` (whether bytes are a document of BSON) with `decode` (their text), `encode`
-//! (the bytes of a text) and `dump` (a block of documents), `raw` (values of documents that remain bytes), and `buffer` (a buffer of the caller's) with `scalars` (decimals, object ids,
-//! moments).
+//! (the bytes of a text) and `dump` (a block of documents), `raw` (values of documents that remain bytes), `builder` (documents in the
+//! caller's memory) with `append` (their elements), and `buffer` (a buffer of the caller's) with
+//! `scalars` (decimals, object ids, moments).
 #![tactic(auto)]
 
+mod append;
 mod buffer;
+mod builder;
 mod convert;
 mod decode;
 mod documents;

@@ -1,0 +1,93 @@
+-- Documents that are built in the caller's memory.
+use Rattle.std.specs.Prelude.{◌≡◌, ◌≢◌, ◌≤◌, ◌<◌, ◌+◌, ◌-◌, ◌^◌, ◌++◌, ℕ, Bool, List, [], ◌∷◌, length, take, drop, min, nat_lt}
+use Rattle.bson_bytes.specs.Grammar.{IsName, IsSize, NoZero, framed}
+use Rattle.bson_bytes.specs.Writing.{name_bytes, items_bytes, list_bytes, scalar_bytes}
+use Rattle.bson_model.specs.Value.{Value, Values, no_values, value, Pairs, no_pairs, pair}
+use Rattle.bson_scalar.specs.ElementType.{scalar_type}
+use Rattle.bson_scalar.specs.Scalar.{Scalar}
+use Rattle.bson_types.specs.declared.spec.ElementType.{ElementType}
+use Rattle.vbson.specs.declared.builder.Builder.{Builder}
+use Rattle.vbson.specs.declared.builder.Element.{Element}
+
+-- the bytes that are built
+abbrev pub built : Builder → List ℕ
+built b = take b.len b.bytes.now
+
+-- the builder has the same memory, in which as many bytes are built
+pub record IsKept (before after : Builder) : Type 0 where
+  pub bytes : after.bytes.now ≡ before.bytes.now
+  pub len : after.len ≡ before.len
+
+-- the bytes are built after those before, and what follows is as before
+pub record IsAppended (bytes : List ℕ) (before after : Builder) : Type 0 where
+  pub fits : before.len + length bytes ≤ length before.bytes.now
+  pub built : built after ≡ built before ++ bytes
+  pub len : after.len ≡ before.len + length bytes
+  pub rest : drop after.len after.bytes.now ≡ drop after.len before.bytes.now
+  pub size : length after.bytes.now ≡ length before.bytes.now
+
+-- the memory is too small for so many bytes more, and this is the size that they need
+pub record IsTooSmall (more : ℕ) (before after : Builder) : Type 0 where
+  pub short : length before.bytes.now < before.len + more
+  pub needed : after.needed ≡ min (before.len + more) (2 ^ 64 - 1)
+
+-- an element of the type is appended, with the key and the bytes of the value; or this status says why not
+pub record Appends (type : ElementType) (key bytes : List ℕ) (status : ℕ) (before after : Builder) : Type 0 where
+  pub done : status ≡ 0 → IsName key × IsAppended (name_bytes type key ++ bytes) before after
+  pub too_small : status ≡ 8 → IsName key × IsTooSmall (length (name_bytes type key ++ bytes)) before after
+  pub zero_in_key : status ≡ 11 → NoZero key → ⊥
+  pub kept : 0 < status → IsKept before after
+  pub needed : status ≢ 8 → after.needed ≡ before.needed
+  pub memory : after.bytes.ghost_name ≡ before.bytes.ghost_name
+
+-- the same of an element with this scalar
+abbrev pub AppendsScalar : List ℕ → Scalar → ℕ → Builder → Builder → Type 0
+AppendsScalar key x status before after = Appends (scalar_type x) key (scalar_bytes x) status before after
+
+-- a number as a boolean
+abbrev pub is_true : ℕ → Bool
+is_true n = nat_lt 0 n
+
+-- the bytes of a length that is not known yet
+abbrev pub no_length : List ℕ
+no_length = 0 ∷ 0 ∷ 0 ∷ 0 ∷ []
+
+-- the bytes from the start on become a document: its length is set, and its last byte is appended
+pub record IsEnded (start : ℕ) (before after : Builder) : Type 0 where
+  pub starts : start + 4 ≤ before.len
+  pub fits : before.len + 1 ≤ length before.bytes.now
+  pub counts : IsSize (before.len - start + 1)
+  pub built : built after ≡ take start (built before) ++ framed (drop (start + 4) (built before))
+  pub len : after.len ≡ before.len + 1
+  pub rest : drop after.len after.bytes.now ≡ drop after.len before.bytes.now
+  pub size : length after.bytes.now ≡ length before.bytes.now
+
+-- ---- what is built between the beginning of a document and its end
+
+-- after the front a document is begun, and these are its pairs so far
+abbrev pub IsOpen : List ℕ → Pairs → Builder → Type 0
+IsOpen front ps b = built b ≡ front ++ (no_length ++ list_bytes ps)
+
+-- after the front an array is begun, and these are its values so far
+abbrev pub IsOpenArray : List ℕ → Values → Builder → Type 0
+IsOpenArray front vs b = built b ≡ front ++ (no_length ++ items_bytes 0 vs)
+
+-- the pairs, and one more
+abbrev pub and_pair : Pairs → List ℕ → Value → Pairs
+and_pair no_pairs l w = pair l w no_pairs
+and_pair (pair k v ps) l w = pair k v (and_pair ps l w)
+
+-- the values, and one more
+abbrev pub and_value : Values → Value → Values
+and_value no_values w = value w no_values
+and_value (value v vs) w = value v (and_value vs w)
+
+-- these bytes are built after those before
+abbrev pub IsBuilt : List ℕ → Builder → Builder → Type 0
+IsBuilt bytes before after = built after ≡ built before ++ bytes
+
+-- ---- for private clauses
+
+-- the bytes of the element's value
+abbrev pub value_in : Element → List ℕ
+value_in e = e.head.now ++ (e.body.now ++ e.tail.now)

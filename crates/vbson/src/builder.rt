@@ -1,0 +1,210 @@
+//! Documents that are built in the caller's memory.
+ghost use Rattle.std.specs.Prelude.{◌≡◌, ◌≢◌, ◌≤◌, ◌<◌, ◌+◌, ◌-◌, ◌^◌, ◌++◌, ◌⊎◌, IsTrue, ℕ, List, drop, length, min, take};
+ghost use Rattle.std.specs.Prelude.{decimal, false};
+ghost use Rattle.std.specs.Int.{w32};
+ghost use Rattle.std.specs.Str.{is_utf8};
+ghost use Rattle.bson_bytes.specs.Grammar.{IsSize, le};
+ghost use Rattle.bson_bytes.specs.Writing.{document_bytes, list_bytes, name_bytes, type_of, value_bytes};
+ghost use Rattle.bson_model.specs.Feed.{items_count};
+ghost use Rattle.bson_model.specs.Value.{Pairs, Value, Values, array, no_pairs, no_values};
+ghost use Rattle.vbson.specs.Builder.{Appends, IsAppended, IsBuilt, IsEnded, IsKept, IsOpen, IsOpenArray, IsTooSmall};
+ghost use Rattle.vbson.specs.Builder.{and_pair, and_value, built, no_length, value_in};
+
+use crate::status;
+use bson_bytes::parts::is_free;
+use bson_types::spec::ElementType;
+use std::str;
+
+/// Documents in the caller's memory: the memory, how many bytes are built, and the size that a call
+/// needed.
+#[repr(C)]
+pub struct Builder<'a> {
+    pub bytes: &'a mut [u8],
+    pub len: usize,
+    pub needed: usize,
+}
+
+/// An element in its parts: the bytes of its value are the head, the body and the tail.
+#[derive(Clone, Copy)]
+pub struct Element<'a> {
+    pub kind: ElementType,
+    pub key: &'a [u8],
+    pub head: &'a [u8],
+    pub body: &'a [u8],
+    pub tail: &'a [u8],
+}
+
+/// Begins a document, and sets the position of its beginning.
+#[unsafe(no_mangle)]
+pub extern "C" fn vbson_document_begin(builder: &mut Builder<'_>, start: &mut usize) -> u32
+    ensures done { result ≡ 0 → IsAppended no_length builder.old builder.new × (start.new ≡ builder.old.len) }
+    ensures too_small { result ≡ 8 → IsTooSmall 4 builder.old builder.new }
+    ensures listed { (result ≡ 0) ⊎ (result ≡ 8) }
+    ensures kept { 0 < result → IsKept builder.old builder.new × (start.new ≡ start.old) }
+    ensures needed { result ≢ 8 → builder.new.needed ≡ builder.old.needed }
+    ensures memory { builder.new.bytes.ghost_name ≡ builder.old.bytes.ghost_name }
+{
+    if !has_room(builder, 4) {
+        return status::BUFFER_TOO_SMALL;
+    }
+    *start = builder.len;
+    put(builder, &[0, 0, 0, 0]);
+    status::OK
+}
+
+/// Ends the document or the array whose beginning is at the start: sets its length, and appends its
+/// last byte.
+#[unsafe(no_mangle)]
+pub extern "C" fn vbson_document_end(builder: &mut Builder<'_>, start: usize) -> u32
+    ensures done { result ≡ 0 → IsEnded start builder.old builder.new }
+    // The elements become the canonical bytes of the document of their pairs, or of the array of their values.
+    ensures document { (front : List ℕ) (ps : Pairs) → result ≡ 0 → start ≡ length front → IsOpen front ps builder.old
+        → (built builder.new ≡ front ++ document_bytes ps) × IsSize (length (list_bytes ps) + 5) }
+    ensures array { (front : List ℕ) (vs : Values) → result ≡ 0 → start ≡ length front
+        → IsOpenArray front vs builder.old → built builder.new ≡ front ++ value_bytes (array vs) }
+
+    // When each other status comes, and that nothing is changed then.
+    ensures no_start { result ≡ 1 → builder.old.len < start + 4 }
+    ensures too_small { result ≡ 8 → IsTooSmall 1 builder.old builder.new }
+    ensures too_long { result ≡ 13 → 2 ^ 31 ≤ builder.old.len - start + 1 }
+    ensures listed { (result ≡ 0) ⊎ (result ≡ 1) ⊎ (result ≡ 8) ⊎ (result ≡ 13) }
+    ensures kept { 0 < result → IsKept builder.old builder.new }
+    ensures needed { result ≢ 8 → builder.new.needed ≡ builder.old.needed }
+    ensures memory { builder.new.bytes.ghost_name ≡ builder.old.bytes.ghost_name }
+{
+    if builder.len < 4 {
+        return status::INVALID_ARGUMENT;
+    }
+    if builder.len - 4 < start {
+        return status::INVALID_ARGUMENT;
+    }
+    if builder.len - start >= 0x7fff_ffff {
+        return status::TOO_LONG;
+    }
+    if !has_room(builder, 1) {
+        return status::BUFFER_TOO_SMALL;
+    }
+    put(builder, &[0]);
+    put_length(builder, start);
+    status::OK
+}
+
+/// Appends an element.
+pub fn append(builder: &mut Builder<'_>, element: Element<'_>) -> u32
+    ensures appended { Appends element.entry.kind element.entry.key.now (value_in element.entry) result builder.old builder.new }
+    ensures not_utf8 { result ≡ 6 → is_utf8 element.entry.key.now ≡ false }
+    ensures listed { (result ≡ 0) ⊎ (result ≡ 6) ⊎ (result ≡ 8) ⊎ (result ≡ 11) }
+{
+    if !is_free(element.key) {
+        return status::ZERO_IN_KEY;
+    }
+    if !is_text(element.key) {
+        return status::INVALID_STRING;
+    }
+    if !has_room(builder, size_of(element)) {
+        return status::BUFFER_TOO_SMALL;
+    }
+    put_name(builder, element);
+    put_value(builder, element);
+    status::OK
+}
+
+/// Returns whether the bytes are UTF-8.
+pub fn is_text(bytes: &[u8]) -> bool
+    ensures { result ≡ is_utf8 bytes.now }
+{
+    match str::from_utf8(bytes) {
+        Ok(_) => true,
+        Err(_) => false,
+    }
+}
+
+/// Returns whether there is room for so many bytes more. If not, it sets the size that they need.
+pub fn has_room(builder: &mut Builder<'_>, more: usize) -> bool
+    ensures fits { IsTrue result → builder.old.len + more ≤ length builder.old.bytes.now }
+    ensures same { IsTrue result → builder.new ≡ builder.old }
+    ensures too_small { result ≡ false → IsTooSmall more builder.old builder.new }
+    ensures kept { IsKept builder.old builder.new }
+    ensures memory { builder.new.bytes.ghost_name ≡ builder.old.bytes.ghost_name }
+{
+    let size = builder.len.saturating_add(more);
+    if size <= builder.bytes.len() {
+        return true;
+    }
+    builder.needed = size;
+    false
+}
+
+// Returns the number of bytes of the element.
+fn size_of(element: Element<'_>) -> usize
+    ensures { result ≡ min (length (name_bytes element.entry.kind element.entry.key.now ++ value_in element.entry)) (2 ^ 64 - 1) }
+{
+    let name = element.key.len() + 2;
+    let value = element.head.len().saturating_add(element.body.len());
+    name.saturating_add(value)
+        .saturating_add(element.tail.len())
+}
+
+fn put_name(builder: &mut Builder<'_>, element: Element<'_>)
+    requires { builder.old.len + length (name_bytes element.kind element.key.now) ≤ length builder.old.bytes.now }
+    ensures put { IsAppended (name_bytes element.entry.kind element.entry.key.now) builder.old builder.new }
+    ensures needed { builder.new.needed ≡ builder.old.needed }
+    ensures memory { builder.new.bytes.ghost_name ≡ builder.old.bytes.ghost_name }
+{
+    put(builder, &[element.kind.tag()]);
+    put(builder, element.key);
+    put(builder, &[0]);
+}
+
+fn put_value(builder: &mut Builder<'_>, element: Element<'_>)
+    requires { builder.old.len + length (value_in element) ≤ length builder.old.bytes.now }
+    ensures put { IsAppended (value_in element.entry) builder.old builder.new }
+    ensures needed { builder.new.needed ≡ builder.old.needed }
+    ensures memory { builder.new.bytes.ghost_name ≡ builder.old.bytes.ghost_name }
+{
+    put(builder, element.head);
+    put(builder, element.body);
+    put(builder, element.tail);
+}
+
+/// Appends bytes, for which there is room.
+pub fn put(builder: &mut Builder<'_>, bytes: &[u8])
+    requires { builder.old.len + length bytes.now ≤ length builder.old.bytes.now }
+    ensures put { IsAppended bytes.now builder.old builder.new }
+    ensures needed { builder.new.needed ≡ builder.old.needed }
+    ensures memory { builder.new.bytes.ghost_name ≡ builder.old.bytes.ghost_name }
+{
+    let end = builder.len + bytes.len();
+    builder.bytes[builder.len..end].copy_from_slice(bytes);
+    builder.len = end;
+}
+
+// Sets the length of the bytes from the start on.
+#[tactic(auto, unfolding(bson_bytes::specs::Grammar::le))]
+fn put_length(builder: &mut Builder<'_>, start: usize)
+    requires starts { start + 4 ≤ builder.old.len }
+    requires built { builder.old.len ≤ length builder.old.bytes.now }
+    requires counts { builder.old.len - start < 2 ^ 31 }
+    ensures built { built builder.new
+        ≡ take start (built builder.old) ++ (le w32 (builder.old.len - start) ++ drop (start + 4) (built builder.old)) }
+    ensures rest { drop builder.old.len builder.new.bytes.now ≡ drop builder.old.len builder.old.bytes.now }
+    ensures size { length builder.new.bytes.now ≡ length builder.old.bytes.now }
+    ensures len { builder.new.len ≡ builder.old.len }
+    ensures needed { builder.new.needed ≡ builder.old.needed }
+    ensures memory { builder.new.bytes.ghost_name ≡ builder.old.bytes.ghost_name }
+{
+    let length = ((builder.len - start) as u32).to_le_bytes();
+    let bytes = &mut builder.bytes[..builder.len];
+    bytes[start..start + 4].copy_from_slice(&length);
+}
+
+/// What is appended after the beginning of a document or an array are its elements.
+pub fn appended_elements_are_values()
+    ensures begun { (front name : List ℕ) (a b : Builder) → built a ≡ front → IsBuilt (name ++ no_length) a b
+        → IsOpen (front ++ name) no_pairs b × IsOpenArray (front ++ name) no_values b }
+    ensures appended { (front : List ℕ) (ps : Pairs) (k : List ℕ) (v : Value) (a b : Builder) → IsOpen front ps a
+        → IsBuilt (name_bytes (type_of v) k ++ value_bytes v) a b → IsOpen front (and_pair ps k v) b }
+    ensures in_array { (front : List ℕ) (vs : Values) (v : Value) (a b : Builder) → IsOpenArray front vs a
+        → IsBuilt (name_bytes (type_of v) (decimal (items_count vs)) ++ value_bytes v) a b
+        → IsOpenArray front (and_value vs v) b }
+{}
