@@ -9,7 +9,7 @@ use std::fmt::{self, Display, Write};
 /// 64 bits, and floats are doubles. `None` and `()` are null, and `serialize_bytes` makes binary data. Fields keep their order.
 /// [`ObjectId`](crate::ObjectId), [`DateTime`](crate::DateTime), [`Decimal128`](crate::Decimal128),
 /// [`Timestamp`](crate::Timestamp) and [`Binary`](crate::Binary) are written as their Extended JSON wrappers, and so is each
-/// struct or map that is one, for example those of the crate `bson`. A NaN loses its sign and its payload.
+/// struct or map that is one, for example those of the crate `bson`. A NaN loses its payload.
 ///
 /// ```
 /// #[derive(serde::Serialize)]
@@ -165,7 +165,7 @@ impl<'a> ser::Serializer for Writer<'a> {
 
     fn serialize_f64(self, value: f64) -> Result<(), Error> {
         let text = match value {
-            _ if value.is_nan() => "NaN".to_owned(),
+            _ if value.is_nan() => if value.is_sign_negative() { "-NaN" } else { "NaN" }.to_owned(),
             _ if value.is_infinite() => if value > 0.0 { "Infinity" } else { "-Infinity" }.to_owned(),
             _ => format!("{value:?}"),
         };

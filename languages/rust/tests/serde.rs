@@ -106,7 +106,7 @@ fn numbers_have_their_types() {
         let again: BTreeMap<String, i64> = from_document(&to_document(&BTreeMap::from([("a", number)])).unwrap()).unwrap();
         assert_eq!(again["a"], number);
     }
-    for number in [5e-324, 1.7976931348623157e308, 0.1, 100.0, 9007199254740993.0, 1e23] {
+    for number in [f64::NAN, -f64::NAN, 5e-324, 1.7976931348623157e308, 0.1, 100.0, 9007199254740993.0, 1e23] {
         let again: BTreeMap<String, f64> = from_document(&to_document(&BTreeMap::from([("a", number)])).unwrap()).unwrap();
         assert_eq!(again["a"].to_bits(), f64::to_bits(number));
     }
