@@ -8,7 +8,7 @@ fn copy(least: f64) -> Result<(), Error> {
     while let Some(order) = orders.read() {
         let order = order?;
         let total = order.get("total").and_then(|it| it.as_f64());
-        if total.map_or(false, |it| it >= least) {
+        if total.is_some_and(|it| it >= least) {
             lines.write(order)?;
         }
     }

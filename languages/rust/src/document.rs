@@ -56,7 +56,9 @@ pub fn same_documents(options: ReadOptions, a: &[u8], b: &[u8]) -> Result<bool, 
 ///
 /// # Errors
 ///
-/// Those of [`same_documents`].
+/// - `NotADocument`, with the offset of the error and the path to it, if the bytes are not a document. If
+///   `reject_duplicate_keys` is on, also if the document has a duplicate key, at any depth.
+/// - `OutOfMemory` if an allocation fails.
 pub fn hash_document(options: ReadOptions, bytes: &[u8]) -> Result<u64, Error> {
     call::hash_document(options.flags(), bytes).map_err(|kind| rejected(kind, options, &[bytes]))
 }
@@ -96,12 +98,14 @@ pub fn decode(mode: Mode, options: Options, bytes: &[u8]) -> Result<Text, Error>
 ///
 /// # Errors
 ///
-/// Those of [`convert_with`](crate::convert_with), and:
-///
+/// - `NotJson`, with line, column and offset, if the input is not UTF-8, is not one JSON text, or nests deeper than 127.
+/// - `BadObjectId`, with the path, if the first error is an invalid object id.
+/// - `NotExtendedJson`, with the path, if the first error is any other, or a finite double while `doubles` is off.
 /// - `NotADocument` if the value is not a document.
 /// - `ZeroInKey` if a key contains a 0 byte.
 /// - `ZeroInRegex` if a regular expression contains a 0 byte.
 /// - `TooLong` if a part has 2^31 bytes or more.
+/// - `OutOfMemory` if an allocation fails.
 pub fn encode(options: Options, text: &[u8]) -> Result<Bytes, Error> {
     let made = call::encode(options.flags(), text);
     made.map(|it| Bytes(Block::of(it))).map_err(|kind| of_texts(kind, options.flags(), &[text]))

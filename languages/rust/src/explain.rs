@@ -104,7 +104,7 @@ fn last_line(text: &[u8]) -> usize {
 fn is_out_of_range(text: &[u8]) -> bool {
     let digits = text.iter().take_while(|it| b"+-.eE0123456789".contains(it)).count();
     let number = std::str::from_utf8(&text[..digits]).ok().and_then(|it| it.parse::<f64>().ok());
-    number.map_or(false, f64::is_infinite)
+    number.is_some_and(f64::is_infinite)
 }
 
 /// The number and the error of each rejected line of a block, of their diagnostics.

@@ -30,7 +30,10 @@ impl Form {
 ///
 /// # Errors
 ///
-/// Those of `convert_with`.
+/// - `NotJson`, with line, column and offset, if the input is not UTF-8, is not one JSON text, or nests deeper than 127.
+/// - `BadObjectId`, with the path, if the first error is an invalid object id.
+/// - `NotExtendedJson`, with the path, if the first error is any other, or a finite double while `doubles` is off.
+/// - `OutOfMemory` if an allocation fails.
 ///
 /// ```
 /// use vbson::{json, Options};
@@ -46,8 +49,11 @@ pub fn from_text(form: Form, options: Options, text: &[u8]) -> Result<Value, Err
 ///
 /// # Errors
 ///
-/// Those of `convert_with`. An integer greater than `i64::MAX` is `NotExtendedJson`, also with finite doubles, since the
-/// nearest double is another number.
+/// - `NotJson` if the value nests deeper than 127.
+/// - `BadObjectId`, with the path, if the first error is an invalid object id.
+/// - `NotExtendedJson`, with the path, if the first error is any other, or a finite double while `doubles` is off. It is also
+///   the error of an integer greater than `i64::MAX`, since the nearest double is another number.
+/// - `OutOfMemory` if an allocation fails.
 ///
 /// ```
 /// use vbson::{json, Options};
@@ -63,7 +69,9 @@ pub fn to_text(form: Form, options: Options, value: &Value) -> Result<Text, Erro
 ///
 /// # Errors
 ///
-/// Those of `decode`.
+/// - `NotADocument`, with the offset of the error and the path to it, if the bytes are not a document.
+/// - `NotRepresentable`, with the path, if the document has a finite double other than 0.0, and `doubles` is off.
+/// - `OutOfMemory` if an allocation fails.
 pub fn from_document(form: Form, options: Options, bytes: &[u8]) -> Result<Value, Error> {
     decode(form.mode(), options, bytes).map(parsed)
 }
@@ -72,7 +80,11 @@ pub fn from_document(form: Form, options: Options, bytes: &[u8]) -> Result<Value
 ///
 /// # Errors
 ///
-/// Those of `encode` and of `to_text`.
+/// - `NotJson`, `BadObjectId`, `NotExtendedJson` or `OutOfMemory` as in [`to_text`].
+/// - `NotADocument` if the value is not a document.
+/// - `ZeroInKey` if a key contains a 0 byte.
+/// - `ZeroInRegex` if a regular expression contains a 0 byte.
+/// - `TooLong` if a part has 2^31 bytes or more.
 pub fn to_document(options: Options, value: &Value) -> Result<Bytes, Error> {
     encode(options, &written(value)?)
 }

@@ -222,7 +222,7 @@ fn zero_after(data: &[u8], at: usize) -> Option<usize> {
 /// The number of up to four bytes, which is negative if the first bit of the last is set.
 fn number_at(data: &[u8], at: usize) -> i64 {
     let part = &data[at.min(data.len())..(at + 4).min(data.len())];
-    let sign = if part.last().map_or(false, |it| *it >= 0x80) { -1 } else { 0 };
+    let sign = if part.last().is_some_and(|it| *it >= 0x80) { -1 } else { 0 };
     part.iter().rev().fold(sign, |number, it| number << 8 | i64::from(*it))
 }
 
@@ -280,7 +280,7 @@ fn double_inside(data: &[u8], at: usize, is_array: bool) -> Option<Vec<PathEleme
     elements(data, at, is_array).find_map(|it| {
         let bytes = data.get(it.start..it.start + 8).filter(|_| it.tag == 0x01);
         let number = bytes.map(|it| f64::from_le_bytes(it.try_into().expect("eight bytes")));
-        if number.map_or(false, |it| it.is_finite() && it != 0.0) {
+        if number.is_some_and(|it| it.is_finite() && it != 0.0) {
             return Some(vec![it.name]);
         }
         let (start, scope) = inside_of(data, it.tag, it.start)?;

@@ -6,22 +6,26 @@ use std::str::{self, FromStr};
 
 /// A Decimal128 of BSON: 16 bytes, the lowest first. Equality compares the bytes, so `1.5` is not `1.50`.
 #[derive(Clone, Copy, Debug, PartialEq, Eq, Hash)]
-#[cfg_attr(feature = "serde", derive(serde::Serialize, serde::Deserialize), serde(try_from = "wrapper::Decimal128", into = "wrapper::Decimal128"))]
+#[cfg_attr(feature = "serde", derive(serde::Serialize, serde::Deserialize))]
+#[cfg_attr(feature = "serde", serde(try_from = "wrapper::Decimal128", into = "wrapper::Decimal128"))]
 pub struct Decimal128(pub [u8; 16]);
 
 /// An object id of 12 bytes.
 #[derive(Clone, Copy, Debug, PartialEq, Eq, PartialOrd, Ord, Hash)]
-#[cfg_attr(feature = "serde", derive(serde::Serialize, serde::Deserialize), serde(try_from = "wrapper::ObjectId", into = "wrapper::ObjectId"))]
+#[cfg_attr(feature = "serde", derive(serde::Serialize, serde::Deserialize))]
+#[cfg_attr(feature = "serde", serde(try_from = "wrapper::ObjectId", into = "wrapper::ObjectId"))]
 pub struct ObjectId(pub [u8; 12]);
 
 /// A date-time in milliseconds since 1970-01-01T00:00:00Z.
 #[derive(Clone, Copy, Debug, PartialEq, Eq, PartialOrd, Ord, Hash)]
-#[cfg_attr(feature = "serde", derive(serde::Serialize, serde::Deserialize), serde(try_from = "wrapper::DateTime", into = "wrapper::DateTime"))]
+#[cfg_attr(feature = "serde", derive(serde::Serialize, serde::Deserialize))]
+#[cfg_attr(feature = "serde", serde(try_from = "wrapper::DateTime", into = "wrapper::DateTime"))]
 pub struct DateTime(pub i64);
 
 /// A timestamp of BSON, which MongoDB uses for its own log. `DateTime` is the type for dates.
 #[derive(Clone, Copy, Debug, PartialEq, Eq, PartialOrd, Ord, Hash)]
-#[cfg_attr(feature = "serde", derive(serde::Serialize, serde::Deserialize), serde(try_from = "wrapper::Timestamp", into = "wrapper::Timestamp"))]
+#[cfg_attr(feature = "serde", derive(serde::Serialize, serde::Deserialize))]
+#[cfg_attr(feature = "serde", serde(try_from = "wrapper::Timestamp", into = "wrapper::Timestamp"))]
 pub struct Timestamp {
     /// The seconds since 1970-01-01T00:00:00Z.
     pub time: u32,
@@ -32,7 +36,11 @@ pub struct Timestamp {
 impl FromStr for Decimal128 {
     type Err = Error;
 
-    /// Parses a decimal, which is never rounded. `InvalidString` if it has too many digits, or is not a decimal.
+    /// Parses a decimal, which is never rounded.
+    ///
+    /// # Errors
+    ///
+    /// - `InvalidString` if it has too many digits, or is not a decimal.
     fn from_str(text: &str) -> Result<Decimal128, Error> {
         Ok(Decimal128(call::decimal128_parse(text.as_bytes())?))
     }
@@ -41,7 +49,11 @@ impl FromStr for Decimal128 {
 impl FromStr for ObjectId {
     type Err = Error;
 
-    /// Parses 24 hexadecimal digits of either case. `InvalidString` for anything else.
+    /// Parses 24 hexadecimal digits of either case.
+    ///
+    /// # Errors
+    ///
+    /// - `InvalidString` if the string is not 24 digits.
     fn from_str(text: &str) -> Result<ObjectId, Error> {
         Ok(ObjectId(call::object_id_parse(text.as_bytes())?))
     }
@@ -50,7 +62,11 @@ impl FromStr for ObjectId {
 impl FromStr for DateTime {
     type Err = Error;
 
-    /// Parses a date-time of RFC 3339 (section 5.6). `InvalidString` for anything else.
+    /// Parses a date-time of RFC 3339 (section 5.6).
+    ///
+    /// # Errors
+    ///
+    /// - `InvalidString` if the string is not a date-time.
     fn from_str(text: &str) -> Result<DateTime, Error> {
         Ok(DateTime(call::date_time_parse(text.as_bytes())?))
     }

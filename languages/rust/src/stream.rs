@@ -41,7 +41,8 @@ impl<R: Read> DumpReader<R> {
     ///
     /// # Errors
     ///
-    /// Those of [`DumpReader`].
+    /// - `NotADocument` for a rejected document, with its index and the offset in the dump.
+    /// - `Io` if the reader fails.
     pub fn read(&mut self) -> Option<Result<RawDocument<'_>, Error>> {
         if self.is_at_end {
             return None;
@@ -116,7 +117,8 @@ impl<W: Write> DumpWriter<W> {
     ///
     /// # Errors
     ///
-    /// Those of [`encode`], and `Io` if the writer fails.
+    /// - `Io` if the writer fails.
+    /// - Any other kind as in [`encode`], if the text has no bytes.
     pub fn write_text(&mut self, options: Options, text: &[u8]) -> Result<(), Error> {
         Ok(self.writer.write_all(&encode(options, text)?)?)
     }
@@ -147,10 +149,10 @@ impl<W: Write> DumpWriter<W> {
 ///
 /// # Errors
 ///
-/// - Those of [`encode`] for a rejected line. The line is that in the input, and so is the offset. The next line is read
-///   after it.
-/// - `NotADocument` also if a line nests deeper than 100.
+/// - `NotADocument` if a line is not a document, or nests deeper than 100.
 /// - `Io` if the reader fails.
+/// - Any other kind as in [`encode`], if a line has no bytes. Line and offset are those in the input. The next line is read
+///   after it.
 pub struct LineReader<R> {
     reader: BufReader<R>,
     options: Options,
@@ -267,7 +269,9 @@ impl<W: Write> LineWriter<W> {
     ///
     /// # Errors
     ///
-    /// Those of [`decode`], and `Io` if the writer fails.
+    /// - `NotRepresentable`, with the path, if the document has a finite double other than 0.0, and `doubles` is off.
+    /// - `OutOfMemory` if an allocation fails.
+    /// - `Io` if the writer fails.
     pub fn write<'a>(&mut self, document: impl Into<RawDocument<'a>>) -> Result<(), Error> {
         let text = decode(self.mode, self.options, document.into().as_bytes())?;
         self.writer.write_all(text.as_bytes())?;

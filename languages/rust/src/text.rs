@@ -121,10 +121,9 @@ impl ReadOptions {
 ///
 /// # Errors
 ///
-/// - `NotJson` if the input is not UTF-8, is not one JSON text, or nests deeper than 127. The error has a line, a column and
-///   an offset.
-/// - `BadObjectId` if the first error is an invalid object id. The error has a path.
-/// - `NotExtendedJson` if the first error is any other. The error has a path.
+/// - `NotJson`, with line, column and offset, if the input is not UTF-8, is not one JSON text, or nests deeper than 127.
+/// - `BadObjectId`, with the path, if the first error is an invalid object id.
+/// - `NotExtendedJson`, with the path, if the first error is any other.
 /// - `OutOfMemory` if an allocation fails.
 pub fn convert(mode: Mode, text: &[u8]) -> Result<Text, Error> {
     convert_with(mode, Options::default(), text)
@@ -134,7 +133,10 @@ pub fn convert(mode: Mode, text: &[u8]) -> Result<Text, Error> {
 ///
 /// # Errors
 ///
-/// Those of [`convert`]. If `doubles` is off, a finite double is `NotExtendedJson`, and so is a number such as 1.5 or 0.0.
+/// - `NotJson`, with line, column and offset, if the input is not UTF-8, is not one JSON text, or nests deeper than 127.
+/// - `BadObjectId`, with the path, if the first error is an invalid object id.
+/// - `NotExtendedJson`, with the path, if the first error is any other, or a number such as 1.5 or 0.0 while `doubles` is off.
+/// - `OutOfMemory` if an allocation fails.
 pub fn convert_with(mode: Mode, options: Options, text: &[u8]) -> Result<Text, Error> {
     let made = call::convert_with(mode as u32, options.flags(), text);
     made.map(owned).map_err(|kind| of_texts(kind, options.flags(), &[text]))
@@ -155,8 +157,12 @@ pub fn explain(options: Options, text: &[u8]) -> Option<Error> {
 ///
 /// # Errors
 ///
-/// Those of [`convert_with`] for `a`, or for `b` if `a` has none. If `reject_duplicate_keys` is on, a duplicate key is
-/// `NotExtendedJson`.
+/// The error is that of `a`, or that of `b` if `a` has none:
+///
+/// - `NotJson`, with line, column and offset, if the input is not UTF-8, is not one JSON text, or nests deeper than 127.
+/// - `BadObjectId`, with the path, if the first error is an invalid object id.
+/// - `NotExtendedJson`, with the path, if the first error is any other, or a duplicate key while `reject_duplicate_keys` is on.
+/// - `OutOfMemory` if an allocation fails.
 pub fn same(options: ReadOptions, a: &[u8], b: &[u8]) -> Result<bool, Error> {
     call::same(options.flags(), a, b).map_err(|kind| of_texts(kind, options.flags(), &[a, b]))
 }
@@ -165,7 +171,10 @@ pub fn same(options: ReadOptions, a: &[u8], b: &[u8]) -> Result<bool, Error> {
 ///
 /// # Errors
 ///
-/// Those of [`same`].
+/// - `NotJson`, with line, column and offset, if the input is not UTF-8, is not one JSON text, or nests deeper than 127.
+/// - `BadObjectId`, with the path, if the first error is an invalid object id.
+/// - `NotExtendedJson`, with the path, if the first error is any other, or a duplicate key while `reject_duplicate_keys` is on.
+/// - `OutOfMemory` if an allocation fails.
 pub fn hash(options: ReadOptions, text: &[u8]) -> Result<u64, Error> {
     call::hash(options.flags(), text).map_err(|kind| of_texts(kind, options.flags(), &[text]))
 }

@@ -76,7 +76,7 @@ fn rejected_documents_of_a_dump_have_their_place() {
     for len in 0..dump.len() {
         let found: Vec<_> = DumpReader::new(&dump[..len]).collect();
         let is_between = [0, first.len(), first.len() + bad.len()].contains(&len);
-        let last_fails = found.last().map_or(false, |it| it.is_err());
+        let last_fails = found.last().is_some_and(|it| it.is_err());
         assert_eq!(last_fails, !is_between || len == first.len() + bad.len(), "{len}");
     }
     for length in [4, 0, -1, i32::MAX] {
