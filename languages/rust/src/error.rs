@@ -214,9 +214,9 @@ impl From<Error> for io::Error {
 impl PartialEq for Error {
     /// Compares all that the methods return.
     fn eq(&self, other: &Error) -> bool {
-        let fields = |it: &Error| (it.0.kind, it.0.line, it.0.column, it.0.offset);
-        let texts = |it: &Error| (it.0.message.clone(), it.0.reason.clone(), it.0.path.clone());
-        fields(self) == fields(other) && texts(self) == texts(other)
+        let (a, b) = (&*self.0, &*other.0);
+        let has_same_words = a.message == b.message && a.reason == b.reason && a.path == b.path;
+        has_same_words && (a.kind, a.line, a.column, a.offset) == (b.kind, b.line, b.column, b.offset)
     }
 }
 
