@@ -1,11 +1,12 @@
 #!/usr/bin/env python3
-"""Times documents that remain bytes beside libbson, on 10 MB and on 200 KB of orders of twenty keys.
+"""Times documents that remain bytes beside libbson, on 65 MB, 10 MB and 200 KB of orders of twenty keys.
 
     bench/raw.py
 
-A C program (raw.c) over languages/out/lib/libvbson.a and libbson reads the value of one key of each document, and then all
-elements: the nanoseconds of processor time per document, the least of 25 rounds in turns. Needs ./vbson build, Debian's
-libbson-dev, a C compiler and pkg-config.
+A C program (raw.c) over languages/out/lib/libvbson.a and libbson reads the value of one key of each document, then all
+elements, and then writes the document with another value of the key, and without the key "version": the nanoseconds of
+processor time per document, the least of 25 rounds in turns (of 65 MB of 5). Needs ./vbson build, Debian's libbson-dev, a C
+compiler and pkg-config.
 """
 import os
 import random
@@ -20,8 +21,9 @@ from bytes import array, document, element, int32, int64, text
 from run import BYTES, HERE, TOP
 
 OUT = f"{TOP}/languages/out"
-# The documents of the larger size come from memory, and those of the smaller one from the processor's cache.
-SIZES, ROUNDS = (10_000_000, 200_000), 1 if BYTES else 25
+# The documents of the larger sizes come from memory, and those of the smallest one from the processor's cache. The rounds
+# of each are such that it takes seconds.
+SIZES = {65_000_000: 5, 10_000_000: 25, 200_000: 500}
 KEYS = (("the first", "_id"), ("the tenth", "status"), ("the last", "lines"), ("none", "absent"))
 
 
@@ -62,14 +64,18 @@ def main():
     with tempfile.TemporaryDirectory() as room:
         words = ["cc", "-O2", f"-I{OUT}/include", f"{HERE}/raw.c", "-o", f"{room}/raw", f"{OUT}/lib/libvbson.a", *flags.stdout.split()]
         subprocess.run(words, check=True)
+        changed = []
         print("| MB | Key | `vbson_raw_get`, ns | `bson_iter_init_find`, ns | Ratio | all by `vbson_raw_next`, ns | by `bson_iter_next`, ns | Ratio | `vbson_is_document`, ns |\n"
               "|---|---|---|---|---|---|---|---|---|")
-        for size in [BYTES] if BYTES else SIZES:
+        for size, rounds in ({BYTES: 1} if BYTES else SIZES).items():
             dump = orders(size)
             for name, key in KEYS:
-                ran = subprocess.run([f"{room}/raw", key, str(ROUNDS if size > 10**6 or BYTES else 20 * ROUNDS)], input=dump, capture_output=True, check=True)
-                get, find, ours, theirs, check = map(float, ran.stdout.split())
+                ran = subprocess.run([f"{room}/raw", key, str(rounds)], input=dump, capture_output=True, check=True)
+                get, find, ours, theirs, check, change, by_libbson = map(float, ran.stdout.split())
                 print(f"| {size / 1e6:g} | {name} | {get:.0f} | {find:.0f} | {get / find:.2f} | {ours:.0f} | {theirs:.0f} | {ours / theirs:.2f} | {check:.0f} |", flush=True)
+                changed.append(f"| {size / 1e6:g} | {name} | {change:.0f} | {change + check:.0f} | {by_libbson:.0f} | {change / by_libbson:.2f} | {(change + check) / by_libbson:.2f} |")
+        print("\n| MB | Key that is changed | by a builder, ns | with `vbson_is_document` | by `bson_append_iter`, ns | Ratio | with the check |\n|---|---|---|---|---|---|---|")
+        print("\n".join(changed))
 
 
 if __name__ == "__main__":

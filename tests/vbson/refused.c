@@ -186,6 +186,38 @@ static void raw_values(void) {
     CHECK(requests == 0 && elements == 12 && read == 5);
 }
 
+/* Nor do the calls that build a document. */
+static void built(void) {
+    static const uint8_t id[12], decimal[16], empty[5] = {5};
+    static uint8_t room[512];
+    vbson_builder it = {room, sizeof room, 0, 0};
+    vbson_raw_value value = {id, 12, 12, VBSON_TYPE_OBJECT_ID};
+    size_t start = 0, inner = 0;
+    requests = 0;
+    refused = 1;
+    CHECK(vbson_document_begin(&it, &start) == VBSON_OK);
+    CHECK(vbson_append_document_begin(&it, TEXT("a"), &inner) == VBSON_OK && vbson_document_end(&it, inner) == VBSON_OK);
+    CHECK(vbson_append_array_begin(&it, TEXT("b"), &inner) == VBSON_OK && vbson_document_end(&it, inner) == VBSON_OK);
+    CHECK(vbson_append_document(&it, TEXT("c"), BYTES(empty)) == VBSON_OK && vbson_append_array(&it, TEXT("d"), BYTES(empty)) == VBSON_OK);
+    CHECK(vbson_append_int32(&it, TEXT("e"), 1) == VBSON_OK && vbson_append_int64(&it, TEXT("f"), 1) == VBSON_OK);
+    CHECK(vbson_append_double(&it, TEXT("g"), 1) == VBSON_OK && vbson_append_boolean(&it, TEXT("h"), 1) == VBSON_OK);
+    CHECK(vbson_append_null(&it, TEXT("i")) == VBSON_OK && vbson_append_string(&it, TEXT("j"), TEXT("text")) == VBSON_OK);
+    CHECK(vbson_append_object_id(&it, TEXT("k"), id) == VBSON_OK && vbson_append_date_time(&it, TEXT("l"), 1) == VBSON_OK);
+    CHECK(vbson_append_binary(&it, TEXT("m"), 2, BYTES(id)) == VBSON_OK && vbson_append_decimal128(&it, TEXT("n"), decimal) == VBSON_OK);
+    CHECK(vbson_append_value(&it, TEXT("o"), &value) == VBSON_OK && vbson_document_end(&it, start) == VBSON_OK);
+    CHECK(vbson_is_document(room, it.len) == VBSON_OK && requests == 0);
+    refused = 0;
+    vbson_builder grown = VBSON_BUILDER_INIT;
+    for (int i = 0; i < 2; i++) { /* an empty builder, and one of 8 bytes */
+        vbson_builder before = grown;
+        refused = 1, requests = 0;
+        CHECK(vbson_builder_reserve(&grown, 16) == VBSON_OUT_OF_MEMORY && memcmp(&grown, &before, sizeof grown) == 0);
+        refused = 0;
+        CHECK(vbson_builder_reserve(&grown, 8) == VBSON_OK && grown.size >= 8);
+    }
+    vbson_builder_free(&grown);
+}
+
 int main(void) {
     for (int kind = 0; kind < KINDS; kind++) {
         long wants = 0;
@@ -201,5 +233,6 @@ int main(void) {
         CHECK(vbson_is_document(document.bytes, document.len) == (i == 0 ? VBSON_OK : VBSON_NOT_A_DOCUMENT) && requests == 0);
     }
     raw_values();
+    built();
     return end();
 }

@@ -51,6 +51,12 @@ static uint32_t lines_status(uint32_t flags) {
     return done;
 }
 
+static uint32_t appended_status(void) {
+    static uint8_t memory[1 << 17];
+    vbson_builder built = {memory, sizeof memory, 0, 0};
+    return vbson_append_document(&built, TEXT("a"), document, document_len);
+}
+
 static void *calls(void *kind) {
     vbson_buffer out = VBSON_BUFFER_INIT;
     uint64_t number;
@@ -67,6 +73,7 @@ static void *calls(void *kind) {
     else if (it == 17) status = vbson_decode(VBSON_CANONICAL, VBSON_KEEP_ORDER, document, document_len, &out);
     else if (it == 18) status = vbson_same_documents(0, document, document_len, document, document_len);
     else if (it == 19) status = vbson_hash_document(VBSON_REJECT_DUPLICATE_KEYS, document, document_len, &number);
+    else if (it == 20) status = appended_status();
     else if (it == 7) status = vbson_encode(0, TEXT(text), &out);
     else if (it == 8) status = vbson_is_document(document, document_len);
     else if (it == 9) status = vbson_explain_document(document, document_len, &out);
@@ -120,7 +127,7 @@ static void all_of_documents(uint32_t wanted) {
         count(kind);
         CHECK(status == (kind == 9 ? VBSON_OK : wanted));
     }
-    for (int kind = 17; kind < 20; kind++) {
+    for (int kind = 17; kind < 21; kind++) {
         count(kind);
         CHECK(status == wanted);
     }

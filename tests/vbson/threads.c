@@ -19,6 +19,12 @@ static int round_of(int thread, int round) {
         && vbson_same(0, TEXT(text), out.bytes, out.len) == VBSON_OK && vbson_hash(0, TEXT(text), &one) == VBSON_OK
         && vbson_hash(0, out.bytes, out.len, &other) == VBSON_OK && one == other;
     vbson_buffer_free(&out);
+    vbson_builder built = {room, sizeof room, 0, 0};
+    int32_t number = -1;
+    vbson_raw_value value = VBSON_RAW_VALUE_INIT;
+    is_right = is_right && vbson_document_begin(&built, &len) == VBSON_OK && vbson_append_int32(&built, TEXT("r"), round) == VBSON_OK
+        && vbson_append_string(&built, TEXT("t"), TEXT(wanted)) == VBSON_OK && vbson_document_end(&built, len) == VBSON_OK
+        && vbson_raw_get(room, built.len, TEXT("r"), &value) == VBSON_OK && vbson_raw_int32(&value, &number) == VBSON_OK && number == round;
     snprintf(printed, sizeof printed, "2020-06-01T00:42:%02d.%03dZ", round % 60, thread + 1);
     return is_right && vbson_date_time_parse(TEXT(printed), &millis) == VBSON_OK
         && vbson_date_time_print(millis, room, sizeof room, &len) == VBSON_OK && memcmp(room, printed, len) == 0

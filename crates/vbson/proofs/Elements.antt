@@ -7,7 +7,7 @@ use Rattle.bson_bytes.specs.Grammar.{IsSize, framed, le}
 use Rattle.bson_bytes.specs.Writing.{name_bytes, type_of, value_bytes, list_bytes, items_bytes}
 use Rattle.bson_model.specs.Feed.{items_count}
 use Rattle.bson_model.specs.Value.{Value, Values, no_values, value, Pairs, no_pairs, pair}
-use Rattle.vbson.specs.Builder.{IsAppended, IsBuilt, IsEnded, IsOpen, IsOpenArray, and_pair, and_value, built, no_length}
+use Rattle.vbson.specs.Builder.{IsAppended, IsBuilt, IsFramed, IsOpenDocument, IsOpenArray, and_pair, and_value, built, no_length}
 use Rattle.vbson.specs.declared.builder.Builder.{Builder}
 
 -- three lists as one
@@ -32,8 +32,8 @@ items_and n m (value w vs) v is =
 pub more : (front list e : List ℕ) (a b : Builder) → built a ≡ front ++ (no_length ++ list) → IsBuilt e a b → built b ≡ front ++ (no_length ++ (list ++ e))
 more front list e a b h s = s ∙ ap (λ (x : List ℕ). x ++ e) h ∙ regrouped front no_length list e
 
-pub and_more : (front : List ℕ) (ps : Pairs) (k : List ℕ) (v : Value) (a b : Builder) → IsOpen front ps a
-    → IsBuilt (name_bytes (type_of v) k ++ value_bytes v) a b → IsOpen front (and_pair ps k v) b
+pub and_more : (front : List ℕ) (ps : Pairs) (k : List ℕ) (v : Value) (a b : Builder) → IsOpenDocument front ps a
+    → IsBuilt (name_bytes (type_of v) k ++ value_bytes v) a b → IsOpenDocument front (and_pair ps k v) b
 and_more front ps k v a b h s =
     more front (list_bytes ps) (name_bytes (type_of v) k ++ value_bytes v) a b h s
     ∙ ap (λ (x : List ℕ). front ++ (no_length ++ x)) (sym (list_and ps k v))
@@ -51,7 +51,7 @@ begun front name a b h s = s ∙ ap (λ (x : List ℕ). x ++ (name ++ no_length)
 pub is_ended : (start : ℕ) (a m b : Builder) → start + 4 ≤ a.len → a.len - start + 1 < 2 ^ 31 → IsAppended (0 ∷ []) a m
     → built b ≡ take start (built m) ++ (le w32 (m.len - start) ++ drop (start + 4) (built m))
     → drop m.len b.bytes.now ≡ drop m.len m.bytes.now → length b.bytes.now ≡ length m.bytes.now → b.len ≡ m.len
-    → IsEnded start a b
+    → IsFramed start a b
 is_ended start a m b starts counts s is rest size len =
     let count : length (built a) ≡ a.len = length-take-le a.len a.bytes.now (omega (arith, s.fits)) in
     let list = drop (start + 4) (built a) in
@@ -74,7 +74,7 @@ is_ended start a m b starts counts s is rest size len =
 
 -- what is built before the end is the front and the list
 pub ended : (front list : List ℕ) (start : ℕ) (a b : Builder) → start ≡ length front → built a ≡ front ++ (no_length ++ list)
-    → IsEnded start a b → built b ≡ front ++ framed list
+    → IsFramed start a b → built b ≡ front ++ framed list
 ended front list start a b is h s =
     let first : take start (built a) ≡ front = ap (take start) h ∙ take_at front (no_length ++ list) start (sym is) in
     let second : drop (start + 4) (built a) ≡ list =
@@ -82,7 +82,7 @@ ended front list start a b is h s =
     s.built ∙ ap (λ (x : List ℕ). x ++ framed (drop (start + 4) (built a))) first ∙ ap (λ (x : List ℕ). front ++ framed x) second
 
 pub sized : (front list : List ℕ) (start : ℕ) (a b : Builder) → start ≡ length front → built a ≡ front ++ (no_length ++ list)
-    → IsEnded start a b → IsSize (length list + 5)
+    → IsFramed start a b → IsSize (length list + 5)
 sized front list start a b is h s =
     let count = length-take-le a.len a.bytes.now (omega (arith, s.fits)) in
     omega (arith, is, s.counts, s.starts, count, ap length h, length-append front (no_length ++ list), length-append no_length list)

@@ -14,7 +14,7 @@ abbrev pub built : Builder → List ℕ
 built b = take b.len b.bytes.now
 
 -- the builder has the same memory, in which as many bytes are built
-pub record IsKept (before after : Builder) : Type 0 where
+pub record HasSameBytes (before after : Builder) : Type 0 where
   pub bytes : after.bytes.now ≡ before.bytes.now
   pub len : after.len ≡ before.len
 
@@ -36,7 +36,7 @@ pub record Appends (type : ElementType) (key bytes : List ℕ) (status : ℕ) (b
   pub done : status ≡ 0 → IsName key × IsAppended (name_bytes type key ++ bytes) before after
   pub too_small : status ≡ 8 → IsName key × IsTooSmall (length (name_bytes type key ++ bytes)) before after
   pub zero_in_key : status ≡ 11 → NoZero key → ⊥
-  pub kept : 0 < status → IsKept before after
+  pub kept : 0 < status → HasSameBytes before after
   pub needed : status ≢ 8 → after.needed ≡ before.needed
   pub memory : after.bytes.ghost_name ≡ before.bytes.ghost_name
 
@@ -53,7 +53,7 @@ abbrev pub no_length : List ℕ
 no_length = 0 ∷ 0 ∷ 0 ∷ 0 ∷ []
 
 -- the bytes from the start on become a document: its length is set, and its last byte is appended
-pub record IsEnded (start : ℕ) (before after : Builder) : Type 0 where
+pub record IsFramed (start : ℕ) (before after : Builder) : Type 0 where
   pub starts : start + 4 ≤ before.len
   pub fits : before.len + 1 ≤ length before.bytes.now
   pub counts : IsSize (before.len - start + 1)
@@ -65,8 +65,8 @@ pub record IsEnded (start : ℕ) (before after : Builder) : Type 0 where
 -- ---- what is built between the beginning of a document and its end
 
 -- after the front a document is begun, and these are its pairs so far
-abbrev pub IsOpen : List ℕ → Pairs → Builder → Type 0
-IsOpen front ps b = built b ≡ front ++ (no_length ++ list_bytes ps)
+abbrev pub IsOpenDocument : List ℕ → Pairs → Builder → Type 0
+IsOpenDocument front ps b = built b ≡ front ++ (no_length ++ list_bytes ps)
 
 -- after the front an array is begun, and these are its values so far
 abbrev pub IsOpenArray : List ℕ → Values → Builder → Type 0

@@ -10,7 +10,7 @@ ghost use Rattle.bson_types.specs.Tags.{tag_of};
 ghost use Rattle.bson_types.specs.declared.spec.ElementType.{ElementType};
 ghost use Rattle.bson_types.specs.declared.spec.ElementType.TheVariants as tag;
 ghost use Rattle.vbson.specs.Documents.{IsOneDocument};
-ghost use Rattle.vbson.specs.Builder.{Appends, AppendsScalar, IsKept, is_true, no_length};
+ghost use Rattle.vbson.specs.Builder.{Appends, AppendsScalar, HasSameBytes, is_true, no_length};
 
 use crate::builder::{Builder, Element, append, is_text};
 use crate::documents::vbson_is_document;
@@ -63,7 +63,7 @@ pub extern "C" fn vbson_append_value(
         → (length value.now.bytes.now < value.now.len) ⊎ ((type : ElementType) → tag_of type ≢ value.now.kind) }
     ensures not_utf8 { result ≡ 6 → is_utf8 key.now ≡ false }
     ensures listed { (result ≤ 1) ⊎ (result ≡ 6) ⊎ (result ≡ 8) ⊎ (result ≡ 11) }
-    ensures kept { 0 < result → IsKept builder.old builder.new }
+    ensures kept { 0 < result → HasSameBytes builder.old builder.new }
 {
     let Some(kind) = ElementType::from(value.kind) else {
         return status::INVALID_ARGUMENT;
@@ -167,11 +167,11 @@ pub extern "C" fn vbson_append_string(builder: &mut Builder<'_>, key: &[u8], tex
     ensures too_long { result ≡ 13 → 2 ^ 31 ≤ length text.now + 1 }
     ensures listed { (result ≡ 0) ⊎ (result ≡ 6) ⊎ (result ≡ 8) ⊎ (result ≡ 11) ⊎ (result ≡ 13) }
 {
-    if !is_text(text) {
-        return status::INVALID_STRING;
-    }
     if text.len() >= 0x7fff_ffff {
         return status::TOO_LONG;
+    }
+    if !is_text(text) {
+        return status::INVALID_STRING;
     }
     let length = le_32(text.len() as u32 + 1);
     let element = Element {

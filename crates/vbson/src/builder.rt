@@ -7,7 +7,7 @@ ghost use Rattle.bson_bytes.specs.Grammar.{IsSize, le};
 ghost use Rattle.bson_bytes.specs.Writing.{document_bytes, list_bytes, name_bytes, type_of, value_bytes};
 ghost use Rattle.bson_model.specs.Feed.{items_count};
 ghost use Rattle.bson_model.specs.Value.{Pairs, Value, Values, array, no_pairs, no_values};
-ghost use Rattle.vbson.specs.Builder.{Appends, IsAppended, IsBuilt, IsEnded, IsKept, IsOpen, IsOpenArray, IsTooSmall};
+ghost use Rattle.vbson.specs.Builder.{Appends, IsAppended, IsBuilt, IsFramed, HasSameBytes, IsOpenDocument, IsOpenArray, IsTooSmall};
 ghost use Rattle.vbson.specs.Builder.{and_pair, and_value, built, no_length, value_in};
 
 use crate::status;
@@ -40,7 +40,7 @@ pub extern "C" fn vbson_document_begin(builder: &mut Builder<'_>, start: &mut us
     ensures done { result ≡ 0 → IsAppended no_length builder.old builder.new × (start.new ≡ builder.old.len) }
     ensures too_small { result ≡ 8 → IsTooSmall 4 builder.old builder.new }
     ensures listed { (result ≡ 0) ⊎ (result ≡ 8) }
-    ensures kept { 0 < result → IsKept builder.old builder.new × (start.new ≡ start.old) }
+    ensures kept { 0 < result → HasSameBytes builder.old builder.new × (start.new ≡ start.old) }
     ensures needed { result ≢ 8 → builder.new.needed ≡ builder.old.needed }
     ensures memory { builder.new.bytes.ghost_name ≡ builder.old.bytes.ghost_name }
 {
@@ -56,9 +56,9 @@ pub extern "C" fn vbson_document_begin(builder: &mut Builder<'_>, start: &mut us
 /// last byte.
 #[unsafe(no_mangle)]
 pub extern "C" fn vbson_document_end(builder: &mut Builder<'_>, start: usize) -> u32
-    ensures done { result ≡ 0 → IsEnded start builder.old builder.new }
+    ensures done { result ≡ 0 → IsFramed start builder.old builder.new }
     // The elements become the canonical bytes of the document of their pairs, or of the array of their values.
-    ensures document { (front : List ℕ) (ps : Pairs) → result ≡ 0 → start ≡ length front → IsOpen front ps builder.old
+    ensures document { (front : List ℕ) (ps : Pairs) → result ≡ 0 → start ≡ length front → IsOpenDocument front ps builder.old
         → (built builder.new ≡ front ++ document_bytes ps) × IsSize (length (list_bytes ps) + 5) }
     ensures array { (front : List ℕ) (vs : Values) → result ≡ 0 → start ≡ length front
         → IsOpenArray front vs builder.old → built builder.new ≡ front ++ value_bytes (array vs) }
@@ -68,7 +68,7 @@ pub extern "C" fn vbson_document_end(builder: &mut Builder<'_>, start: usize) ->
     ensures too_small { result ≡ 8 → IsTooSmall 1 builder.old builder.new }
     ensures too_long { result ≡ 13 → 2 ^ 31 ≤ builder.old.len - start + 1 }
     ensures listed { (result ≡ 0) ⊎ (result ≡ 1) ⊎ (result ≡ 8) ⊎ (result ≡ 13) }
-    ensures kept { 0 < result → IsKept builder.old builder.new }
+    ensures kept { 0 < result → HasSameBytes builder.old builder.new }
     ensures needed { result ≢ 8 → builder.new.needed ≡ builder.old.needed }
     ensures memory { builder.new.bytes.ghost_name ≡ builder.old.bytes.ghost_name }
 {
@@ -124,7 +124,7 @@ pub fn has_room(builder: &mut Builder<'_>, more: usize) -> bool
     ensures fits { IsTrue result → builder.old.len + more ≤ length builder.old.bytes.now }
     ensures same { IsTrue result → builder.new ≡ builder.old }
     ensures too_small { result ≡ false → IsTooSmall more builder.old builder.new }
-    ensures kept { IsKept builder.old builder.new }
+    ensures kept { HasSameBytes builder.old builder.new }
     ensures memory { builder.new.bytes.ghost_name ≡ builder.old.bytes.ghost_name }
 {
     let size = builder.len.saturating_add(more);
@@ -201,9 +201,9 @@ fn put_length(builder: &mut Builder<'_>, start: usize)
 /// What is appended after the beginning of a document or an array are its elements.
 pub fn appended_elements_are_values()
     ensures begun { (front name : List ℕ) (a b : Builder) → built a ≡ front → IsBuilt (name ++ no_length) a b
-        → IsOpen (front ++ name) no_pairs b × IsOpenArray (front ++ name) no_values b }
-    ensures appended { (front : List ℕ) (ps : Pairs) (k : List ℕ) (v : Value) (a b : Builder) → IsOpen front ps a
-        → IsBuilt (name_bytes (type_of v) k ++ value_bytes v) a b → IsOpen front (and_pair ps k v) b }
+        → IsOpenDocument (front ++ name) no_pairs b × IsOpenArray (front ++ name) no_values b }
+    ensures appended { (front : List ℕ) (ps : Pairs) (k : List ℕ) (v : Value) (a b : Builder) → IsOpenDocument front ps a
+        → IsBuilt (name_bytes (type_of v) k ++ value_bytes v) a b → IsOpenDocument front (and_pair ps k v) b }
     ensures in_array { (front : List ℕ) (vs : Values) (v : Value) (a b : Builder) → IsOpenArray front vs a
         → IsBuilt (name_bytes (type_of v) (decimal (items_count vs)) ++ value_bytes v) a b
         → IsOpenArray front (and_value vs v) b }

@@ -1,16 +1,16 @@
 use Rattle.std.proofs.Common.{◌≡◌, ◌+◌, ◌-◌, ◌^◌, ◌≤◌, ◌<◌, ap, arith, rules, subst}
 use Rattle.bson_bytes.specs.Writing.{list_bytes, items_bytes}
-use Rattle.vbson.specs.Builder.{IsEnded}
+use Rattle.vbson.specs.Builder.{IsFramed}
 use Rattle.vbson.proofs.Elements.{ended, is_ended, sized}
 use Rattle.vbson.proofs.builder.vbson_document_end.Goals as goal
 
-done : (c : goal.After-put_length) → IsEnded c.args.start c.args.builder.now c.put_length.new.builder
+done : (c : goal.After-put_length) → IsFramed c.args.start c.args.builder.now c.put_length.new.builder
 done c =
     let before : c.has_room.new.builder ≡ c.args.builder.now = search rules in
     let starts : c.args.start + 4 ≤ c.args.builder.now.len = search rules in
     let counts : c.args.builder.now.len - c.args.start + 1 < 2 ^ 31 = search rules in
     let same = ap (λ b. b.len) before in
-    subst (λ b. IsEnded c.args.start b c.put_length.new.builder) before
+    subst (λ b. IsFramed c.args.start b c.put_length.new.builder) before
     (is_ended c.args.start c.has_room.new.builder c.put.new.builder c.put_length.new.builder (omega (arith, starts, same)) (omega (arith, counts, same))
     c.put.ensures.put c.put_length.ensures.built c.put_length.ensures.rest c.put_length.ensures.size c.put_length.ensures.len)
 
