@@ -75,7 +75,7 @@ fn places_of_texts_that_are_not_json_are_told() {
         ("", 1, 1, 0, early),
         ("[1e400]", 1, 2, 1, "a number is out of range"),
         ("[1,\n2,\n 1e400\n]", 3, 2, 8, "a number is out of range"),
-        ("{\"a\": 1,\n \"b\": }", 2, 7, 16, "behind a key a colon and a value are wanted"),
+        ("{\"a\": 1,\n \"b\": }", 2, 7, 15, "behind a key a colon and a value are wanted"),
         ("{\n'a':1}\n", 2, 1, 2, quotes),
         ("[1,\n2", 2, 1, 4, early),
     ] {
@@ -218,7 +218,7 @@ fn lines_are_converted_in_one_call() {
     assert_eq!((&*lines.text, lines.count), ("[1]\n", 4));
     let wanted = [r#"{"a":[1.5]}"#, "[2"].map(|it| convert_with(Mode::Relaxed, Options::SPECIFIED, it.as_bytes()).unwrap_err());
     same_but_for_line(&lines.refused, [(3, wanted[0].clone()), (4, wanted[1].clone())]);
-    assert_eq!(lines.refused[1].1.offset(), Some(21));
+    assert_eq!(lines.refused[1].1.offset(), Some(20));
     let marked = convert_lines(Mode::Relaxed, Options::SPECIFIED, b"\xef\xbb\xbf[2}\n[}").unwrap();
     let places = marked.refused.iter().map(|(_, it)| (it.line(), it.column(), it.offset())).collect::<Vec<_>>();
     assert_eq!(places, [(Some(1), Some(3), Some(5)), (Some(2), Some(2), Some(8))]);
