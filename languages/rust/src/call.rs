@@ -57,6 +57,15 @@ pub struct RawValue {
     pub kind: u8,
 }
 
+/// `vbson_builder`.
+#[repr(C)]
+pub struct RawBuilder {
+    pub bytes: *mut u8,
+    pub size: usize,
+    pub len: usize,
+    pub needed: usize,
+}
+
 extern "C" {
     fn vbson_version() -> u32;
     // (this one is vbson_convert_with without flags)
@@ -86,6 +95,23 @@ extern "C" {
     fn vbson_raw_object_id(value: *const RawValue, out: *mut [u8; 12]) -> u32;
     fn vbson_raw_date_time(value: *const RawValue, out: *mut i64) -> u32;
     fn vbson_raw_binary(value: *const RawValue, subtype: *mut u32, out: *mut RawSlice) -> u32;
+    fn vbson_document_begin(builder: *mut RawBuilder, start: *mut usize) -> u32;
+    fn vbson_document_end(builder: *mut RawBuilder, start: usize) -> u32;
+    fn vbson_append_document_begin(builder: *mut RawBuilder, key: *const u8, key_len: usize, start: *mut usize) -> u32;
+    fn vbson_append_array_begin(builder: *mut RawBuilder, key: *const u8, key_len: usize, start: *mut usize) -> u32;
+    fn vbson_append_value(builder: *mut RawBuilder, key: *const u8, key_len: usize, value: *const RawValue) -> u32;
+    fn vbson_append_document(builder: *mut RawBuilder, key: *const u8, key_len: usize, bytes: *const u8, len: usize) -> u32;
+    fn vbson_append_array(builder: *mut RawBuilder, key: *const u8, key_len: usize, bytes: *const u8, len: usize) -> u32;
+    fn vbson_append_int32(builder: *mut RawBuilder, key: *const u8, key_len: usize, value: i32) -> u32;
+    fn vbson_append_int64(builder: *mut RawBuilder, key: *const u8, key_len: usize, value: i64) -> u32;
+    fn vbson_append_double(builder: *mut RawBuilder, key: *const u8, key_len: usize, value: u64) -> u32;
+    fn vbson_append_boolean(builder: *mut RawBuilder, key: *const u8, key_len: usize, value: u32) -> u32;
+    fn vbson_append_null(builder: *mut RawBuilder, key: *const u8, key_len: usize) -> u32;
+    fn vbson_append_string(builder: *mut RawBuilder, key: *const u8, key_len: usize, text: *const u8, len: usize) -> u32;
+    fn vbson_append_object_id(builder: *mut RawBuilder, key: *const u8, key_len: usize, id: *const [u8; 12]) -> u32;
+    fn vbson_append_date_time(builder: *mut RawBuilder, key: *const u8, key_len: usize, millis: i64) -> u32;
+    fn vbson_append_binary(builder: *mut RawBuilder, key: *const u8, key_len: usize, subtype: u32, bytes: *const u8, len: usize) -> u32;
+    fn vbson_append_decimal128(builder: *mut RawBuilder, key: *const u8, key_len: usize, bytes: *const [u8; 16]) -> u32;
     fn vbson_decimal128_parse(text: *const u8, len: usize, out: *mut [u8; 16]) -> u32;
     fn vbson_decimal128_print(bytes: *const [u8; 16], buffer: *mut u8, size: usize, len: *mut usize) -> u32;
     fn vbson_object_id_parse(text: *const u8, len: usize, out: *mut [u8; 12]) -> u32;
@@ -413,4 +439,116 @@ pub fn raw_binary(value: &RawValue) -> Option<(u32, RawSlice)> {
     let mut subtype = 0;
     let bytes = typed(NO_SLICE, |out| unsafe { vbson_raw_binary(value, &mut subtype, out) })?;
     Some((subtype, bytes))
+}
+
+/// The memory of a builder, which grows, and the number of bytes in it that are built.
+#[derive(Default)]
+pub struct Memory {
+    bytes: Vec<u8>,
+    len: usize,
+}
+
+impl Memory {
+    pub fn built(&self) -> &[u8] {
+        &self.bytes[..self.len]
+    }
+
+    pub fn clear(&mut self) {
+        self.len = 0;
+    }
+
+    /// Makes a call, and makes it again with more memory if it has too little.
+    fn call(&mut self, call: impl Fn(*mut RawBuilder) -> u32) -> Result<(), ErrorKind> {
+        wants_processor();
+        loop {
+            let mut builder = RawBuilder { bytes: self.bytes.as_mut_ptr(), size: self.bytes.len(), len: self.len, needed: 0 };
+            match call(&mut builder) {
+                BUFFER_TOO_SMALL => self.grow(builder.needed)?,
+                status => {
+                    self.len = builder.len;
+                    return expect_ok(status);
+                }
+            }
+        }
+    }
+
+    fn grow(&mut self, needed: usize) -> Result<(), ErrorKind> {
+        let size = needed.max(2 * self.bytes.len()).max(256);
+        self.bytes.try_reserve(size - self.bytes.len()).map_err(|_| ErrorKind::OutOfMemory)?;
+        self.bytes.resize(size, 0);
+        Ok(())
+    }
+
+    /// Makes a call that sets a start.
+    fn begin(&mut self, call: impl Fn(*mut RawBuilder, *mut usize) -> u32) -> Result<usize, ErrorKind> {
+        let start = std::cell::Cell::new(0);
+        self.call(|builder| call(builder, start.as_ptr()))?;
+        Ok(start.get())
+    }
+}
+
+pub fn document_begin(memory: &mut Memory) -> Result<usize, ErrorKind> {
+    // SAFETY: the builder has the memory, and the start overlaps nothing. So in the calls below, whose slices are readable
+    // and are no part of the memory.
+    memory.begin(|builder, start| unsafe { vbson_document_begin(builder, start) })
+}
+
+pub fn document_end(memory: &mut Memory, start: usize) -> Result<(), ErrorKind> {
+    memory.call(|builder| unsafe { vbson_document_end(builder, start) })
+}
+
+pub fn append_begin(memory: &mut Memory, is_array: bool, key: &[u8]) -> Result<usize, ErrorKind> {
+    let call = if is_array { vbson_append_array_begin } else { vbson_append_document_begin };
+    memory.begin(|builder, start| unsafe { call(builder, key.as_ptr(), key.len(), start) })
+}
+
+/// Copies the bytes of a value of this type.
+pub fn append_value(memory: &mut Memory, key: &[u8], kind: u8, bytes: &[u8]) -> Result<(), ErrorKind> {
+    let value = RawValue { bytes: bytes.as_ptr(), size: bytes.len(), len: bytes.len(), kind };
+    memory.call(|builder| unsafe { vbson_append_value(builder, key.as_ptr(), key.len(), &value) })
+}
+
+pub fn append_document(memory: &mut Memory, is_array: bool, key: &[u8], bytes: &[u8]) -> Result<(), ErrorKind> {
+    let call = if is_array { vbson_append_array } else { vbson_append_document };
+    memory.call(|builder| unsafe { call(builder, key.as_ptr(), key.len(), bytes.as_ptr(), bytes.len()) })
+}
+
+pub fn append_int32(memory: &mut Memory, key: &[u8], value: i32) -> Result<(), ErrorKind> {
+    memory.call(|builder| unsafe { vbson_append_int32(builder, key.as_ptr(), key.len(), value) })
+}
+
+pub fn append_int64(memory: &mut Memory, key: &[u8], value: i64) -> Result<(), ErrorKind> {
+    memory.call(|builder| unsafe { vbson_append_int64(builder, key.as_ptr(), key.len(), value) })
+}
+
+pub fn append_double(memory: &mut Memory, key: &[u8], value: f64) -> Result<(), ErrorKind> {
+    memory.call(|builder| unsafe { vbson_append_double(builder, key.as_ptr(), key.len(), value.to_bits()) })
+}
+
+pub fn append_boolean(memory: &mut Memory, key: &[u8], value: bool) -> Result<(), ErrorKind> {
+    memory.call(|builder| unsafe { vbson_append_boolean(builder, key.as_ptr(), key.len(), value.into()) })
+}
+
+pub fn append_null(memory: &mut Memory, key: &[u8]) -> Result<(), ErrorKind> {
+    memory.call(|builder| unsafe { vbson_append_null(builder, key.as_ptr(), key.len()) })
+}
+
+pub fn append_string(memory: &mut Memory, key: &[u8], text: &[u8]) -> Result<(), ErrorKind> {
+    memory.call(|builder| unsafe { vbson_append_string(builder, key.as_ptr(), key.len(), text.as_ptr(), text.len()) })
+}
+
+pub fn append_object_id(memory: &mut Memory, key: &[u8], id: &[u8; 12]) -> Result<(), ErrorKind> {
+    memory.call(|builder| unsafe { vbson_append_object_id(builder, key.as_ptr(), key.len(), id) })
+}
+
+pub fn append_date_time(memory: &mut Memory, key: &[u8], millis: i64) -> Result<(), ErrorKind> {
+    memory.call(|builder| unsafe { vbson_append_date_time(builder, key.as_ptr(), key.len(), millis) })
+}
+
+pub fn append_binary(memory: &mut Memory, key: &[u8], subtype: u8, bytes: &[u8]) -> Result<(), ErrorKind> {
+    memory.call(|builder| unsafe { vbson_append_binary(builder, key.as_ptr(), key.len(), subtype.into(), bytes.as_ptr(), bytes.len()) })
+}
+
+pub fn append_decimal128(memory: &mut Memory, key: &[u8], bytes: &[u8; 16]) -> Result<(), ErrorKind> {
+    memory.call(|builder| unsafe { vbson_append_decimal128(builder, key.as_ptr(), key.len(), bytes) })
 }

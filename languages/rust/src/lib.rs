@@ -21,6 +21,7 @@
 compile_error!("libvbson.a is made for x86-64 Linux with glibc alone");
 
 mod block;
+mod builder;
 mod call;
 #[cfg(feature = "serde")]
 mod de;
@@ -40,6 +41,7 @@ mod text;
 
 #[cfg(feature = "serde")]
 pub use de::from_document;
+pub use builder::{DocumentBuilder, Element};
 pub use document::{decode, encode, explain_document, hash_document, is_document, same_documents, Bytes};
 pub use error::{Error, ErrorKind};
 pub use explain::RefusedDocument;
