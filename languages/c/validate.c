@@ -7,11 +7,11 @@ int main(void) {
     char *line = NULL;
     size_t size = 0, number = 0, rejected = 0;
     for (ssize_t len; (len = getline(&line, &size, stdin)) >= 0;) {
-        vbson_buffer why = VBSON_BUFFER_INIT;
+        vbson_error why = VBSON_ERROR_INIT;
         number++;
         if (vbson_explain(VBSON_DOUBLES, vbson_bytes(line), (size_t)len, &why) != VBSON_OK) return 2;
-        if (why.len > 0 && ++rejected) printf("line %zu: %s\n", number, vbson_chars(&why));
-        vbson_buffer_free(&why);
+        if (why.code != VBSON_OK && ++rejected) printf("line %zu: %s\n", number, vbson_chars(&why.message));
+        vbson_error_free(&why);
     }
     free(line);
     if (ferror(stdin) || fflush(stdout) != 0) return 2;

@@ -98,7 +98,7 @@ class NoValue(Error):
     """A value can't be represented in the requested types."""
 
 
-_ERRORS = {INVALID_ARGUMENT: (ValueError, "no such mode or flag"), NOT_JSON: (NotJson, "not JSON"),
+_ERRORS = {INVALID_ARGUMENT: (ValueError, "invalid argument"), NOT_JSON: (NotJson, "not JSON"),
            BAD_OBJECT_ID: (BadObjectId, "bad object id"), NOT_EXTENDED_JSON: (NotExtendedJson, "not Extended JSON"),
            OUT_OF_MEMORY: (MemoryError, "out of memory"), INVALID_STRING: (InvalidString, "invalid string"),
            NOT_REPRESENTABLE: (NotRepresentable, "not representable"), NOT_A_DOCUMENT: (NotADocument, "not a document"),
