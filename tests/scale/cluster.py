@@ -103,7 +103,7 @@ def test_a_price_is_converted(client, room, paths, wanted):
         want(vbson_dask.convert_files(client, f"{room}/price.jsonl", folder, "relaxed", doubles=doubles), counts, "the counts")
         rows = is_there(folder, (b'{"price":12.5}\n' if doubles else b"", counts, places))
         want([row[-1] for row in rows],
-             ["not Extended JSON at price (a number is no whole number of 64 bits; found 12.5)"] * (not doubles), "the fault")
+             ["not Extended JSON at price (not a 64-bit integer; found 12.5)"] * (not doubles), "the fault")
 
 
 def test_a_block_that_begins_with_a_mark(client, room, paths, wanted):

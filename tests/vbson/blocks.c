@@ -24,11 +24,11 @@ static void convert_lines(void) {
     CHECK(gives(VBSON_SHOW, 0, "[1]\n", "[1]\n", "", 1, 0));
     CHECK(gives(VBSON_RELAXED, 0, "[1\n{\"b\":2,\"a\":1}\n[1.5]\n{\"$oid\":\"5\"}", "{\"a\":1,\"b\":2}\n",
         "bson: line 1: not JSON at column 2 (unexpected end of input)\n"
-        "bson: line 3: not Extended JSON at 0 (a number is no whole number of 64 bits; found 1.5)\n"
+        "bson: line 3: not Extended JSON at 0 (not a 64-bit integer; found 1.5)\n"
         "bson: line 4: bad object id at $oid (an object id has 24 digits, but \"5\" has 1)\n", 4, 3));
     CHECK(gives(VBSON_RELAXED, VBSON_DOUBLES, "[1.5]\n", "[1.5]\n", "", 1, 0));
     CHECK(gives(VBSON_RELAXED, VBSON_KEEP_ORDER, "{\"b\":1,\"a\":2}\n[1.5]\n", "{\"b\":1,\"a\":2}\n",
-        "bson: line 2: not Extended JSON at 0 (a number is no whole number of 64 bits; found 1.5)\n", 2, 1));
+        "bson: line 2: not Extended JSON at 0 (not a 64-bit integer; found 1.5)\n", 2, 1));
     CHECK(gives(VBSON_RELAXED, VBSON_DOUBLES | VBSON_KEEP_ORDER, "{\"b\":1.5,\"a\":2}", "{\"b\":1.5,\"a\":2}\n", "", 1, 0));
     static const uint8_t before[] = "before";
     vbson_lines out = {{before, 7, 6}, {before, 7, 5}, 3, 4};

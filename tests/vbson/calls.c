@@ -206,19 +206,19 @@ static void explain(void) {
     static const uint8_t before[] = "before";
     const vbson_error was = {77, 7, 8, 9, {before, 7, 6}, {before, 6, 5}, {before, 5, 4}};
     vbson_error out = was;
-    const char *number = "not Extended JSON at orders.1.price (a number is no whole number of 64 bits; found 1.5)";
+    const char *number = "not Extended JSON at orders.1.price (not a 64-bit integer; found 1.5)";
     CHECK(explains(0, "{\"orders\":[1,{\"price\":1.5}]}", number));
     CHECK(explains(VBSON_DOUBLES, "{\"orders\":[1,{\"price\":1.5}]}", ""));
-    CHECK(explains(0, "1.5", "not Extended JSON (a number is no whole number of 64 bits; found 1.5)"));
+    CHECK(explains(0, "1.5", "not Extended JSON (not a 64-bit integer; found 1.5)"));
     CHECK(explains(0, "{\"a\":{\"$oid\":\"53e3\"}}", "bad object id at a.$oid (an object id has 24 digits, but \"53e3\" has 4)"));
     CHECK(explains(0, "[1,]", "not JSON at column 4 (expected an element after the comma)"));
     CHECK(explains(0, "{\"a\" 1}", "not JSON at column 6 (expected a colon and a value after the key)"));
     CHECK(explains(VBSON_DOUBLES, "\"\xff\"", "not JSON at column 2 (invalid UTF-8)"));
     CHECK(explains(VBSON_DOUBLES, "[1e400]", "not JSON at column 2 (number out of range)"));
-    CHECK(explains(0, "{\"a\\u001b\":1.5}", "not Extended JSON at a\\u001b (a number is no whole number of 64 bits; found 1.5)"));
+    CHECK(explains(0, "{\"a\\u001b\":1.5}", "not Extended JSON at a\\u001b (not a 64-bit integer; found 1.5)"));
     CHECK(explains(0, "{\"$oid\":\"5\\u2028\"}", "bad object id at $oid (the character '\xc3\xa2' at 1 in \"5\\u2028\" is no hexadecimal digit)"));
     CHECK(explains(0, "{\"a\":1}", ""));
-    CHECK(explains(VBSON_KEEP_ORDER, "{\"b\":{\"$oid\":\"5\"},\"a\":[1.5]}", "not Extended JSON at a.0 (a number is no whole number of 64 bits; found 1.5)"));
+    CHECK(explains(VBSON_KEEP_ORDER, "{\"b\":{\"$oid\":\"5\"},\"a\":[1.5]}", "not Extended JSON at a.0 (not a 64-bit integer; found 1.5)"));
     CHECK(explains(VBSON_DOUBLES | VBSON_KEEP_ORDER, "[1.5]", ""));
     CHECK(vbson_explain(16, TEXT("{}"), &out) == VBSON_INVALID_ARGUMENT && memcmp(&out, &was, sizeof out) == 0);
     CHECK(explains(VBSON_REJECT_DUPLICATE_KEYS, "{\"a\":[{\"b\":1,\"b\":2}]}", "not Extended JSON at a.0.b (duplicate key)"));
@@ -226,9 +226,9 @@ static void explain(void) {
     CHECK(explains(VBSON_REJECT_DUPLICATE_KEYS | VBSON_LEGACY, "[1.5,", "not JSON at column 5 (unexpected end of input)"));
     CHECK(explains(VBSON_LEGACY, "{\"$binary\":\"AQI=\",\"$type\":\"00\"}", ""));
     CHECK(explains(0, "{\"$binary\":\"AQI=\",\"$type\":\"00\"}",
-        "not Extended JSON (`$binary` stands alone in its object; found {\"$binary\":\"AQI=\",\"$type\":\"00\"})"));
+        "not Extended JSON (`$binary` must be the only key of its object; found {\"$binary\":\"AQI=\",\"$type\":\"00\"})"));
     CHECK(explains(VBSON_LEGACY, "{\"a\":{\"$binary\":\"AQI=\",\"$type\":\"0\"}}",
-        "not Extended JSON at a.$binary (`subType` holds two hexadecimal digits; found {\"base64\":\"AQI=\",\"subType\":\"0\"})"));
+        "not Extended JSON at a.$binary (`subType` must be two hexadecimal digits; found {\"base64\":\"AQI=\",\"subType\":\"0\"})"));
     CHECK(vbson_explain(UINT32_MAX, TEXT("!"), &out) == VBSON_INVALID_ARGUMENT && memcmp(&out, &was, sizeof out) == 0);
 }
 

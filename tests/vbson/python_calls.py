@@ -233,7 +233,7 @@ def try_documents():
     want("a double there", vbson.encode('{"a":1.5}', doubles=True), double)
     raises("a double without", vbson.NotRepresentable, vbson.decode, double, doubles=False)
     raises("a double there without", vbson.NotExtendedJson, vbson.encode, '{"a":1.5}', doubles=False)
-    want("no double there", refusal(vbson.encode, '{"a":1.5}', doubles=False)[1:3], (["a"], "a number is no whole number of 64 bits; found 1.5"))
+    want("no double there", refusal(vbson.encode, '{"a":1.5}', doubles=False)[1:3], (["a"], "not a 64-bit integer; found 1.5"))
     for given, offset, path, why in ((b"", 0, [], "ends too early"), (five + b"\0", 12, [], "trailing bytes after the document"),
                                      (bytes.fromhex("090000000861000200"), 7, ["a"], "a boolean is neither 0 nor 1")):
         words = f"not a document at byte {offset} ({why})"

@@ -10,8 +10,8 @@ STRICT = {"doubles": False}
 
 
 def try_places():
-    number = "a number is no whole number of 64 bits; found 1.5"
-    date = "`$date` holds `$numberLong`, an RFC 3339 text or a whole number"
+    number = "not a 64-bit integer; found 1.5"
+    date = "`$date` must be an RFC 3339 string, an integer or a `$numberLong`"
     digits = 'an object id has 24 digits, but "53e3" has 4'
     no_digit = "the character '%s' at %d in \"%s\" is no hexadecimal digit"
     blank, letter = no_digit % (" ", 1, "5 (xy)"), no_digit % ("z", 0, "zz (a)")

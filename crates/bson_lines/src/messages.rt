@@ -16,18 +16,14 @@ use std::io::Error;
 const HEAD: &[u8] = b"bson: line ";
 
 /// Where bytes would go to a terminal.
-const TERMINAL: &str =
-    "bson: BSON bytes are not written to a terminal; give -o FILE, or a pipe";
+const TERMINAL: &str = "bson: BSON bytes are not written to a terminal; give -o FILE, or a pipe";
 
 /// How many lines or documents there were, and how many were refused.
 pub fn summary(alloc: Global, input: Input, counts: Counts) -> Result<String, AllocError>
     ensures { IfOk result (λ line. string_bytes line ≡ summary_of input counts.lines counts.refused) }
 {
     let what = kind_of(input);
-    format!(in alloc;
-        "bson: {} {what}, {} refused",
-        counts.lines, counts.refused
-    )
+    format!(in alloc; "bson: {} {what}, {} refused", counts.lines, counts.refused)
 }
 
 // What the input has.

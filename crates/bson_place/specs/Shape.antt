@@ -15,5 +15,5 @@ wrapper_in no_members = None
 wrapper_in (member k d ms) = or_next (wrapper_of k) (wrapper_in ms)
 
 abbrev pub alone_text : Wrapper → List ℕ
-alone_text Code = codes "`$code` stands alone in its object, or beside `$scope`"
-alone_text w = codes "`" ++ key_of w ++ codes "` stands alone in its object"
+alone_text Code = codes "`$code` must be the only key of its object, or next to `$scope`"
+alone_text w = codes "`" ++ key_of w ++ codes "` must be the only key of its object"

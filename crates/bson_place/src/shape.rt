@@ -9,32 +9,32 @@ use bson_scalar::wrapper::{Wrapper, wrapper_named};
 use serde_json::{Map, Value};
 
 /// Of code that is no text, beside a scope.
-pub const CODE: &str = "`$code` holds a text";
+pub const CODE: &str = "`$code` must be a string";
 
 /// Of what stands as a scope, beside code.
-pub const SCOPE: &str = "`$scope` holds an object";
+pub const SCOPE: &str = "`$scope` must be an object";
 
 /// Of an object that has the wrapper's key, and other keys than the wrapper's object.
 pub fn beside_others(wrapper: Wrapper) -> &'static str
     ensures names { result.now ≡ alone_text wrapper }
 {
     match wrapper {
-        Wrapper::Oid => "`$oid` stands alone in its object",
-        Wrapper::Symbol => "`$symbol` stands alone in its object",
-        Wrapper::RegularExpression => "`$regularExpression` stands alone in its object",
-        Wrapper::NumberInt => "`$numberInt` stands alone in its object",
-        Wrapper::NumberLong => "`$numberLong` stands alone in its object",
-        Wrapper::NumberDouble => "`$numberDouble` stands alone in its object",
-        Wrapper::NumberDecimal => "`$numberDecimal` stands alone in its object",
-        Wrapper::Binary => "`$binary` stands alone in its object",
-        Wrapper::Uuid => "`$uuid` stands alone in its object",
-        Wrapper::Code => "`$code` stands alone in its object, or beside `$scope`",
-        Wrapper::Timestamp => "`$timestamp` stands alone in its object",
-        Wrapper::Date => "`$date` stands alone in its object",
-        Wrapper::MinKey => "`$minKey` stands alone in its object",
-        Wrapper::MaxKey => "`$maxKey` stands alone in its object",
-        Wrapper::DbPointer => "`$dbPointer` stands alone in its object",
-        Wrapper::Undefined => "`$undefined` stands alone in its object",
+        Wrapper::Oid => "`$oid` must be the only key of its object",
+        Wrapper::Symbol => "`$symbol` must be the only key of its object",
+        Wrapper::RegularExpression => "`$regularExpression` must be the only key of its object",
+        Wrapper::NumberInt => "`$numberInt` must be the only key of its object",
+        Wrapper::NumberLong => "`$numberLong` must be the only key of its object",
+        Wrapper::NumberDouble => "`$numberDouble` must be the only key of its object",
+        Wrapper::NumberDecimal => "`$numberDecimal` must be the only key of its object",
+        Wrapper::Binary => "`$binary` must be the only key of its object",
+        Wrapper::Uuid => "`$uuid` must be the only key of its object",
+        Wrapper::Code => "`$code` must be the only key of its object, or next to `$scope`",
+        Wrapper::Timestamp => "`$timestamp` must be the only key of its object",
+        Wrapper::Date => "`$date` must be the only key of its object",
+        Wrapper::MinKey => "`$minKey` must be the only key of its object",
+        Wrapper::MaxKey => "`$maxKey` must be the only key of its object",
+        Wrapper::DbPointer => "`$dbPointer` must be the only key of its object",
+        Wrapper::Undefined => "`$undefined` must be the only key of its object",
     }
 }
 

@@ -22,7 +22,7 @@ const MOST: usize = 300;
 /// if let Err(error) = convert(alloc, Mode::Canonical, text) {
 ///     if let Explanation::Value(place, reason) = Explanation::of(alloc, &error, text)? {
 ///         println!(rt; "{:?}", place.segments)?; // [Element(0), Key("orders")]
-///         println!(rt; "{reason}")?; // a number is no whole number of 64 bits; found 1.5
+///         println!(rt; "{reason}")?; // not a 64-bit integer; found 1.5
 ///     }
 /// }
 /// ```

@@ -47,7 +47,7 @@ pub struct Counts {
 ///     let place = run.place(alloc, &fault)?;
 ///     println!(rt; "line {}: {}{place}", run.number(), fault.message())?;
 /// }
-/// // line 1: not Extended JSON at n (a number is no whole number of 64 bits; found 1.5)
+/// // line 1: not Extended JSON at n (not a 64-bit integer; found 1.5)
 /// ```
 #[derive(Drop)]
 pub struct LineRun {

@@ -28,9 +28,9 @@ use bson_types::uuid_value::Uuid;
 use serde_json::Value;
 use std::alloc::{AllocError, Global};
 
-const BINARY_SHAPE: &str = "`$binary` holds the texts `base64` and `subType`";
+const BINARY_SHAPE: &str = "`$binary` must have the strings `base64` and `subType`";
 
-const UUID_SHAPE: &str = "`$uuid` holds the hyphenated text of a UUID";
+const UUID_SHAPE: &str = "`$uuid` must be a string with a hyphenated UUID";
 
 // The byte of a text of two hexadecimal digits.
 fn byte_of(text: &str) -> Option<u8>
@@ -50,7 +50,7 @@ fn bytes_of(alloc: Global, text: &str) -> Result<Vec<u8>, Error>
         Ok(Binary { subtype: _, bytes }) => Ok(bytes),
         Err(binary::Error::OutOfMemory) => Err(Error::OutOfMemory),
         Err(_) => Err(Error::DeserializationError {
-            message: "`base64` holds no base64 text",
+            message: "`base64` is not valid base64",
         }),
     }
 }
@@ -65,7 +65,7 @@ pub(crate) fn read_binary(alloc: Global, value: Value) -> Result<Scalar, Error>
     let bytes = bytes_of(alloc, base64.as_str())?;
     let byte = expect(
         byte_of(subtype.as_str()),
-        "`subType` holds two hexadecimal digits",
+        "`subType` must be two hexadecimal digits",
     )?;
     Ok(Scalar::Binary(Binary {
         subtype: BinarySubtype::from(byte),

@@ -23,7 +23,7 @@ use bson_datetime::DateTime;
 use serde_json::Value;
 use std::alloc::{AllocError, Global};
 
-const SHAPE: &str = "`$date` holds `$numberLong`, an RFC 3339 text or a whole number";
+const SHAPE: &str = "`$date` must be an RFC 3339 string, an integer or a `$numberLong`";
 
 // The last millisecond of the year 9999.
 const LAST_RELAXED: i64 = 253_402_300_799_999;

@@ -16,7 +16,8 @@ use bson_decimal::Decimal128;
 use serde_json::Value;
 use std::alloc::{AllocError, Global};
 
-const SHAPE: &str = "`$numberDecimal` holds the text of a decimal that a Decimal128 has exactly";
+const SHAPE: &str =
+    "`$numberDecimal` must be a string with a decimal that fits a Decimal128 exactly";
 
 // The number of bytes of the longest text: a sign, 34 digits, a point, `E`, and an exponent of a
 // sign and four digits.

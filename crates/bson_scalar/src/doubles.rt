@@ -25,13 +25,15 @@ use crate::write_error::WriteError;
 use serde_json::{Number, Value};
 use std::alloc::AllocError;
 
-const SHAPE: &str = "`$numberDouble` holds `0.0`, `-0.0`, `Infinity`, `-Infinity`, `NaN` or `-NaN`";
+const SHAPE: &str =
+    "`$numberDouble` must be `0.0`, `-0.0`, `Infinity`, `-Infinity`, `NaN` or `-NaN`";
 
-const FINITE_SHAPE: &str = "`$numberDouble` holds a decimal number whose nearest double is finite, \
+const FINITE_SHAPE: &str =
+    "`$numberDouble` must be a decimal number whose nearest double is finite, \
     `Infinity`, `-Infinity`, `NaN` or `-NaN`";
 
 /// What is told of a JSON number that is no i64, where no finite doubles are read.
-pub const NUMBER: &str = "a number is no whole number of 64 bits";
+pub const NUMBER: &str = "not a 64-bit integer";
 
 const FINITE_NUMBER: &str = "a number is greater than any double";
 

@@ -22,7 +22,8 @@ use bson_types::oid::{self, ObjectId};
 use serde_json::Value;
 use std::alloc::{AllocError, Global};
 
-const POINTER_SHAPE: &str = "`$dbPointer` holds `$ref`, a text, and `$id`, an object of `$oid`";
+const POINTER_SHAPE: &str =
+    "`$dbPointer` must have `$ref`, a string, and `$id`, an object with `$oid`";
 
 // The object id of a text, or `InvalidObjectId` with the fault that the text has.
 fn id_of(alloc: Global, text: &str) -> Result<ObjectId, Error>
@@ -39,7 +40,7 @@ fn id_of(alloc: Global, text: &str) -> Result<ObjectId, Error>
 pub(crate) fn read_oid(alloc: Global, value: Value) -> Result<Scalar, Error>
     ensures { Gives scalar_view result (oid_read (view value)) }
 {
-    let text = text_in(value, "`$oid` holds the text of an object id")?;
+    let text = text_in(value, "`$oid` must be a string with an object id")?;
     Ok(Scalar::ObjectId(id_of(alloc, text.as_str())?))
 }
 

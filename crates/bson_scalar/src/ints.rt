@@ -16,9 +16,9 @@ use crate::wrapped::wrapped_numeral;
 use serde_json::Value;
 use std::alloc::AllocError;
 
-const INT32_SHAPE: &str = "`$numberInt` holds the text of an i32";
+const INT32_SHAPE: &str = "`$numberInt` must be a string with a 32-bit integer";
 
-const INT64_SHAPE: &str = "`$numberLong` holds the text of an i64";
+const INT64_SHAPE: &str = "`$numberLong` must be a string with a 64-bit integer";
 
 // The number of a text: a sign or none, and digits, whose number is an i32.
 fn int32_of(text: &str) -> Option<i32>

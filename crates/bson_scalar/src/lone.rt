@@ -31,7 +31,7 @@ pub(crate) fn read_min_key(value: Value) -> Result<Scalar, Error>
         Ok(Scalar::MinKey)
     } else {
         Err(Error::DeserializationError {
-            message: "`$minKey` holds the number 1",
+            message: "`$minKey` must be 1",
         })
     }
 }
@@ -44,7 +44,7 @@ pub(crate) fn read_max_key(value: Value) -> Result<Scalar, Error>
         Ok(Scalar::MaxKey)
     } else {
         Err(Error::DeserializationError {
-            message: "`$maxKey` holds the number 1",
+            message: "`$maxKey` must be 1",
         })
     }
 }
@@ -56,7 +56,7 @@ pub(crate) fn read_undefined(value: Value) -> Result<Scalar, Error>
     match value {
         Value::Bool(true) => Ok(Scalar::Undefined),
         _ => Err(Error::DeserializationError {
-            message: "`$undefined` holds true",
+            message: "`$undefined` must be true",
         }),
     }
 }

@@ -17,7 +17,7 @@ use bson_types::regex::{Regex, sort_characters};
 use serde_json::Value;
 use std::alloc::{AllocError, Global};
 
-const SHAPE: &str = "`$regularExpression` holds the texts `pattern` and `options`";
+const SHAPE: &str = "`$regularExpression` must have the strings `pattern` and `options`";
 
 // What `$regularExpression` holds, as a regular expression with its options sorted.
 pub(crate) fn read_regex(alloc: Global, value: Value) -> Result<Scalar, Error>

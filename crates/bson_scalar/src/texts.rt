@@ -18,14 +18,14 @@ use std::alloc::AllocError;
 pub(crate) fn read_symbol(value: Value) -> Result<Scalar, Error>
     ensures { Gives scalar_view result (symbol_read (view value)) }
 {
-    Ok(Scalar::Symbol(text_in(value, "`$symbol` holds a text")?))
+    Ok(Scalar::Symbol(text_in(value, "`$symbol` must be a string")?))
 }
 
 // What `$code` holds where it stands alone, as code without a scope.
 pub(crate) fn read_code(value: Value) -> Result<Scalar, Error>
     ensures { Gives scalar_view result (code_read (view value)) }
 {
-    Ok(Scalar::JavaScriptCode(text_in(value, "`$code` holds a text")?))
+    Ok(Scalar::JavaScriptCode(text_in(value, "`$code` must be a string")?))
 }
 
 // Writes the tree of a symbol, in both forms.

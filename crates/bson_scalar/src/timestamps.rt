@@ -17,7 +17,7 @@ use bson_types::timestamp::Timestamp;
 use serde_json::Value;
 use std::alloc::AllocError;
 
-const SHAPE: &str = "`$timestamp` holds `t` and `i`, whole numbers from 0 to 4294967295";
+const SHAPE: &str = "`$timestamp` must have `t` and `i`, integers from 0 to 4294967295";
 
 // What `$timestamp` holds, as a timestamp: `t` is its time, `i` its increment.
 pub(crate) fn read_timestamp(value: Value) -> Result<Scalar, Error>

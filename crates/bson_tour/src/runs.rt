@@ -197,7 +197,7 @@ fn line_run(rt: &impl Print, alloc: Global) -> anyhow::Result<()> {
         let place = run.place(alloc, &fault)?;
         println!(rt; "line {}: {}{place}", run.number(), fault.message())?;
     }
-    // line 1: not Extended JSON at n (a number is no whole number of 64 bits; found 1.5)
+    // line 1: not Extended JSON at n (not a 64-bit integer; found 1.5)
     Ok(())
 }
 
@@ -241,7 +241,7 @@ fn explanation(rt: &impl Print, alloc: Global) -> anyhow::Result<()> {
     if let Err(error) = convert(alloc, Mode::Canonical, text) {
         if let Explanation::Value(place, reason) = Explanation::of(alloc, &error, text)? {
             println!(rt; "{:?}", place.segments)?; // [Element(0), Key("orders")]
-            println!(rt; "{reason}")?; // a number is no whole number of 64 bits; found 1.5
+            println!(rt; "{reason}")?; // not a 64-bit integer; found 1.5
         }
     }
     Ok(())

@@ -14,7 +14,7 @@ class Error(ValueError):
     """The library rejected its input. str() is the message.
 
     code     the status of the C library, for example NOT_EXTENDED_JSON
-    reason   what is wrong: 'a number is no whole number of 64 bits; found 1.5'. Without a longer one it is the message
+    reason   what is wrong: 'not a 64-bit integer; found 1.5'. Without a longer one it is the message
     path     the keys and indexes that lead to the wrong value, for example ['orders', 3, 'price']. It is empty if the error
              is that of the whole value, or if the input is not JSON
     offset   the bytes of the input before the error, if the input is not JSON or not a document; otherwise None

@@ -44,7 +44,7 @@ impl ErrorKind {
 }
 
 /// Why a call failed, and for Extended JSON and documents also where. It is displayed as
-/// `not Extended JSON at orders.0.price (a number is no whole number of 64 bits; found 1.5)`.
+/// `not Extended JSON at orders.0.price (not a 64-bit integer; found 1.5)`.
 #[derive(Clone, Debug, PartialEq, Eq)]
 pub struct Error {
     kind: ErrorKind,
@@ -63,7 +63,7 @@ impl Error {
         self.parts().0
     }
 
-    /// Returns what is wrong there: `a number is no whole number of 64 bits; found 1.5`. If the input is not JSON, it is the
+    /// Returns what is wrong there: `not a 64-bit integer; found 1.5`. If the input is not JSON, it is the
     /// broken rule, for example `expected a comma or a closing bracket`. Otherwise it is the message of the kind.
     pub fn reason(&self) -> &str {
         Some(self.parts().1).filter(|it| !it.is_empty()).unwrap_or(self.kind.words())

@@ -89,7 +89,7 @@ fn written(value: &Value) -> Result<Vec<u8>, Error> {
         Some(path) => {
             let path: Vec<_> = path.into_iter().rev().collect();
             let place = if path.is_empty() { String::new() } else { format!(" at {}", path.join(".")) };
-            let words = format!("not Extended JSON{place} (a number is no whole number of 64 bits)");
+            let words = format!("not Extended JSON{place} (not a 64-bit integer)");
             Err(Error::explained(ErrorKind::NotExtendedJson, &words))
         }
         None => Ok(serde_json::to_vec(value).expect("a value has a text")),

@@ -66,9 +66,9 @@ fn faults_are_told() {
 
 #[test]
 fn places_are_told() {
-    let number = "a number is no whole number of 64 bits; found 1.5";
+    let number = "not a 64-bit integer; found 1.5";
     let (early, quotes) = ("unexpected end of input", "keys and strings must be in double quotes");
-    let date = r#"`$date` holds `$numberLong`, an RFC 3339 text or a whole number; found " (a)""#;
+    let date = r#"`$date` must be an RFC 3339 string, an integer or a `$numberLong`; found " (a)""#;
     let digit = "the character ' ' at 4 in \"53e3 (\" is no hexadecimal digit";
     // (of a path and of a message 300 characters are told)
     let (long, cut) = ("a".repeat(1000), "a".repeat(300) + "..");

@@ -37,7 +37,7 @@ fn numbers_are_kept() {
     for (value, at) in [(json!(u64::MAX), ""), (json!({"a": [0, {"b": 1u64 << 63}]}), "a.1.b")] {
         for options in [ALL, Options::default()] {
             let error = to_text(Form::Relaxed, options, &value).unwrap_err();
-            assert_eq!((error.kind(), error.path(), error.reason()), (ErrorKind::NotExtendedJson, at, "a number is no whole number of 64 bits"));
+            assert_eq!((error.kind(), error.path(), error.reason()), (ErrorKind::NotExtendedJson, at, "not a 64-bit integer"));
         }
     }
     assert_eq!(&*to_text(Form::Relaxed, ALL, &json!(i64::MAX)).unwrap(), "9223372036854775807");
