@@ -43,7 +43,7 @@ uint32_t vbson_version(void);
 
 enum vbson_status {
     VBSON_OK = 0,
-    VBSON_INVALID_ARGUMENT = 1,  /* the mode is not one of vbson_mode, or a bit of the flags is not a flag */
+    VBSON_INVALID_ARGUMENT = 1,  /* the mode is not one of vbson_mode, a bit of the flags is not a flag, or as its call says */
     VBSON_NOT_JSON = 2,          /* the input is not UTF-8, is not one JSON text, or nests deeper than 127 */
     VBSON_BAD_OBJECT_ID = 3,     /* the first error is an invalid object id */
     VBSON_NOT_EXTENDED_JSON = 4, /* the first error is any other: the JSON is not valid Extended JSON v2 */
@@ -64,7 +64,7 @@ enum vbson_status {
 static inline const char *vbson_status_text(uint32_t status) {
     switch (status) {
     case VBSON_OK: return "done";
-    case VBSON_INVALID_ARGUMENT: return "no such mode or flag";
+    case VBSON_INVALID_ARGUMENT: return "invalid argument";
     case VBSON_NOT_JSON: return "not JSON";
     case VBSON_BAD_OBJECT_ID: return "bad object id";
     case VBSON_NOT_EXTENDED_JSON: return "not Extended JSON";

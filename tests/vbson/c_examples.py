@@ -2,6 +2,7 @@
 line is 'N passed, M failed'."""
 import datetime
 import decimal
+import json
 import random
 import subprocess
 import sys
@@ -75,14 +76,23 @@ def is_read(line):
     return True
 
 
+def column_of(line):
+    """Where Python's reader of JSON stops."""
+    try:
+        json.loads(line)
+    except json.JSONDecodeError as error:
+        return error.colno
+    return None
+
+
 def try_validate(given):
     lines = [json_util.dumps(it, json_options=form) for it in given[:20] for form in (CANONICAL, json_util.RELAXED_JSON_OPTIONS)]
     want("validate valid lines", run("validate", "".join(f"{it}\n" for it in lines).encode()), (0, b"", ""))
-    lines[3], lines[5], lines[8], lines[9] = '{"a": }', '{"a":[{"_id":{"$oid":"5"}}]}', '{"a":{"$date":"2020"}}', '{"a":1'
+    lines[3], lines[5], lines[8], lines[9] = "[1 2]", '{"a":[{"_id":{"$oid":"5"}}]}', '{"a":{"$date":"2020"}}', '{"a":1'
     status, said, _ = run("validate", "\n".join(lines).encode())
     starts = [it.partition(" (")[0] for it in said.decode().splitlines()]
-    want("validate", (status, starts), (1, ["line 4: not JSON at column 7", "line 6: bad object id at a.0._id.$oid",
-                                            "line 9: not Extended JSON at a.$date", "line 10: not JSON at column 7"]))
+    want("validate", (status, starts), (1, [f"line 4: not JSON at column {column_of(lines[3])}", "line 6: bad object id at a.0._id.$oid",
+                                            "line 9: not Extended JSON at a.$date", f"line 10: not JSON at column {column_of(lines[9])}"]))
     want("the lines that PyMongo does not read", [number for number, it in enumerate(lines, 1) if not is_read(it)], [4, 6, 9, 10])
 
 

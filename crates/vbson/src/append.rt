@@ -59,6 +59,8 @@ pub extern "C" fn vbson_append_value(
 ) -> u32
     ensures appended { (type : ElementType) → tag_of type ≡ value.now.kind
         → Appends type key.now (take value.now.len value.now.bytes.now) result builder.old builder.new }
+    ensures typed { result ≡ 0
+        → (value.now.len ≤ length value.now.bytes.now) × ((type : ElementType) × (tag_of type ≡ value.now.kind)) }
     ensures no_value { result ≡ 1
         → (length value.now.bytes.now < value.now.len) ⊎ ((type : ElementType) → tag_of type ≢ value.now.kind) }
     ensures not_utf8 { result ≡ 6 → is_utf8 key.now ≡ false }
