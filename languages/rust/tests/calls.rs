@@ -7,7 +7,7 @@ use vbson::{Bson, DateTime, Decimal128, Error, ErrorKind, Mode, ObjectId, Option
 #[test]
 fn texts_are_converted() {
     let text = convert(Mode::Canonical, br#"{"b":2147483648,"a":-5}"#).unwrap();
-    assert_eq!(&*text, r#"{"a":{"$numberInt":"-5"},"b":{"$numberLong":"2147483648"}}"#);
+    assert_eq!(&*text, r#"{"b":{"$numberLong":"2147483648"},"a":{"$numberInt":"-5"}}"#);
     assert_eq!(text.to_string(), &*text);
     assert_eq!(format!("{:?}", convert(Mode::Relaxed, b"[ 1 ]").unwrap()), "\"[1]\"");
     assert_eq!(&*convert(Mode::Show, br#"{"$code":""}"#).unwrap(), "");
