@@ -95,17 +95,17 @@ fn places_are_told() {
     let number = "not a 64-bit integer; found 1.5";
     let date = r#"`$date` must be an RFC 3339 string, an integer or a `$numberLong`; found " (a)""#;
     let digit = "the character ' ' at 4 in \"53e3 (\" is no hexadecimal digit";
-    // (of a path and of a message 300 characters are told)
+    // (the message has 300 characters of a path)
     let (long, cut) = ("a".repeat(1000), "a".repeat(300) + "..");
     let (a, index): (PathElement, PathElement) = ("a (".into(), 0.into());
     for (text, words, path, why) in [
         (r#"{"a (":[{"b":1.5}]}"#, format!("not Extended JSON at a (.0.b ({number})"), vec![a.clone(), index, "b".into()], number),
         ("1.5", format!("not Extended JSON ({number})"), vec![], number),
-        (r#"{"a.0":1,"a":{"0":1.5}}"#, format!("not Extended JSON at a.0 ({number})"), vec!["a.0".into()], number),
+        (r#"{"a.0":1,"a":{"0":1.5}}"#, format!("not Extended JSON at a.0 ({number})"), vec!["a".into(), "0".into()], number),
         (r#"{"a (":{"$date":" (a)"}}"#, format!("not Extended JSON at a (.$date ({date})"), vec![a, "$date".into()], date),
         (r#"{"a":{"$oid":"53e3 ("}}"#, format!("bad object id at a.$oid ({digit})"), vec!["a".into(), "$oid".into()], digit),
         (r#"{"\u0007":1.5}"#, format!(r"not Extended JSON at \u0007 ({number})"), vec!["\u{7}".into()], number),
-        (&*format!(r#"{{"{long}":{{"$oid":"53e3 ("}}}}"#), format!("bad object id at {cut} ({digit})"), vec![cut[..300].into(), "".into(), "".into()], digit),
+        (&*format!(r#"{{"{long}":{{"$oid":"53e3 ("}}}}"#), format!("bad object id at {cut} ({digit})"), vec![(&*long).into(), "$oid".into()], digit),
     ] {
         let error = convert_with(Mode::Relaxed, Options::SPECIFIED, text.as_bytes()).unwrap_err();
         assert_eq!((error.to_string(), &error.path()[..], error.reason()), (words, &path[..], why));
@@ -133,7 +133,7 @@ fn values_without_a_text_are_named() {
     let error = decode(Mode::Canonical, Options::SPECIFIED, &bytes).unwrap_err();
     assert_eq!((error.kind(), error.reason()), (ErrorKind::NotRepresentable, "a finite double"));
     assert_eq!(error.path()[..], ["c".into(), "$scope".into(), "b".into(), 2.into()]);
-    assert_eq!(error.to_string(), "no text at c.$scope.b.2 (a finite double)");
+    assert_eq!(error.to_string(), "not representable at c.$scope.b.2 (a finite double)");
 }
 
 #[test]

@@ -142,7 +142,7 @@ fn documents_of_another_shape_are_rejected_with_their_path() {
     assert_eq!((error.kind(), error.code()), (ErrorKind::UnexpectedType, Some(15)));
     assert_eq!(error.path()[..], ["list".into(), 1.into(), "count".into()]);
     assert_eq!(error.reason(), "invalid type: string \"c\", expected u32");
-    assert_eq!(error.to_string(), "another type at list.1.count (invalid type: string \"c\", expected u32)");
+    assert_eq!(error.to_string(), "unexpected type at list.1.count (invalid type: string \"c\", expected u32)");
     assert_eq!(failed(r#"{"list": [{"sku": "a", "count": -1}]}"#).path().to_string(), "list.0.count");
     assert_eq!(failed(r#"{"list": [{"sku": "a", "count": 1.5}]}"#).path().to_string(), "list.0.count");
     assert_eq!(failed(r#"{"list": [{"sku": "a"}]}"#).path().to_string(), "list.0");
