@@ -107,7 +107,7 @@ fn lines_are_read() {
     assert_eq!(LineReader::with_options(Options::SPECIFIED, &b"{\"b\":1.5}"[..]).next().unwrap().unwrap_err().kind(), ErrorKind::NotExtendedJson);
     let deep = format!("{}{}1{}{}", "{\"a\":", "[".repeat(100), "]".repeat(100), "}");
     let error = LineReader::new(deep.as_bytes()).next().unwrap().unwrap_err();
-    assert_eq!((error.kind(), error.reason(), error.line()), (ErrorKind::NotADocument, "nests too deep", Some(1)));
+    assert_eq!((error.kind(), error.reason(), error.line()), (ErrorKind::NotADocument, "nested too deep", Some(1)));
 }
 
 #[test]
