@@ -20,6 +20,7 @@ from run import BYTES, HERE, KINDS, ROUNDS, TOP, best_of, generate
 
 PROGRAM = f"{TOP}/crates/bson_cli/out/bson_cli"
 CALLS, SIZE = 1000 if BYTES else 1_000_000, BYTES or 10_000_000
+DEBIAN = "/usr/share/cargo/registry"
 
 
 def built(room, name, words):
@@ -41,6 +42,11 @@ def rust(room):
     if not shutil.which("cargo"):
         return None
     shutil.copytree(f"{TOP}/languages/rust", f"{room}/rust")
+    if os.path.isdir(DEBIAN):
+        # (cargo looks for optional packages too, and finds them among those of Debian)
+        os.mkdir(f"{room}/rust/.cargo")
+        with open(f"{room}/rust/.cargo/config.toml", "w") as it:
+            it.write(f'[source.crates-io]\nreplace-with = "debian"\n[source.debian]\ndirectory = "{DEBIAN}"\n')
     shutil.copy(f"{HERE}/library.rs", f"{room}/rust/examples")
     where = {**os.environ, "VBSON_LIB": f"{TOP}/languages/out/lib", "CARGO_TARGET_DIR": f"{room}/target"}
     words = ["cargo", "build", "--offline", "--quiet", "--release", "--example", "library"]
