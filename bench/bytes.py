@@ -163,7 +163,7 @@ def whole_runs(theirs, path):
     """Seconds of whole runs: decode canonical, libbson's text, decode check, bson_validate."""
     # (as the script starts it)
     ours = ["env", "MALLOC_MMAP_THRESHOLD_=131072", PROGRAM]
-    commands = [[*ours, "canonical", "--bson"], [theirs, "text", "1"], [*ours, "check", "--bson"],
+    commands = [[*ours, "decode", "canonical"], [theirs, "text", "1"], [*ours, "decode", "check"],
                 [theirs, "check", "1"]]
     return [it and it[0] for it in best_of(ROUNDS, commands, path, whole=True)]
 

@@ -33,7 +33,7 @@ def libbson(room):
 def lines(form, dump, path):
     """Writes the lines of a dump in a form."""
     with open(path, "wb") as out:
-        subprocess.run([PROGRAM, form, "--bson"], input=dump, stdout=out, check=True)
+        subprocess.run([PROGRAM, "decode", form], input=dump, stdout=out, check=True)
 
 
 def spent(command, path, output):

@@ -58,7 +58,7 @@ def main():
     sizes = megabytes(sys.argv[1:])
     subprocess.run([f"{TOP}/bson", "build"], check=True, stdout=subprocess.DEVNULL)
     ours = [f"{TOP}/crates/bson_cli/out/bson_cli", "canonical"]
-    with_doubles = [f"{TOP}/crates/bson_lines/out/bson_lines", "canonical", "--whole", "--sort-keys"]
+    with_doubles = [f"{TOP}/crates/bson_lines/out/bson_lines", "canonical", "--sort-keys"]
     with tempfile.TemporaryDirectory() as room:
         theirs = libbson(room)
         print("| input | MB | bson_cli, s | MB | libbson, s | MB | ratio of times |\n|---|---|---|---|---|---|---|")

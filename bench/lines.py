@@ -91,7 +91,7 @@ def main():
             lines, whole = f"{room}/lines.jsonl", f"{room}/list.json"
             generate(lines, None if alone else whole, count)
             for form in ("canonical", "relaxed"):
-                commands = [([bson_lines, form, "--strict"], lines)]
+                commands = [([bson_lines, "lines", form, "--strict"], lines)]
                 if not alone:
                     commands.append(([bson_cli, form], whole))
                     if shutil.which("jq"):

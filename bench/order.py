@@ -33,12 +33,12 @@ def lines(path, size):
 
 
 def instructions(words, path):
-    ran = subprocess.run([*COUNTED, PROGRAM, "canonical", *words, path], stdout=subprocess.DEVNULL, stderr=subprocess.PIPE, check=True)
+    ran = subprocess.run([*COUNTED, PROGRAM, *words, path], stdout=subprocess.DEVNULL, stderr=subprocess.PIPE, check=True)
     return int(re.search(rb"Collected : (\d+)", ran.stderr)[1])
 
 
 def peak(words, path):
-    run = subprocess.Popen([PROGRAM, "canonical", *words, path], stdout=subprocess.DEVNULL)
+    run = subprocess.Popen([PROGRAM, *words, path], stdout=subprocess.DEVNULL)
     _, status, usage = os.wait4(run.pid, 0)
     run.returncode = status
     if status != 0:
@@ -47,7 +47,7 @@ def peak(words, path):
 
 
 def times(sizes):
-    ways = [[PROGRAM, "canonical", "--whole", "--strict"], [PROGRAM, "canonical", "--whole"]]
+    ways = [[PROGRAM, "canonical", "--strict"], [PROGRAM, "canonical"]]
     print("| Input | MB | Sorted, s | In order, s | libbson, s | In order over sorted | over libbson |")
     print("|---|---|---|---|---|---|---|")
     with tempfile.TemporaryDirectory() as room:
@@ -68,8 +68,8 @@ def times(sizes):
 def main():
     if sys.argv[1:2] == ["--time"]:
         return times(megabytes(sys.argv[2:]))
-    inputs = [(kind[0], ["--whole"], lambda path, size, kind=kind: generate(path, *kind[1:], size)) for kind in KINDS[:-1]]
-    inputs.append(("small documents, one a line", [], lines))
+    inputs = [(kind[0], ["canonical"], lambda path, size, kind=kind: generate(path, *kind[1:], size)) for kind in KINDS[:-1]]
+    inputs.append(("small documents, one a line", ["lines", "canonical"], lines))
     print("| Input | Instructions | Peak over size, sorted | in order |\n|---|---|---|---|")
     with tempfile.TemporaryDirectory() as room:
         path = f"{room}/input.json"

@@ -1,14 +1,14 @@
 # Completions of bash for bson.
 _bson() {
     local word=${COMP_WORDS[COMP_CWORD]} before=${COMP_WORDS[COMP_CWORD - 1]} it mode='' own='' options='--sort-keys --strict --legacy --no-double-keys --indent --output --help --version'
-    local modes='canonical relaxed show'
+    local modes='canonical relaxed show check'
     for it in "${COMP_WORDS[@]:1:COMP_CWORD-1}"; do
         case $it in
-            lines) modes+=' check' options=${options/--indent/--keep-going --jobs} ;;
-            decode) modes+=' check' own='--sort-keys --strict ' options='--sort-keys --strict --keep-going --jobs --output --help --version' ;;
+            lines) options=${options/--indent/--keep-going --jobs} ;;
+            decode) own='--sort-keys --strict ' options='--sort-keys --strict --keep-going --jobs --output --help --version' ;;
             encode) modes='' mode=$it options='--sort-keys --strict --keep-going --jobs --output --help --version' ;;
             show) mode=$it options=${options/ --indent/} options=${options#"$own"} ;;
-            check) mode=$it options=${options#"$own"} options=${options/--sort-keys /} options=${options/ --output/} ;;
+            check) mode=$it options=${options#"$own"} options=${options/--sort-keys /} options=${options/ --indent/} options=${options/ --output/} ;;
             canonical | relaxed) mode=$it ;;
         esac
     done

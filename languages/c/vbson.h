@@ -91,8 +91,8 @@ enum vbson_mode {
     VBSON_SHOW = 2       /* a form for people to read; it is not JSON */
 };
 
-/* Flags are combined with |; 0 sets none. Only vbson_same, vbson_hash, vbson_same_documents, vbson_hash_document and
- * vbson_explain accept the last two. */
+/* Flags are combined with |; 0 sets none. Only vbson_same, vbson_hash, vbson_same_documents, vbson_hash_document,
+ * vbson_explain and vbson_explain_document accept the last two. */
 enum vbson_flag {
     VBSON_DOUBLES = 1,               /* accept and write finite doubles */
     VBSON_KEEP_ORDER = 2,            /* preserve the order of keys; without it keys are sorted */
@@ -151,10 +151,11 @@ typedef struct vbson_error {
     uint32_t code;        /* the status of the rejection; VBSON_OK if the input is accepted */
     size_t line;          /* of VBSON_NOT_JSON: the line on which the input stops to be JSON, from 1; otherwise 0 */
     size_t column;        /* of VBSON_NOT_JSON: the byte of that line, from 1; otherwise 0 */
-    size_t offset;        /* of VBSON_NOT_JSON: the number of bytes of the input before that byte; otherwise 0 */
+    size_t offset;        /* of VBSON_NOT_JSON: the number of bytes of the input before that byte. Of VBSON_NOT_A_DOCUMENT: the
+                             number of bytes before the first error. Otherwise 0 */
     vbson_buffer path;    /* the way to the invalid value: the bytes of a BSON array, for vbson_raw_elements. A key is a
                              string, and an array index, from 0, an integer of 64 bits. It is empty if the error is that of
-                             the whole input, or of JSON */
+                             the whole input, of JSON, or of a document's bytes */
     vbson_buffer reason;  /* what is wrong: the RULE or the MESSAGE below */
     vbson_buffer message; /* all of this as one line for people, without a newline */
 } vbson_error;
@@ -228,12 +229,20 @@ uint32_t vbson_hash(uint32_t flags, const uint8_t *text, size_t len, uint64_t *o
 /* Checks that the bytes are exactly one document. Allocates no memory. VBSON_NOT_A_DOCUMENT. */
 uint32_t vbson_is_document(const uint8_t *bytes, size_t len);
 
-/* Writes why the bytes are not one document, as one line without a newline: "not a document at byte 4 (ends too early)",
- * with the byte offset of the first error. The output is empty if they are one. The errors: "nested too deep", "ends too early",
- * "invalid length", "unknown element type", "missing NUL after a string", "invalid UTF-8", "a boolean is neither 0 nor 1",
- * "trailing bytes after the document". *out is overwritten: its old block is not freed.
- * VBSON_OUT_OF_MEMORY. */
-uint32_t vbson_explain_document(const uint8_t *bytes, size_t len, vbson_buffer *out);
+/* Finds why, and where, vbson_decode rejects the bytes under these flags, in the canonical and relaxed forms. The code is
+ * VBSON_OK if and only if it accepts them; then the path is an empty array, and the strings are empty. Otherwise the code is
+ * the status of vbson_decode, and the message is one of
+ *     "not a document at byte N (REASON)"     N is the offset of the first error in the bytes. REASON is "nested too deep",
+ *                                             "ends too early", "invalid length", "unknown element type", "missing NUL after a
+ *                                             string", "invalid UTF-8", "a boolean is neither 0 nor 1", "trailing bytes after
+ *                                             the document" or "duplicate key"
+ *     "not representable (a finite double)"   the document has one other than 0.0, and the flags lack VBSON_DOUBLES
+ * The path is an empty array in both cases. With VBSON_REJECT_DUPLICATE_KEYS, bytes with a duplicate key in a document, at
+ * any depth, are not a document; the offset is that of the second key. With VBSON_DOUBLES the call also explains
+ * vbson_same_documents and vbson_hash_document under these flags, and without other flags vbson_is_document.
+ * VBSON_KEEP_ORDER and VBSON_LEGACY change nothing. The call reads the bytes again, so use it only after a rejection. *out is
+ * overwritten: its old blocks are not freed. VBSON_INVALID_ARGUMENT, VBSON_OUT_OF_MEMORY. */
+uint32_t vbson_explain_document(uint32_t flags, const uint8_t *bytes, size_t len, vbson_error *out);
 
 /* Compares two documents, as vbson_same compares values, with the same flags. BSON bytes have their doubles and no v1, so
  * VBSON_DOUBLES and VBSON_LEGACY change nothing here. VBSON_REJECT_DUPLICATE_KEYS: bytes with a duplicate key in a document,

@@ -7,13 +7,13 @@ from many_keys import encoded
 
 # The commands of bson_lines that read texts, and those that read BSON.
 COMMANDS = (
-    "canonical --whole --strict", "relaxed --whole --strict", "show --whole --strict", "check --whole --strict",
-    "canonical --whole", "relaxed --whole", "show --whole", "check --whole", "canonical --whole --sort-keys",
-    "canonical --whole --strict --no-double-keys", "canonical --whole --strict --legacy", "canonical --whole --strict --indent 1",
-    "canonical --whole --no-double-keys", "canonical --whole --legacy", "canonical --whole --indent 1",
-    "canonical --strict", "canonical", "encode", "encode --sort-keys", "encode --strict",
+    "canonical --strict", "relaxed --strict", "show --strict", "check --strict",
+    "canonical", "relaxed", "show", "check", "canonical --sort-keys",
+    "canonical --strict --no-double-keys", "canonical --strict --legacy", "canonical --strict --indent 1",
+    "canonical --no-double-keys", "canonical --legacy", "canonical --indent 1",
+    "lines canonical --strict", "lines canonical", "encode", "encode --sort-keys", "encode --strict",
 )
-COMMANDS_OF_BSON = ("canonical --bson", "canonical --bson --sort-keys", "canonical --bson --strict", "show --bson", "check --bson")
+COMMANDS_OF_BSON = ("decode canonical", "decode canonical --sort-keys", "decode canonical --strict", "decode show", "decode check")
 
 LARGE = 1_000_000
 PARTS = 8

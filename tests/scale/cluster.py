@@ -67,7 +67,7 @@ NUMBER_ALONE = document(NUMBER)
 
 def by_program(program, paths, words=()):
     """The output of the program, its counts, and the file and line of each refused one."""
-    ran = subprocess.run([program, "relaxed", *words, "--keep-going", *paths], capture_output=True, timeout=120)
+    ran = subprocess.run([program, "lines", "relaxed", *words, "--keep-going", *paths], capture_output=True, timeout=120)
     counts = re.search(rb"bson: (\d+) lines, (\d+) refused\n$", ran.stderr)
     places = re.findall(rb"(?m)^(/[^:]*):(\d+): ", ran.stderr)
     return ran.stdout, tuple(map(int, counts.groups())), [(path.decode(), line.decode()) for path, line in places]
@@ -138,7 +138,7 @@ def test_dumps_are_decoded(client, room, paths, wanted):
             want(vbson_dask.decode_files(client, names, folder, "relaxed", size, **options), at_once[1], "the counts")
             is_there(folder, at_once, ("file", "document", "byte", "fault"))
             for name in names[:3]:
-                ran = subprocess.run([room.program, "relaxed", "--bson", "--keep-going", *words, name],
+                ran = subprocess.run([room.program, "decode", "relaxed", "--keep-going", *words, name],
                                      capture_output=True, timeout=120)
                 want(ran.stdout, dump_by_parts([name], options)[0], f"bson_lines of {name}")
     want(len(os.listdir(f"{room}/dumps-70000-1")) > 10, True, "several parts")

@@ -66,7 +66,7 @@ def of_text(form, text):
 @lru_cache(None)
 def place_of(text):
     """What bson_lines tells of a refused text, given alone, behind the words for its fault."""
-    done = subprocess.run([LINES, "check", "--strict"], input=b"\n" + text, capture_output=True, timeout=120)
+    done = subprocess.run([LINES, "lines", "check", "--strict"], input=b"\n" + text, capture_output=True, timeout=120)
     return done.stderr.removeprefix(b"bson: line 2: " + of_text("relaxed", text)[1]).removesuffix(b"\n")
 
 

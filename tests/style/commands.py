@@ -56,8 +56,7 @@ def faults(path, script, part):
 def usage():
     """Each form of the command in the first paragraph of `./bson --help`."""
     first = words_of("./bson").partition("\n\n")[0].removeprefix("usage:")
-    forms = [" ".join(it.split()) for it in re.split(r"\./bson ", first)[1:]]
-    return [f"./bson {it}" for form in forms for it in form.split(" | ")]
+    return [f"./bson {' '.join(it.split())}" for it in re.split(r" bson ", first)[1:]]
 
 
 def page_checks():

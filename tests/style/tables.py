@@ -38,7 +38,8 @@ def messages():
     yield "the messages of docs/PROGRAMS.md", codes(table("docs/PROGRAMS.md", "Message | When"), 0), \
         strings("crates/bson_convert/src/no_bytes.rt", r'NoBytes::\w+ => "([^"]+)"')
     usage, text = re.findall(r'(?s)pub const (?:USAGE|HELP): &str =\s*"(.*?)";', sources.read("crates/bson_lines/src/words.rt"))
-    yield "the usage of bson_lines and its help", usage.rpartition("\n")[0], text.partition("\n\n")[0]
+    yield "the usage of bson_lines and its help", usage, text.partition("\n\n")[0]
+    yield "the help of bson_lines", text.replace('\\"', '"') + "\n", sources.read("tests/lines/help.txt")
 
 
 def of_python():

@@ -1,5 +1,8 @@
 """Builds crates/vbson/out/libvbson.a over the libraries that an `rt ci` of these very files has left.
 
+    tests/vbson/built.py                     by LLVM
+    tests/vbson/built.py rattle ARCHIVE      by Rattle's own compiler, with the kit's object that allocates, to ARCHIVE
+
 `rt ci` proves a static library and builds none, and its libraries are no other command's; a build over them spares
 proving all of them again.
 """
@@ -7,10 +10,14 @@ import importlib.machinery
 import importlib.util
 import os
 import shutil
+import subprocess
 import sys
+import tempfile
 from pathlib import Path
 
 ROOT = Path(__file__).resolve().parents[2]
+# What a check has proved, in the folder of the crate: both compilers start from it.
+CHECKED = "out/checked"
 
 
 def kit():
@@ -35,9 +42,37 @@ def main():
         if not is_of_ci and it.build_rlib(jobs, anew=False):
             return 1
     os.makedirs(f"{crate.folder}/out", exist_ok=True)
-    status = crate.build_static(jobs)
+    if sys.argv[1:]:
+        status = compiled(rt, crate, jobs, sys.argv[1], "out/libvbson_by_rattle.a")
+        status = status or joined(sys.argv[2], f"{crate.folder}/out/libvbson_by_rattle.a", f"{rt.rtlib.KIT}/c/liblibc_c.a")
+    else:
+        shutil.rmtree(f"{crate.folder}/{CHECKED}", ignore_errors=True)
+        status = compiled(rt, crate, jobs, "llvm", "out/libvbson.a")
     del held
     return status
+
+
+def compiled(rt, crate, jobs, backend, made):
+    """Compiles the crate, which is proved before, unless that is done."""
+    words = crate.words(jobs, keeps=False)
+    if not os.path.isdir(f"{crate.folder}/{CHECKED}") and crate.call(rt.rtlib.RATTLE, "check", *words, "-o", CHECKED):
+        return 1
+    # (a build that takes the verdict of a check takes no logic and no jobs)
+    for flag in ("--logic-built", "--jobs"):
+        del words[words.index(flag):words.index(flag) + 2]
+    words += ["--crate-checked", CHECKED, "--toolchain", f"{rt.rtlib.KIT}/toolchain", "--backend", backend, "-o", made]
+    return crate.call(rt.rtlib.RATTLE, "build", *words)
+
+
+def joined(to, *archives):
+    """Makes one archive of the objects of several."""
+    with tempfile.TemporaryDirectory() as room:
+        for it in archives:
+            subprocess.run(["ar", "x", os.path.abspath(it)], cwd=room, check=True)
+        if os.path.exists(to):
+            os.remove(to)
+        subprocess.run(["ar", "qcDs", to, *sorted(f"{room}/{it}" for it in os.listdir(room))], check=True)
+    return 0
 
 
 if __name__ == "__main__":

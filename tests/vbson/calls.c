@@ -328,13 +328,23 @@ static int refuses_bytes(uint32_t mode, uint32_t flags, const uint8_t *bytes, si
     return vbson_decode(mode, flags, bytes, len, &out) == status && is_kept(&out);
 }
 
-static int explains_bytes(const uint8_t *bytes, size_t len, const char *wanted) {
-    vbson_buffer out = VBSON_BUFFER_INIT;
-    int is_right = vbson_explain_document(bytes, len, &out) == VBSON_OK && out.len == strlen(wanted)
-        && out.size == out.len + 1 && memcmp(out.bytes, wanted, out.size) == 0;
-    if (!is_right) printf("%s\n", vbson_chars(&out));
-    vbson_buffer_free(&out);
-    return is_right && (vbson_is_document(bytes, len) == VBSON_OK) == (*wanted == 0);
+/* Whether the buffer has the text, with a NUL in a block of its own. */
+static int has(const vbson_buffer *it, const char *wanted) {
+    return it->len == strlen(wanted) && it->size == it->len + 1 && memcmp(it->bytes, wanted, it->size) == 0;
+}
+
+/* Whether the bytes are explained by the code and the message, and by the parts of which it is made. */
+static int explains_bytes(uint32_t flags, const uint8_t *bytes, size_t len, uint32_t code, const char *wanted) {
+    vbson_error out = VBSON_ERROR_INIT;
+    char message[200] = "";
+    int is_right = vbson_explain_document(flags, bytes, len, &out) == VBSON_OK && out.code == code && has(&out.message, wanted)
+        && out.line == 0 && out.column == 0 && out.path.len == 5 && vbson_is_document(out.path.bytes, 5) == VBSON_OK;
+    if (code == VBSON_NOT_A_DOCUMENT) snprintf(message, sizeof message, "not a document at byte %zu (%s)", out.offset, vbson_chars(&out.reason));
+    if (code == VBSON_NOT_REPRESENTABLE) snprintf(message, sizeof message, "not representable (%s)", vbson_chars(&out.reason));
+    is_right = is_right && strcmp(message, wanted) == 0 && (code == VBSON_NOT_A_DOCUMENT || out.offset == 0);
+    if (!is_right) printf("%u %zu %s\n", out.code, out.offset, vbson_chars(&out.message));
+    vbson_error_free(&out);
+    return is_right;
 }
 
 static void decode(void) {
@@ -370,11 +380,19 @@ static void explain_document(void) {
         {"\16\0\0\0\2a\0\2\0\0\0xy", 14, "not a document at byte 12 (missing NUL after a string)"},
     };
     for (size_t i = 0; i < sizeof none / sizeof *none; i++) {
-        CHECK(explains_bytes((const uint8_t *)none[i].bytes, none[i].len, none[i].words));
+        CHECK(explains_bytes(i % 2, (const uint8_t *)none[i].bytes, none[i].len, VBSON_NOT_A_DOCUMENT, none[i].words));
     }
-    CHECK(explains_bytes(truth_of_two, sizeof truth_of_two, "not a document at byte 7 (a boolean is neither 0 nor 1)"));
-    CHECK(explains_bytes(five, sizeof five, ""));
-    CHECK(explains_bytes(pair, sizeof pair, ""));
+    CHECK(explains_bytes(0, truth_of_two, sizeof truth_of_two, VBSON_NOT_A_DOCUMENT, "not a document at byte 7 (a boolean is neither 0 nor 1)"));
+    CHECK(explains_bytes(0, five, sizeof five, VBSON_OK, "") && explains_bytes(15, five, sizeof five, VBSON_OK, ""));
+    CHECK(explains_bytes(VBSON_DOUBLES, pair, sizeof pair, VBSON_OK, ""));
+    CHECK(explains_bytes(VBSON_KEEP_ORDER | VBSON_LEGACY, pair, sizeof pair, VBSON_NOT_REPRESENTABLE, "not representable (a finite double)"));
+    static const uint8_t twice[] = {0x13, 0, 0, 0, 0x10, 'b', 0, 5, 0, 0, 0, 0x10, 'b', 0, 6, 0, 0, 0, 0};
+    CHECK(explains_bytes(VBSON_DOUBLES, twice, sizeof twice, VBSON_OK, ""));
+    CHECK(explains_bytes(VBSON_REJECT_DUPLICATE_KEYS, twice, sizeof twice, VBSON_NOT_A_DOCUMENT, "not a document at byte 12 (duplicate key)"));
+    const vbson_error was = {77, 7, 8, 9, {kept, 7, 6}, {kept, 6, 5}, {kept, 5, 4}};
+    vbson_error out = was;
+    CHECK(vbson_explain_document(16, BYTES(five), &out) == VBSON_INVALID_ARGUMENT && memcmp(&out, &was, sizeof out) == 0);
+    CHECK(vbson_explain_document(UINT32_MAX, five, 0, &out) == VBSON_INVALID_ARGUMENT && memcmp(&out, &was, sizeof out) == 0);
 }
 
 static int encodes(uint32_t flags, const char *text, const uint8_t *wanted, size_t len) {
@@ -428,12 +446,13 @@ static void damaged(void) {
         memcpy(bytes, whole.bytes, len);
         if (len == whole.len) bytes[bit / 8] ^= (uint8_t)(1 << bit % 8);
         bytes = realloc(bytes, len > 0 ? len : 1);
-        vbson_buffer words = VBSON_BUFFER_INIT, shown = VBSON_BUFFER_INIT;
+        vbson_error error = VBSON_ERROR_INIT;
+        vbson_buffer shown = VBSON_BUFFER_INIT;
         uint32_t is_one = vbson_is_document(bytes, len), status = vbson_decode(VBSON_SHOW, 0, bytes, len, &shown);
-        CHECK(vbson_explain_document(bytes, len, &words) == VBSON_OK && (words.len == 0) == (is_one == VBSON_OK));
+        CHECK(vbson_explain_document(VBSON_DOUBLES, bytes, len, &error) == VBSON_OK && error.code == is_one && error.offset <= len);
         CHECK(status == is_one && (is_one == VBSON_OK || is_one == VBSON_NOT_A_DOCUMENT));
         others += is_one == VBSON_NOT_A_DOCUMENT;
-        vbson_buffer_free(&words);
+        vbson_error_free(&error);
         vbson_buffer_free(&shown);
         free(bytes);
     }

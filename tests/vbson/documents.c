@@ -17,10 +17,20 @@ static uint8_t *bytes_of(const char *digits, size_t *len) {
     return bytes;
 }
 
+/* Leaves the message. */
+static uint32_t explain(const uint8_t *bytes, size_t len, vbson_buffer *out) {
+    vbson_error error = VBSON_ERROR_INIT;
+    uint32_t status = vbson_explain_document(VBSON_DOUBLES, bytes, len, &error);
+    *out = error.message;
+    error.message = (vbson_buffer)VBSON_BUFFER_INIT;
+    vbson_error_free(&error);
+    return status;
+}
+
 static uint32_t answer(int call, const uint8_t *bytes, size_t len, vbson_buffer *out) {
     if (call < 3) return vbson_decode((uint32_t)call, VBSON_DOUBLES, bytes, len, out);
     if (call == 3) return vbson_encode(VBSON_DOUBLES, bytes, len, out);
-    if (call == 4) return vbson_explain_document(bytes, len, out);
+    if (call == 4) return explain(bytes, len, out);
     return call == 5 ? vbson_is_document(bytes, len) : NOT_UNDERSTOOD;
 }
 

@@ -155,7 +155,7 @@ def try_reading():
     want("the hash of a document", vbson.hash_of_document(memoryview(turned)), vbson.hash_of(price, doubles=True))
     doubled = b"\x13\0\0\0\x10b\0\5\0\0\0\x10b\0\6\0\0\0\0"
     want("the last value of a document", vbson.same_documents(doubled, vbson.encode('{"b":6}')), True)
-    wanted = "not a document (duplicate key)", [], "duplicate key", vbson.NotADocument
+    wanted = "not a document at byte 12 (duplicate key)", ["b"], "duplicate key", vbson.NotADocument
     want("a duplicate key of a document", refusal(lambda it: vbson.hash_of_document(it, **strict), doubled), wanted)
     want("the first of two documents", refusal(lambda it: vbson.same_documents(it, b"", **strict), doubled), wanted)
     want("the second of two", refusal(lambda it: vbson.same_documents(document, it, **strict), doubled), wanted)

@@ -78,10 +78,12 @@ static uint32_t convert_lines(uint32_t flags, const char *text, struct answer *i
     return status;
 }
 
-/* The message as the text, the reason as the diagnostics, and the numbers and the path as the number. */
+/* The message as the text, the reason as the diagnostics, and the numbers and the path as the number; of the document if there
+ * is no text. */
 static uint32_t explain(uint32_t flags, const char *text, struct answer *it) {
     vbson_error out = {42, it->number, it->number, it->number, it->text, it->diagnostics, it->text};
-    uint32_t status = vbson_explain(flags, TEXT(text), &out);
+    uint32_t status = text != NULL ? vbson_explain(flags, TEXT(text), &out)
+                                   : vbson_explain_document(flags, document.bytes, document.len, &out);
     it->diagnostics = out.reason, it->text = out.message;
     if (status == VBSON_OK) {
         it->number = 1000 * out.path.len + 100 * out.offset + 10 * out.column + out.line + out.code;
@@ -124,7 +126,7 @@ static struct answer call(int kind, const char *text, long number) {
     else if (kind == 7) it.status = vbson_convert_with(VBSON_RELAXED, VBSON_DOUBLES, TEXT(text), &it.text);
     else if (kind < 10) it.status = explain(kind == 8 ? 0 : VBSON_DOUBLES, text, &it);
     else if (kind == 10) it.status = vbson_encode(0, TEXT(text), &it.text);
-    else if (kind == 11) it.status = vbson_explain_document(document.bytes, document.len, &it.text);
+    else if (kind == 11) it.status = explain(0, NULL, &it);
     else if (kind < 15) it.status = vbson_decode((uint32_t)kind - 12, 0, document.bytes, document.len, &it.text);
     else if (kind < 17) it.status = convert_lines(kind == 15 ? 0 : VBSON_KEEP_ORDER, text, &it);
     else if (kind == 17) it.status = vbson_convert_with(VBSON_CANONICAL, VBSON_KEEP_ORDER, TEXT(text), &it.text);

@@ -241,7 +241,8 @@ def type_faults():
 
 def version():
     """That of ./bson, where it stands."""
-    return re.search(r"(?m)^version=(.*)$", (ROOT / "bson").read_text())[1]
+    words = (ROOT / "crates/bson_lines/src/words.rt").read_text()
+    return re.search(r'(?m)^pub const VERSION: &str = "bson (.*)";$', words)[1]
 
 
 def version_faults():

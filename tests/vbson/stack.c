@@ -57,9 +57,10 @@ static uint32_t appended_status(void) {
     return vbson_append_document(&built, TEXT("a"), document, document_len);
 }
 
-static uint32_t explain_status(void) {
+/* The status of the call that explains the text, or the document. */
+static uint32_t explain_status(int is_of_text) {
     vbson_error out = VBSON_ERROR_INIT;
-    uint32_t done = vbson_explain(0, TEXT(text), &out);
+    uint32_t done = is_of_text ? vbson_explain(0, TEXT(text), &out) : vbson_explain_document(0, document, document_len, &out);
     vbson_error_free(&out);
     return done;
 }
@@ -72,7 +73,7 @@ static void *calls(void *kind) {
     else if (it == 3) status = vbson_same(ALL_READ, TEXT(text), TEXT(text));
     else if (it == 4) status = vbson_hash(ALL_READ, TEXT(text), &number);
     else if (it == 5) status = vbson_convert_with(VBSON_CANONICAL, VBSON_DOUBLES, TEXT(text), &out);
-    else if (it == 6) status = explain_status();
+    else if (it == 6) status = explain_status(1);
     else if (it == 13) status = lines_status(VBSON_DOUBLES);
     else if (it == 14) status = lines_status(VBSON_KEEP_ORDER);
     else if (it == 15) status = vbson_convert_with(VBSON_CANONICAL, VBSON_KEEP_ORDER, TEXT(text), &out);
@@ -83,7 +84,7 @@ static void *calls(void *kind) {
     else if (it == 20) status = appended_status();
     else if (it == 7) status = vbson_encode(0, TEXT(text), &out);
     else if (it == 8) status = vbson_is_document(document, document_len);
-    else if (it == 9) status = vbson_explain_document(document, document_len, &out);
+    else if (it == 9) status = explain_status(0);
     else status = vbson_decode((uint32_t)it - 10, 0, document, document_len, &out);
     vbson_buffer_free(&out);
     return NULL;

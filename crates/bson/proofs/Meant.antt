@@ -1,14 +1,12 @@
--- What a text means that was read as a tree, as another text or in its order.
+-- What a text means that was read as another text or in its order.
 use Rattle.std.proofs.Common.{◌≡◌, ℕ, List, Result, Ok, Err, Some, IfOk, IfErr, option_map, sym, ap, ◌∙◌}
 use Rattle.std.specs.Prelude.{IsUtf8, OnOk}
 use Rattle.serde_json.specs.Data.{Data}
 use Rattle.serde_json.specs.Read.{read}
 use Rattle.bson_scalar.specs.declared.form.Doubles.{Doubles}
 use Rattle.bson_model.specs.Normal.{InRange}
-use Rattle.bson_model.specs.Reading.{reads_in}
 use Rattle.bson_model.specs.Sorted.{sorted}
 use Rattle.bson_model.specs.Value.{Value}
-use Rattle.bson_model.proofs.Offered.{value_read_in}
 use Rattle.bson_order.specs.Distinct.{AllDistinct}
 use Rattle.bson_order.specs.Kept.{read_kept, unordered}
 use Rattle.bson_order.specs.Means.{MeansInOrder}
@@ -17,30 +15,13 @@ use Rattle.bson_order.proofs.Offered.{forgets, read_forgotten, comes_back}
 use Rattle.bson_distinct.specs.Arranged.{IsArrangedText}
 use Rattle.bson_distinct.specs.declared.arrangement.Arrangement.TheVariants as arranged
 use Rattle.bson_distinct.proofs.Offered.{text_read, meant_in_order}
-use Rattle.bson_place.specs.Place.{FaultAtIn, IsPlace}
-use Rattle.bson_place.specs.declared.place.Place.{Place}
-use Rattle.bson_place.proofs.Offered.{first_found}
 use Rattle.bson.specs.TextMeaning.{IsTextOf, HasTextMeaningIn, HasTextMeaningBy, IsTextFaultIn}
 use Rattle.bson.specs.declared.extjson.key_order.KeyOrder.TheVariants.{AsGiven}
 use Rattle.bson.specs.declared.extjson.text_error.TextError.{TextError}
-use Rattle.bson.specs.declared.extjson.text_error.TextError.TheVariants.{NotExtendedJson, OutOfMemory}
+use Rattle.bson.specs.declared.extjson.text_error.TextError.TheVariants.{OutOfMemory}
 use Rattle.bson.proofs.Accepted.{accepted}
 
 module _ (D : Doubles) (text : List ℕ) (utf8 : IsUtf8 text) where
-  -- the value of the text's tree
-  pub meant_by_tree : (t : Data) (v : Value) → read text ≡ Some t → reads_in D t ≡ Ok v → HasTextMeaningIn D text v
-  meant_by_tree t v is reads = record {
-    tree = t;
-    text = record { utf8 = utf8; tree_read = is };
-    meaning = (value_read_in D (λ w. w) t (Ok v) reads).ok;
-  }
-
-  -- the first fault of the text's tree
-  pub fault_by_tree : (t : Data) (place : Place) → read text ≡ Some t → IsPlace (λ f. FaultAtIn D f t) place
-      → IsTextFaultIn D text (NotExtendedJson place)
-  fault_by_tree t place is lies =
-      (t, record { utf8 = utf8; tree_read = is }, first_found D t (Ok (Some place)) lies)
-
   -- the value of the text that it is arranged as
   pub meant_by_key : (written : List ℕ) (v : Value) → IsArrangedText arranged.Ascending text written
       → HasTextMeaningIn D written v → HasTextMeaningIn D text v

@@ -7,7 +7,7 @@ use Rattle.bson_filter.proofs.Offered.{put_in_turn, once_sorted}
 use Rattle.bson_filter.specs.Stops.{MayStop, MayStopAt}
 use Rattle.bson_filter.specs.Walked.{ItemsWritten, PairsWritten, once, set_pair, set_each}
 use Rattle.bson_filter.specs.declared.stop.Stop.{Stop}
-use Rattle.bson_filter.specs.declared.stop.Stop.TheVariants.{OutOfMemory, DuplicateKey, GaveUp, Fault}
+use Rattle.bson_filter.specs.declared.stop.Stop.TheVariants.{OutOfMemory, DuplicateKey, GaveUp, Syntax, Fault}
 use Rattle.bson_model.specs.Sorted.{put_pair, sorted, sorted_items}
 use Rattle.bson_model.specs.Value.{Value, scalar, array, document, code_scope, Values, no_values, value}
 use Rattle.bson_model.specs.Value.{Pairs, no_pairs, pair}
@@ -78,7 +78,8 @@ stops_at : (e : Stop) (s : Scalar) → MayStop (λ D. ⊥) e → MayStopAt (λ D
 stops_at OutOfMemory s h = tt
 stops_at DuplicateKey s h = h
 stops_at GaveUp s h = λ D written. h D
-stops_at Fault s h = h
+stops_at Syntax s h = h
+stops_at (Fault place) s h = h
 
 pub scalar_stops : {A : Type 0} (r : Result A Stop) (s : Scalar) → IfErr r (MayStop (λ D. ⊥))
     → IfErr r (MayStopAt (λ D. ⊥) s)

@@ -1,5 +1,6 @@
 mod Again
 mod Arranged
+mod CanonicalTexts
 mod Converting
 mod Deep
 mod Newline

@@ -101,6 +101,11 @@ IsKept = IsKeptIn default_options
 abbrev pub IsRefused : Error → List ℕ → Type 0
 IsRefused = IsRefusedIn default_options
 
+-- the bytes are the canonical text of the value that they mean, with keys in ascending order: they are converted to
+-- themselves and a newline
+abbrev pub IsCanonicalText : Options → List ℕ → Type 0
+IsCanonicalText o bytes = ConvertsIn o Canonical bytes (bytes ++ newline)
+
 -- ---- the text
 
 -- a text of the value in the mode's form, or the one that shows it
@@ -114,10 +119,10 @@ abbrev pub IsConvertedText : Options → Mode → List ℕ → List ℕ → Type
 IsConvertedText o mode bytes text =
     (value : Value) × HasTextMeaningIn o.doubles bytes value × IsTextFor o mode value text
 
--- that text, or a text of the same tree as the bytes'
+-- that text, or a text of the same tree as the bytes', which means something
 abbrev pub IsTried : Options → Mode → List ℕ → Tried → Type 0
 IsTried o mode bytes (Written text) = IsConvertedText o mode bytes text.items
-IsTried o mode bytes (Arranged text) = IsUtf8 bytes × (read (string_bytes text) ≡ read bytes)
+IsTried o mode bytes (Arranged text) = IsUtf8 bytes × (read (string_bytes text) ≡ read bytes) × IsAccepted o (string_bytes text)
 
 -- the text that was written is UTF-8; the other is by its type
 abbrev pub IsUtf8Tried : Tried → Type 0

@@ -2,22 +2,18 @@
 ghost use Rattle.std.specs.Prelude.{◌≡◌, ◌++◌, IfOk, IfErr, IsUtf8, ℕ, List};
 ghost use Rattle.serde_json.specs.Data.{Data};
 ghost use Rattle.bson_model.specs.Means.{Means, MeansIn};
-ghost use Rattle.bson_model.specs.Displayed.{display_text};
 ghost use Rattle.bson_model.specs.Value as model;
-ghost use Rattle.bson_model.specs.Laws.{IsReadFormIn};
-ghost use Rattle.bson.specs.View.{bson_view};
 ghost use Rattle.bson_convert.specs.Convert.{Converts, ConvertsIn, IsKept, IsKeptIn, IsRefused, IsRefusedIn};
 ghost use Rattle.bson.specs.declared.extjson.options.Options.{Options};
-ghost use Rattle.bson_convert.specs.Convert.{default_options, IsConvertedText, IsTextFor, IsTried, IsUtf8Tried, newline};
-ghost use Rattle.bson.specs.TextMeaning.{IsTextOf, HasTextMeaningIn, IsTextFaultIn};
+ghost use Rattle.bson_convert.specs.Convert.{default_options, IsConvertedText, IsTried, IsUtf8Tried, newline};
+ghost use Rattle.bson.specs.TextMeaning.{IsTextOf, IsTextFaultIn};
 ghost use Rattle.bson.specs.declared.extjson.text_error.TextError.{TextError};
 
 use crate::converted::{Tried, read_arranged, try_line, try_text};
 use crate::error::Error;
 use crate::mode::Mode;
-use bson::Bson;
+use bson::extjson::Options;
 use bson::extjson::de::TextError;
-use bson::extjson::{Form, Options, WriteError};
 use json::Scratch;
 use std::alloc::Global;
 
@@ -192,18 +188,6 @@ fn finish(alloc: Global, options: Options, mode: Mode, tried: Tried) -> Result<V
     }
 }
 
-/// The value that the bytes mean as a text.
-pub(crate) fn meaning(alloc: Global, options: Options, bytes: &[u8]) -> Result<Bson, Error>
-    ensures ok { IfOk result (λ value. HasTextMeaningIn options.doubles bytes.now (bson_view value)) }
-    ensures read_form { IfOk result (λ value. IsReadFormIn options.doubles (bson_view value)) }
-    ensures fault { IfErr result (λ fault. IsRefusedIn options fault bytes.now) }
-{
-    match Bson::try_from_text_with(alloc, options, bytes) {
-        Ok(value) => Ok(value),
-        Err(error) => Err(error_of(error)),
-    }
-}
-
 /// Returns the error of a conversion whose text was not read.
 pub fn error_of(error: TextError) -> Error
     ensures cause { (options : Options) (bytes : List ℕ) → IsTextFaultIn options.doubles bytes error
@@ -214,47 +198,6 @@ pub fn error_of(error: TextError) -> Error
         TextError::NotJson => Error::NotJson,
         TextError::NotExtendedJson(place) => Error::NotExtendedJson(place),
         TextError::OutOfMemory => Error::OutOfMemory,
-    }
-}
-
-/// The text that the mode asks for of a value that was read.
-pub(crate) fn value_text(
-    alloc: Global,
-    options: Options,
-    mode: Mode,
-    value: Bson,
-) -> Result<Vec<u8>, Error>
-    requires { IsReadFormIn options.doubles (bson_view value) }
-    ensures ok { IfOk result (λ text. IsTextFor options mode (bson_view value) text.items) }
-    ensures utf8 { IfOk result (λ text. IsUtf8 text.items) }
-    ensures fault { IfErr result (λ fault. fault ≡ Error.OutOfMemory) }
-{
-    let text = match mode {
-        Mode::Canonical => value.into_text_with(alloc, options, Form::Canonical),
-        Mode::Relaxed => value.into_text_with(alloc, options, Form::Relaxed),
-        Mode::Show => return displayed_text(alloc, &value),
-    };
-    match text {
-        Ok(text) => Ok(text.into_bytes()),
-        // What was read can be written.
-        Err(WriteError::FiniteDouble) => unreachable!(),
-        Err(WriteError::OutOfMemory) => Err(Error::OutOfMemory),
-    }
-}
-
-/// Returns the text that shows the value.
-///
-/// # Errors
-///
-/// - `OutOfMemory`: an allocation failed.
-pub fn displayed_text(alloc: Global, value: &Bson) -> Result<Vec<u8>, Error>
-    ensures ok { IfOk result (λ text. text.items ≡ display_text (bson_view value.now)) }
-    ensures utf8 { IfOk result (λ text. IsUtf8 text.items) }
-    ensures fault { IfErr result (λ fault. fault ≡ Error.OutOfMemory) }
-{
-    match format!(in alloc; "{value}") {
-        Ok(text) => Ok(text.into_bytes()),
-        Err(_) => Err(Error::OutOfMemory),
     }
 }
 

@@ -1,8 +1,8 @@
 //! A text that is written as another is read, and why one means nothing.
 //!
-//! A text that can't be written as it is read is arranged, so that each object has each key once:
-//! that text is of the same tree. So a key that stands twice needs no value in memory, nor does what
-//! a later value takes the place of; and where the text means nothing, its fault is the same.
+//! If a text cannot be written as it is read, it is arranged: each object has each key once, in
+//! ascending order. The arranged text has the same tree. One walk over it finds the first fault. If
+//! there is none, the arranged text is written as it is read.
 ghost use Rattle.std.specs.Prelude.{◌≡◌, IfOk, IfErr, IsUtf8, OnOk, ℕ, List, string_bytes};
 ghost use Rattle.serde_json.specs.Read.{read};
 ghost use Rattle.bson_distinct.specs.Arranged.{IsArrangedText};
@@ -10,40 +10,41 @@ ghost use Rattle.bson_tokens.specs.Parts.{IsBroken};
 ghost use Rattle.bson_convert.specs.Convert.{IsAccepted, IsConvertedText, IsRefusedIn, IsTried, IsUtf8Tried};
 ghost use Rattle.bson.specs.declared.extjson.options.Options.{Options};
 
-use crate::convert::{meaning, value_text};
 use crate::error::Error;
 use crate::mode::Mode;
 use bson::extjson::{Form, Options};
 use bson_distinct::arrange::arrange_text;
 use bson_distinct::arrangement::Arrangement;
+use bson_filter::fault::{first_fault_in, first_fault_of_arranged};
 use bson_filter::filter::{show_text, sort_text};
 use bson_filter::stop::Stop;
-use bson_tokens::walk::first_fault_in;
 use json::Scratch;
-use std::alloc::Global;
+use std::alloc::{AllocError, Global};
 
 /// What a first reading gives.
 ///
 /// ```
 /// let options = Options::default();
-/// if let Ok(Tried::Arranged(text)) = try_text(alloc, options, Mode::Relaxed, b"[7, 1.5]") {
-///     println!(rt; "{text}")?; // [7,1.5]
+/// let bytes = br#"{"a": 1.5, "a": 7}"#.as_slice();
+/// if let Ok(Tried::Arranged(text)) = try_text(alloc, options, Mode::Relaxed, bytes) {
+///     println!(rt; "{text}")?; // {"a":7}
 /// }
 /// ```
 #[derive(Drop)]
 pub enum Tried {
     /// The text that the mode asks for.
     Written(Vec<u8>),
-    /// The text of the same tree that is to be read in its place.
+    /// The text of the same tree that is to be read in its place. The tree has a meaning.
     Arranged(String),
 }
 
 /// Writes the text of the value that the bytes mean, as the mode says, while they are read. If the
-/// text cannot be written so, the arranged text of the bytes is returned.
+/// text cannot be written so, the arranged text of the bytes is returned, unless it has a fault.
 ///
 /// # Errors
 ///
 /// - `NotJson`: the bytes are not UTF-8, or `serde_json` reads no tree from them.
+/// - `NotExtendedJson`: the tree has no meaning. It has the tree's first fault.
 /// - `OutOfMemory`: an allocation failed.
 pub fn try_text(alloc: Global, options: Options, mode: Mode, bytes: &[u8]) -> Result<Tried, Error>
     ensures ok { IfOk result (λ tried. IsTried options mode bytes.now tried) }
@@ -71,11 +72,11 @@ pub(crate) fn try_line(
     match stream_text(alloc, options, mode, text, scratch) {
         Ok(written) => Ok(Tried::Written(written)),
         Err(Stop::OutOfMemory) => Err(Error::OutOfMemory),
-        Err(_) => Ok(Tried::Arranged(arrange(alloc, Arrangement::Ascending, text)?)),
+        Err(_) => Ok(Tried::Arranged(arrange_faultless(alloc, options, text)?)),
     }
 }
 
-/// The text of an arranged text: that of its value where it can't be written as it is read either.
+/// The text that the mode asks for of an arranged text that has a meaning.
 pub(crate) fn read_arranged(
     alloc: Global,
     options: Options,
@@ -84,16 +85,12 @@ pub(crate) fn read_arranged(
 ) -> Result<Vec<u8>, Error>
     ensures ok { IfOk result (λ text. IsConvertedText options mode arranged.now text.items) }
     ensures utf8 { IfOk result (λ text. IsUtf8 text.items) }
-    ensures fault { IfErr result (λ fault. IsRefusedIn options fault arranged.now) }
+    ensures fault { IfErr result (λ fault. fault ≡ Error.OutOfMemory) }
 {
     match stream_text(alloc, options, mode, arranged, &mut Scratch::new(alloc)) {
         Ok(written) => Ok(written),
-        Err(Stop::OutOfMemory) => Err(Error::OutOfMemory),
-        Err(_) => {
-            refuse_arranged(alloc, options, arranged)?;
-            let value = meaning(alloc, options, arranged.as_bytes())?;
-            value_text(alloc, options, mode, value)
-        }
+        // Only memory: the keys ascend and have a meaning.
+        Err(_) => Err(Error::OutOfMemory),
     }
 }
 
@@ -132,6 +129,20 @@ pub fn arrange(alloc: Global, arrangement: Arrangement, text: &str) -> Result<St
     }
 }
 
+// The arranged text by ascending keys of a text that has a meaning.
+fn arrange_faultless(alloc: Global, options: Options, text: &str) -> Result<String, Error>
+    ensures ok { IfOk result (λ arranged. IsAccepted options (string_bytes arranged)) }
+    ensures same { IfOk result (λ arranged. read (string_bytes arranged) ≡ read text.now) }
+    ensures fault { IfErr result (λ fault. IsRefusedIn options fault text.now) }
+{
+    let arranged = arrange(alloc, Arrangement::Ascending, text)?;
+    match first_fault_of_arranged(alloc, options.doubles, arranged.as_str()) {
+        Ok(None) => Ok(arranged),
+        Ok(Some(place)) => Err(Error::NotExtendedJson(place)),
+        Err(AllocError) => Err(Error::OutOfMemory),
+    }
+}
+
 /// Checks that a text is JSON and has a meaning. No value is made.
 ///
 /// # Errors
@@ -143,21 +154,7 @@ pub fn refuse(alloc: Global, options: Options, text: &str) -> Result<(), Error>
     ensures ok { OnOk result (IsAccepted options text.now) }
     ensures fault { IfErr result (λ fault. IsRefusedIn options fault text.now) }
 {
-    let arranged = arrange(alloc, Arrangement::Ascending, text)?;
-    refuse_arranged(alloc, options, arranged.as_str())
-}
-
-/// Checks a text whose keys ascend, as [`refuse`] does. Code comes before its scope there, so no
-/// tree is made.
-///
-/// # Errors
-///
-/// The errors of [`refuse`].
-pub fn refuse_arranged(alloc: Global, options: Options, arranged: &str) -> Result<(), Error>
-    ensures ok { OnOk result (IsAccepted options arranged.now) }
-    ensures fault { IfErr result (λ fault. IsRefusedIn options fault arranged.now) }
-{
-    match first_fault_in(alloc, options.doubles, arranged) {
+    match first_fault_in(alloc, options.doubles, text) {
         Ok(None) => Ok(()),
         Ok(Some(place)) => Err(Error::NotExtendedJson(place)),
         Err(error) => Err(no_tree(error)),

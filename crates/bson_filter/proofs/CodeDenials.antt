@@ -89,7 +89,7 @@ module _ (D : Doubles) (L S : Type 0) where
 
   alone_denied : (f : Fault) (depth : ℕ) (k : List ℕ) (w : Wrapper) (ts r s : List Token) (held : Data)
       → wrapper_of k ≡ Some w → IsHeldAs (converted of_json (value depth ts)) held r → read_key r ≡ Some (None, s)
-      → single_in D w held ≡ Err f → ObjectDenied D L S stop.Fault (from_key depth (Some k) ts)
+      → single_in D w held ≡ Err f → ObjectDenied D L S stop.Syntax (from_key depth (Some k) ts)
   alone_denied f depth k w ts r s held named read end wrong ms rest is d =
       let h = held_is depth ts r held read in
       let j = h.0 in
@@ -130,7 +130,7 @@ module _ (D : Doubles) (L S : Type 0) where
   pub strange_denied : (depth : ℕ) (k l : List ℕ) (w : Wrapper) (ts r q : List Token) (held : Data)
       → wrapper_of k ≡ Some w → IsHeldAs (converted of_json (value depth ts)) held r → read_key r ≡ Some (Some l, q)
       → (bytes_eq k (codes "$code") && bytes_eq l (codes "$scope")) ≡ false
-      → ObjectDenied D L S stop.Fault (from_key depth (Some k) ts)
+      → ObjectDenied D L S stop.Syntax (from_key depth (Some k) ts)
   strange_denied depth k l w ts r q held named read key are ms rest is d =
       let h = held_is depth ts r held read in
       let g = two_keys depth k l w ts r q rest h.0 ms named h.1 key is in
@@ -140,7 +140,7 @@ module _ (D : Doubles) (L S : Type 0) where
 
   pub textless_denied : (depth : ℕ) (k l : List ℕ) (w : Wrapper) (ts r q : List Token) (held : Data)
       → wrapper_of k ≡ Some w → IsHeldAs (converted of_json (value depth ts)) held r → read_key r ≡ Some (Some l, q)
-      → as_str held ≡ None → ObjectDenied D L S stop.Fault (from_key depth (Some k) ts)
+      → as_str held ≡ None → ObjectDenied D L S stop.Syntax (from_key depth (Some k) ts)
   textless_denied depth k l w ts r q held named read key none ms rest is d =
       let h = held_is depth ts r held read in
       let g = two_keys depth k l w ts r q rest h.0 ms named h.1 key is in
@@ -177,7 +177,9 @@ module _ (D : Doubles) (L S : Type 0) where
       subst (λ x. Denied x (Stays L S (json.object ms)) (Once ms) (Means D (json.object ms))) is d
   behind_key stop.GaveUp f depth q is nothing ms r parsed d = scope_leaves depth q r ms parsed
       (subst (λ x. Denied x (Stays L S (json.object ms)) (Once ms) (Means D (json.object ms))) is d)
-  behind_key stop.Fault f depth q is nothing ms r parsed d = scope_leaves depth q r ms parsed
+  behind_key stop.Syntax f depth q is nothing ms r parsed d = scope_leaves depth q r ms parsed
+      (subst (λ x. Denied x (Stays L S (json.object ms)) (Once ms) (Means D (json.object ms))) is d)
+  behind_key (stop.Fault place) f depth q is nothing ms r parsed d = scope_leaves depth q r ms parsed
       (subst (λ x. Denied x (Stays L S (json.object ms)) (Once ms) (Means D (json.object ms))) is d)
   behind_key stop.DuplicateKey f depth q is nothing ms r parsed d =
       let once = subst (λ x. Denied x (Stays L S (json.object ms)) (Once ms) (Means D (json.object ms))) is d in
@@ -238,7 +240,7 @@ module _ (D : Doubles) (L S : Type 0) where
   of_behind true j r nothing means = means
   of_behind false j r nothing means = nothing means
 
-  pub no_scope_denied : (b : Bool) (depth : ℕ) (ts : List Token) → IsNoScope ts → CodeDenied D L S stop.Fault b (value depth ts)
+  pub no_scope_denied : (b : Bool) (depth : ℕ) (ts : List Token) → IsNoScope ts → CodeDenied D L S stop.Syntax b (value depth ts)
   no_scope_denied b depth ts none j r is d =
       of_behind b j r (none_at depth ts j r _ _ (sym (value_is depth ts) ∙ is) none) d.1
 

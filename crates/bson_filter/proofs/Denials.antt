@@ -1,20 +1,17 @@
 -- What a stop denies, from part to whole.
-use Rattle.std.proofs.Common.{◌≡◌, ℕ, zero, suc, ◌-◌, ◌<◌, ◌≤◌, List, [], ◌∷◌, ◌++◌, length, map, Option, Some, None}
+use Rattle.std.proofs.Common.{◌≡◌, ℕ, zero, suc, ◌-◌, ◌<◌, List, [], ◌∷◌, Option, Some, None}
 use Rattle.std.proofs.Common.{Result, Ok, Err, Bool, true, false, option_map, option_and_then, refl, sym, ap, ◌∙◌, subst}
-use Rattle.std.proofs.Common.{arith, codes, ◌&&◌, bytes_eq, is_some, cond}
-use Rattle.std.specs.Prelude.{⊤}
+use Rattle.std.proofs.Common.{arith, ◌&&◌, is_some}
 use Rattle.std.proofs.lemmas.Bool.{or_parts}
 use Rattle.std.proofs.lemmas.Option.{same_Some}
-use Rattle.std.proofs.lemmas.Slice.Eq.{bytes_eq-Decides}
 use Rattle.json.specs.Json as json
 use Rattle.json.specs.Json.{Parse, parse_map, after_end_array, read_key, items, items_step, members, members_step, value}
-use Rattle.json.specs.Strict.{AreDistinct, keys, HasUniqueKeys, ItemsHaveUniqueKeys, MembersHaveUniqueKeys}
+use Rattle.json.specs.Strict.{AreDistinct, keys, HasUniqueKeys, ItemsHaveUniqueKeys}
 use Rattle.json.specs.Token.{Token}
 use Rattle.json.proofs.Grammar.{items_more, members_no_key}
 use Rattle.serde_json.specs.Data.{Data, Num, Items, Members, no_members, member, array, object}
 use Rattle.serde_json.specs.Data as tree
-use Rattle.serde_json.specs.Find.{as_str}
-use Rattle.bson_scalar.specs.Faults.{Fault, wrong_shape, ◌>>=◌}
+use Rattle.bson_scalar.specs.Faults.{Fault, ◌>>=◌}
 use Rattle.bson_scalar.proofs.Offered.{scalar_form, scalar_from}
 use Rattle.bson_scalar.specs.Normal.{writable_scalar_in}
 use Rattle.bson_scalar.specs.Reading.{number_read_in, single_at_in, single_in}
@@ -22,15 +19,11 @@ use Rattle.bson_scalar.specs.Scalar.{Scalar, code}
 use Rattle.bson_scalar.specs.Table.{wrapper_of, has_wrapper}
 use Rattle.bson_scalar.specs.declared.form.Doubles.{Doubles}
 use Rattle.bson_scalar.specs.declared.wrapper.Wrapper.{Wrapper}
-use Rattle.bson_model.specs.Reading.{code_at, scalar_value}
 use Rattle.bson_model.specs.Value as model
 use Rattle.bson_model.specs.Value.{Value, Values, Pairs, pair}
-use Rattle.bson_order.specs.Kept.{kept, kept_items, kept_members, put_kept, unordered, has_key, KeysDiffer}
-use Rattle.bson_order.specs.Reading.{reads_in_order, items_in_order, members_in_order, wrapper_in_order, scope_in_order}
-use Rattle.bson_order.proofs.Offered.{joined, joined_again, joined_none, put_last}
-use Rattle.bson_filter.specs.Walked.{inside, from_key, keys_of}
-use Rattle.bson_filter.proofs.Differ.{Differ, differ, stands}
-use Rattle.bson_filter.proofs.Members.{put_each}
+use Rattle.bson_order.specs.Kept.{kept, kept_items}
+use Rattle.bson_order.specs.Reading.{reads_in_order, items_in_order, members_in_order}
+use Rattle.bson_filter.specs.Walked.{keys_of}
 use Rattle.bson_filter.proofs.Objects.{step_more, Key, texts, append_none}
 use Rattle.bson_filter.proofs.Walking.{ToGo}
 use Rattle.bson_filter.specs.Pieces.{KeysAscend}
@@ -39,7 +32,6 @@ use Rattle.bson_filter.specs.Exact.{as_they_stand, Means, ItemsMeanSome, Members
 use Rattle.bson_filter.specs.Exact.{Stays, ItemsStay, MembersStay}
 use Rattle.bson_filter.specs.Refused.{Streams, ItemsStream, MembersStream}
 use Rattle.bson_filter.specs.Exact.{ValueDenied, ItemsDenied, ObjectDenied, MembersDenied, CodeDenied}
-use Rattle.bson_filter.specs.declared.stop.Stop as stops
 use Rattle.bson_filter.specs.declared.stop.Stop.{Stop}
 use Rattle.bson_filter.specs.declared.stop.Stop.TheVariants as stop
 
@@ -49,27 +41,31 @@ pub denied : (e : Stop) (P U M Q V N : Type 0) → (P → Q) → (U → V) → (
 denied stop.OutOfMemory P U M Q V N k f g h = h
 denied stop.DuplicateKey P U M Q V N k f g h = f h
 denied stop.GaveUp P U M Q V N k f g h = k h
-denied stop.Fault P U M Q V N k f g h = (f h.0, g h.0 h.1)
+denied stop.Syntax P U M Q V N k f g h = (f h.0, g h.0 h.1)
+denied (stop.Fault place) P U M Q V N k f g h = (f h.0, g h.0 h.1)
 
 by_writer : (L : Type 0) (e : Stop) (P U M : Type 0) → IsWriters L e → Denied e ((L → ⊥) × P) U M → ⊥
 by_writer L stop.OutOfMemory P U M h d = d
 by_writer L stop.DuplicateKey P U M h d = h
 by_writer L stop.GaveUp P U M h d = d.0 h
-by_writer L stop.Fault P U M h d = h
+by_writer L stop.Syntax P U M h d = h
+by_writer L (stop.Fault place) P U M h d = h
 
 -- in one mode of doubles
 pub stops_in : (Leaves : Doubles → Type 0) (e : Stop) (D : Doubles) → MayStop Leaves e → IsWriters (Leaves D) e
 stops_in Leaves stop.OutOfMemory D h = h
 stops_in Leaves stop.DuplicateKey D h = h
 stops_in Leaves stop.GaveUp D h = h D
-stops_in Leaves stop.Fault D h = h
+stops_in Leaves stop.Syntax D h = h
+stops_in Leaves (stop.Fault place) D h = h
 
 pub scalar_stops_in : (Leaves : Doubles → Type 0) (x : Scalar) (e : Stop) (D : Doubles) → writable_scalar_in D x ≡ true
     → MayStopAt Leaves x e → IsWriters (Leaves D) e
 scalar_stops_in Leaves x stop.OutOfMemory D written h = h
 scalar_stops_in Leaves x stop.DuplicateKey D written h = h
 scalar_stops_in Leaves x stop.GaveUp D written h = h D written
-scalar_stops_in Leaves x stop.Fault D written h = h
+scalar_stops_in Leaves x stop.Syntax D written h = h
+scalar_stops_in Leaves x (stop.Fault place) D written h = h
 
 pub code_stops_in : (Leaves : Doubles → Type 0) (s t : List ℕ) (e : Stop) (D : Doubles) → s ≡ t
     → MayStopAt Leaves (code s) e → IsWriters (Leaves D) e
@@ -80,7 +76,8 @@ pub ends_in : (Leaves : Doubles → Type 0) (Sorts : Type 0) (ks : List (List �
 ends_in Leaves Sorts ks stop.OutOfMemory D h = h
 ends_in Leaves Sorts ks stop.DuplicateKey D h = h
 ends_in Leaves Sorts ks stop.GaveUp D h = λ ascend. h ascend D
-ends_in Leaves Sorts ks stop.Fault D h = h
+ends_in Leaves Sorts ks stop.Syntax D h = h
+ends_in Leaves Sorts ks (stop.Fault place) D h = h
 
 -- what is read in a mode has a text in that mode
 pub number_written : (D : Doubles) (n : Num) (x : Scalar) → number_read_in D n ≡ Ok x → writable_scalar_in D x ≡ true
@@ -328,7 +325,7 @@ module _ (D : Doubles) (L S : Type 0) where
 
   -- a key that no document has
   pub misplaced : (b : Bool) (p : Parse json.Json) (more : Parse json.Members) (k : List ℕ) (ts : List Token)
-      → (b && is_some (wrapper_of k)) ≡ true → MembersDenied D L S stop.Fault b (members_step p more (Some k) ts)
+      → (b && is_some (wrapper_of k)) ≡ true → MembersDenied D L S stop.Syntax b (members_step p more (Some k) ts)
   misplaced false p more k ts bad ms r is d = cc
   misplaced true p more k ts bad ms r is d =
       let g = then_parsed (json.member k) more (p ts) ms r is in
@@ -346,4 +343,5 @@ module _ (D : Doubles) (L S : Type 0) where
   ended_stopped stop.GaveUp b whole all s ks read are ends ms r is d =
       let same : (all, s) ≡ (ms, r) = same_Some {A = json.Members × List Token} (all, s) (ms, r) (sym read ∙ is) in
       d.0 (ends (λ sorts. subst (KeysAscend None) (ap keys (sym (ap (λ p. p.0) same)) ∙ are) (d.1.0 sorts)))
-  ended_stopped stop.Fault b whole all s ks read are ends ms r is d = ends
+  ended_stopped stop.Syntax b whole all s ks read are ends ms r is d = ends
+  ended_stopped (stop.Fault place) b whole all s ks read are ends ms r is d = ends

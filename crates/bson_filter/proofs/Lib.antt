@@ -1,7 +1,11 @@
+pub mod Arranged
+pub mod Becoming
 pub mod CodeDenials
 pub mod Denials
 pub mod Differ
 pub mod Digests
+pub mod Faults
+pub mod FirstFaults
 pub mod Keys
 pub mod Members
 pub mod ObjectDenials
@@ -10,8 +14,10 @@ pub mod Offered
 pub mod Once
 pub mod Parsed
 pub mod PartTexts
+pub mod Passing
 pub mod PiecesInOrder
 pub mod Placing
+pub mod Scopes
 pub mod Sending
 pub mod ShownInOrder
 pub mod ShownMembers
@@ -23,5 +29,6 @@ pub mod Standing
 pub mod TextDenials
 pub mod Utf8Texts
 pub mod Walking
+pub mod Wrapped
 pub mod Wrappers
 pub mod Writers

@@ -1,5 +1,5 @@
 -- What was parsed of an object, of a wrapper and of a value.
-use Rattle.std.proofs.Common.{◌≡◌, ℕ, zero, suc, ◌-◌, List, ◌∷◌, length, Option, Some, None}
+use Rattle.std.proofs.Common.{◌≡◌, ℕ, zero, suc, List, ◌∷◌, length, Option, Some, None}
 use Rattle.std.proofs.Common.{Result, Ok, Err, option_and_then, refl, sym, ap, ◌∙◌, subst}
 use Rattle.std.proofs.Common.{Bor, inl, inr, ◌⊎◌}
 use Rattle.std.specs.Result.{MatchResult, IsErrAnd}
@@ -23,7 +23,7 @@ use Rattle.bson_order.specs.Kept.{kept, unordered}
 use Rattle.bson_tokens.specs.Held.{IsHeldAs}
 use Rattle.bson_tokens.proofs.Offered.{was_read as from_tree}
 use Rattle.bson_filter.specs.Walked.{from_key}
-use Rattle.bson_filter.proofs.Objects.{begins, kept_from}
+use Rattle.bson_filter.proofs.Objects.{kept_from}
 use Rattle.bson_filter.proofs.Denials.{then_parsed}
 use Rattle.bson_filter.proofs.ObjectDenials.{FirstKey}
 

@@ -38,4 +38,5 @@ pub refused : (D : Doubles) (L S : Type 0) (text : List ℕ) (e : Stop) → Text
 refused D L S text stop.OutOfMemory nothing = tt
 refused D L S text stop.DuplicateKey nothing = λ j is once. nothing j is once
 refused D L S text stop.GaveUp nothing = λ j is streams stays. nothing j is (stays, streams)
-refused D L S text stop.Fault nothing = λ j v is once first means. nothing j is (once, meant D text j v is first means)
+refused D L S text stop.Syntax nothing = λ j v is once first means. nothing j is (once, meant D text j v is first means)
+refused D L S text (stop.Fault place) nothing = λ j v is once first means. nothing j is (once, meant D text j v is first means)

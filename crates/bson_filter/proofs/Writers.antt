@@ -12,4 +12,5 @@ pub sorting_stops : (Leaves : Doubles → Type 0) (ks : List (List ℕ)) (e : St
 sorting_stops Leaves ks stop.OutOfMemory h = h
 sorting_stops Leaves ks stop.DuplicateKey h = h
 sorting_stops Leaves ks stop.GaveUp h = λ ascend D. absurd (h ascend D)
-sorting_stops Leaves ks stop.Fault h = h
+sorting_stops Leaves ks stop.Syntax h = h
+sorting_stops Leaves ks (stop.Fault place) h = h

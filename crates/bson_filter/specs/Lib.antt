@@ -4,6 +4,7 @@ pub mod Filtered
 pub mod Heads
 pub mod Parts
 pub mod Pieces
+pub mod Placed
 pub mod Refused
 pub mod ShownWritten
 pub mod SortedWritten

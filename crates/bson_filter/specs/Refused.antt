@@ -11,7 +11,7 @@ use Rattle.bson_model.specs.Value.{Value}
 use Rattle.bson_order.specs.Texts.{HasMeaningInOrder}
 use Rattle.bson_filter.specs.Pieces.{KeysAscend}
 use Rattle.bson_filter.specs.declared.stop.Stop.{Stop}
-use Rattle.bson_filter.specs.declared.stop.Stop.TheVariants.{OutOfMemory, DuplicateKey, GaveUp, Fault}
+use Rattle.bson_filter.specs.declared.stop.Stop.TheVariants.{OutOfMemory, DuplicateKey, GaveUp, Syntax, Fault}
 
 -- the first two keys of an object are `$scope` and `$code`, in this order
 abbrev pub scope_first : json.Members → Bool
@@ -69,5 +69,7 @@ abbrev pub IsRefusedText : Doubles → Type 0 → Type 0 → List ℕ → Stop �
 IsRefusedText D Leaves Sorts text OutOfMemory = ⊤
 IsRefusedText D Leaves Sorts text DuplicateKey = (j : json.Json) → IsJsonOf text j → HasUniqueKeys j → ⊥
 IsRefusedText D Leaves Sorts text GaveUp = (j : json.Json) → IsJsonOf text j → Streams Sorts j → (Leaves → ⊥) → ⊥
-IsRefusedText D Leaves Sorts text Fault = (j : json.Json) (v : Value) → IsJsonOf text j → HasUniqueKeys j → CodeFirst j
+IsRefusedText D Leaves Sorts text Syntax = (j : json.Json) (v : Value) → IsJsonOf text j → HasUniqueKeys j → CodeFirst j
     → HasMeaningInOrder D text v → ⊥
+IsRefusedText D Leaves Sorts text (Fault place) = (j : json.Json) (v : Value) → IsJsonOf text j → HasUniqueKeys j
+    → CodeFirst j → HasMeaningInOrder D text v → ⊥

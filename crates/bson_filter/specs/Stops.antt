@@ -1,9 +1,10 @@
 -- Why a walk stops, and what is then not so of the text.
-use Rattle.std.specs.Prelude.{◌≡◌, ℕ, List, Option, None, Some, true}
+use Rattle.std.specs.Prelude.{◌≡◌, ℕ, List, Option, None, Some, Result, true}
 use Rattle.json.specs.Strict.{AreDistinct}
 use Rattle.json.specs.Token.{Token}
 use Rattle.json.specs.declared.error.Error.{Error}
 use Rattle.json.specs.declared.error.Error.TheVariants as json_error
+use Rattle.bson_scalar.specs.Faults.{Fault as Wrong, Fails}
 use Rattle.bson_scalar.specs.Normal.{writable_scalar_in}
 use Rattle.bson_scalar.specs.Scalar.{Scalar}
 use Rattle.bson_scalar.specs.declared.error.Error.{Error as ReadError}
@@ -13,15 +14,15 @@ use Rattle.bson_scalar.specs.declared.write_error.WriteError.{WriteError}
 use Rattle.bson_scalar.specs.declared.write_error.WriteError.TheVariants as write_error
 use Rattle.bson_filter.specs.Pieces.{KeysAscend}
 use Rattle.bson_filter.specs.declared.stop.Stop.{Stop}
-use Rattle.bson_filter.specs.declared.stop.Stop.TheVariants.{OutOfMemory, DuplicateKey, GaveUp, Fault}
+use Rattle.bson_filter.specs.declared.stop.Stop.TheVariants.{OutOfMemory, DuplicateKey, GaveUp, Syntax, Fault}
 
 abbrev pub stop_of : Error → Stop
-stop_of json_error.Invalid = Fault
+stop_of json_error.Invalid = Syntax
 stop_of _ = OutOfMemory
 
 abbrev pub read_stop : ReadError → Stop
 read_stop read_error.OutOfMemory = OutOfMemory
-read_stop _ = Fault
+read_stop _ = Syntax
 
 abbrev pub write_stop : WriteError → Stop
 write_stop write_error.OutOfMemory = OutOfMemory
@@ -32,14 +33,16 @@ abbrev pub MayStop : (Doubles → Type 0) → Stop → Type 0
 MayStop Leaves OutOfMemory = Unit {0}
 MayStop Leaves DuplicateKey = ⊥
 MayStop Leaves GaveUp = (D : Doubles) → Leaves D
-MayStop Leaves Fault = ⊥
+MayStop Leaves Syntax = ⊥
+MayStop Leaves (Fault place) = ⊥
 
 -- At a scalar it may do so also if the scalar is not one that has a text in the mode.
 abbrev pub MayStopAt : (Doubles → Type 0) → Scalar → Stop → Type 0
 MayStopAt Leaves x OutOfMemory = Unit {0}
 MayStopAt Leaves x DuplicateKey = ⊥
 MayStopAt Leaves x GaveUp = (D : Doubles) → writable_scalar_in D x ≡ true → Leaves D
-MayStopAt Leaves x Fault = ⊥
+MayStopAt Leaves x Syntax = ⊥
+MayStopAt Leaves x (Fault place) = ⊥
 
 -- At the end of a document of these keys it may report that two of them are equal. A writer that sorts may give up keys
 -- that do not ascend.
@@ -47,27 +50,51 @@ abbrev pub MayStopAtEnd : (Doubles → Type 0) → Type 0 → List (List ℕ) �
 MayStopAtEnd Leaves Sorts keys OutOfMemory = Unit {0}
 MayStopAtEnd Leaves Sorts keys DuplicateKey = AreDistinct keys → ⊥
 MayStopAtEnd Leaves Sorts keys GaveUp = (Sorts → KeysAscend None keys) → (D : Doubles) → Leaves D
-MayStopAtEnd Leaves Sorts keys Fault = ⊥
+MayStopAtEnd Leaves Sorts keys Syntax = ⊥
+MayStopAtEnd Leaves Sorts keys (Fault place) = ⊥
 
 -- the same in one mode
 abbrev pub IsWriters : Type 0 → Stop → Type 0
 IsWriters Leaves OutOfMemory = Unit {0}
 IsWriters Leaves DuplicateKey = ⊥
 IsWriters Leaves GaveUp = Leaves
-IsWriters Leaves Fault = ⊥
+IsWriters Leaves Syntax = ⊥
+IsWriters Leaves (Fault place) = ⊥
 
 abbrev pub EndsBy : Type 0 → Type 0 → List (List ℕ) → Stop → Type 0
 EndsBy Leaves Sorts keys OutOfMemory = Unit {0}
 EndsBy Leaves Sorts keys DuplicateKey = AreDistinct keys → ⊥
 EndsBy Leaves Sorts keys GaveUp = (Sorts → KeysAscend None keys) → Leaves
-EndsBy Leaves Sorts keys Fault = ⊥
+EndsBy Leaves Sorts keys Syntax = ⊥
+EndsBy Leaves Sorts keys (Fault place) = ⊥
 
--- a fault becomes none
+-- A fault becomes a text that was given up.
 abbrev pub IsBehind : Stop → Stop → Type 0
 IsBehind OutOfMemory e = e ≡ OutOfMemory
 IsBehind DuplicateKey e = e ≡ DuplicateKey
 IsBehind GaveUp e = e ≡ GaveUp
-IsBehind Fault e = e ≡ GaveUp
+IsBehind Syntax e = e ≡ GaveUp
+IsBehind (Fault place) e = e ≡ GaveUp
+
+-- The stop is a fault of the text.
+abbrev pub IsFault : Stop → Type 0
+IsFault OutOfMemory = ⊥
+IsFault DuplicateKey = ⊥
+IsFault GaveUp = ⊥
+IsFault Syntax = Unit {0}
+IsFault (Fault place) = Unit {0}
+
+-- A stop seen from further out is of the same kind, or memory was refused.
+abbrev pub Becomes : Stop → Stop → Type 0
+Becomes old OutOfMemory = Unit {0}
+Becomes old DuplicateKey = old ≡ DuplicateKey
+Becomes old GaveUp = old ≡ GaveUp
+Becomes old Syntax = IsFault old
+Becomes old (Fault place) = IsFault old
+
+-- The stop of a scalar's reading.
+abbrev pub IsOfReading : Result Scalar Wrong → Stop → Type 0
+IsOfReading r e = (cause : ReadError) × Fails cause r × Becomes (read_stop cause) e
 
 -- what a stop denies: a text that is left, that it is one that stays; a key twice, that each key stands once; a fault,
 -- that each does and that there is a meaning; want of memory nothing
@@ -75,7 +102,8 @@ abbrev pub Denied : Stop → Type 0 → Type 0 → Type 0 → Type 0
 Denied OutOfMemory Stays Once Means = ⊥
 Denied DuplicateKey Stays Once Means = Once
 Denied GaveUp Stays Once Means = Stays
-Denied Fault Stays Once Means = Once × Means
+Denied Syntax Stays Once Means = Once × Means
+Denied (Fault place) Stays Once Means = Once × Means
 
 -- nothing of the kind was parsed
 abbrev pub Lacks : {X : Type 0} → Option (X × List Token) → (X → List Token → Type 0) → Type 0

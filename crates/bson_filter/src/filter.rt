@@ -33,7 +33,8 @@ const FIRST_STARTS: usize = 16;
 ///   [`arrange_text`](bson_distinct::arrange::arrange_text) returns by first places has none, and
 ///   means the same.
 /// - `GaveUp`: an object begins with `$scope`, or the mode is `Finite` and a double has no text.
-/// - `Fault`: the text is not JSON of at most 127 levels, or does not mean a value.
+/// - `Syntax`: the text is not JSON of at most 127 levels, or a number is out of range.
+/// - `Fault`: the text does not mean a value.
 pub fn filter_text(
     alloc: Global,
     doubles: Doubles,

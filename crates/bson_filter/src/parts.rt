@@ -1,18 +1,33 @@
 //! Parts of a wrapper.
-ghost use Rattle.std.specs.Prelude.{◌≡◌, ◌<◌, ◌∷◌, length, None, Some, codes, OnOk, IfOk, IfErr, string_bytes};
+ghost use Rattle.std.specs.Prelude.{◌≡◌, ◌<◌, ◌∷◌, ◌&&◌, length, false, is_some, codes, IfOk, IfErr, OnOk, OnErr, Ok};
+ghost use Rattle.std.specs.Prelude.{None, Some, string_bytes};
 ghost use Rattle.json.specs.Json.{read_key};
 ghost use Rattle.json.specs.Token as token;
-ghost use Rattle.serde_json.specs.Data.{string};
+ghost use Rattle.bson_scalar.specs.Reading.{number_read_in};
+ghost use Rattle.bson_scalar.specs.Table.{wrapper_of};
+ghost use Rattle.bson_scalar.specs.View.{scalar_view};
+ghost use Rattle.serde_json.specs.Data.{Num, string};
 ghost use Rattle.serde_json.specs.Find.{as_str};
+ghost use Rattle.serde_json.specs.Read.{number_of};
 ghost use Rattle.serde_json.specs.View.{view};
-ghost use Rattle.bson_filter.specs.Exact.{EndDenied};
+ghost use Rattle.bson_filter.specs.Exact.{EndDenied, NumberDenied};
 ghost use Rattle.bson_filter.specs.Parts.{scope_token, IsNoScope};
+ghost use Rattle.bson_filter.specs.Placed.{NoScopeAt, EndPlaced, IsFaultOf};
+ghost use Rattle.bson_filter.specs.Stops.{Becomes};
 ghost use Rattle.bson_filter.specs.Walked.{CodeEnds};
-ghost use Rattle.bson_filter.specs.declared.stop.Stop.TheVariants.{Fault};
+ghost use Rattle.bson_filter.specs.declared.stop.Stop.TheVariants.{Syntax};
 
+use crate::places::{beside, ended, fault_of, pass_items};
 use crate::stop::Stop;
+use bson_place::shape::{SCOPE, beside_others};
+use bson_scalar::doubles::read_number;
+use bson_scalar::form::Doubles;
+use bson_scalar::scalar::Scalar;
+use bson_scalar::wrapper::{Wrapper, wrapper_named};
+use bson_tokens::number::number;
 use json::{Reader, Token};
 use serde_json::Value;
+use std::alloc::Global;
 
 /// How a scope beside its code starts.
 #[derive(Clone, Copy, Debug, Drop)]
@@ -21,66 +36,115 @@ pub(crate) enum Scope {
     Object,
 }
 
-// The token at which a scope starts.
-pub(crate) fn read_scope(reader: &mut Reader<'_>) -> Result<Scope, Stop>
+// Reads the token at which a scope starts. If no scope starts there, the rest of the object is
+// skipped.
+pub(crate) fn read_scope(
+    alloc: Global,
+    reader: &mut Reader<'_>,
+    depth: usize,
+) -> Result<Scope, Stop>
     ensures ok { IfOk result (λ scope. reader.old ≡ scope_token scope ∷ reader.new) }
-    ensures fault { IfErr result (λ e. (e ≡ Fault) × IsNoScope reader.old) }
+    ensures placed { IfErr result (λ e. NoScopeAt depth reader.old e reader.new) }
+    ensures kind { IfErr result (λ e. Becomes Syntax e × IsNoScope reader.old) }
 {
-    let token = reader.next().ok_or(Stop::Fault)?;
+    let token = reader.next().ok_or(Stop::Syntax)?;
     match token {
         Token::Null => Ok(Scope::Null),
         Token::BeginObject => Ok(Scope::Object),
-        Token::String(_) | Token::Number(_) | Token::Bool(_) | Token::BeginArray => {
-            Err(Stop::Fault)
+        Token::String(_) | Token::Number(_) | Token::Bool(_) => {
+            Err(ended(alloc, reader, depth, SCOPE))
         }
-        Token::EndObject | Token::EndArray | Token::Key(_) | Token::Bad => Err(Stop::Fault),
+        Token::BeginArray => {
+            if depth == 0 {
+                return Err(Stop::Syntax);
+            }
+            let Ok(()) = pass_items(reader, depth - 1) else {
+                return Err(Stop::Syntax);
+            };
+            Err(ended(alloc, reader, depth, SCOPE))
+        }
+        Token::EndObject | Token::EndArray | Token::Key(_) | Token::Bad => Err(Stop::Syntax),
     }
 }
 
-// The text that a tree is.
+// The text that a tree is, if it is one. The caller knows the place of the fault.
 pub(crate) fn text_of(tree: Value) -> Result<String, Stop>
     ensures ok { IfOk result (λ text. view tree ≡ string (string_bytes text)) }
-    ensures fault { IfErr result (λ e. (e ≡ Fault) × (as_str (view tree) ≡ None)) }
+    ensures textless { OnErr result (as_str (view tree) ≡ None) }
 {
     match tree {
         Value::String(text) => Ok(text),
-        Value::Null | Value::Bool(_) | Value::Number(_) => Err(Stop::Fault),
-        Value::Array(_) => Err(Stop::Fault),
-        Value::Object(_) => Err(Stop::Fault),
+        Value::Null | Value::Bool(_) | Value::Number(_) => Err(Stop::Syntax),
+        Value::Array(_) => Err(Stop::Syntax),
+        Value::Object(_) => Err(Stop::Syntax),
+    }
+}
+
+// The number of a token.
+pub(crate) fn read_token(alloc: Global, doubles: Doubles, text: &str) -> Result<Scalar, Stop>
+    ensures ok { IfOk result (λ x. (n : Num) × (number_of text.now ≡ Some n)
+        × (number_read_in doubles n ≡ Ok (scalar_view x))) }
+    ensures stops { IfErr result (λ e. NumberDenied doubles e text.now) }
+    ensures placed { IfErr result (λ e. (n : Num) → number_of text.now ≡ Some n
+        → IsFaultOf (number_read_in doubles n) e) }
+{
+    let n = number(text).ok_or(Stop::Syntax)?;
+    match read_number(doubles, &n) {
+        Ok(scalar) => Ok(scalar),
+        Err(cause) => Err(fault_of(alloc, cause)),
+    }
+}
+
+// The wrapper of the key, which a document does not have.
+pub(crate) fn misplaced(is_document: bool, key: &str) -> Option<Wrapper>
+    ensures { is_some result ≡ (is_document && is_some (wrapper_of key.now)) }
+{
+    if is_document {
+        wrapper_named(key)
+    } else {
+        None
     }
 }
 
 // Reads the end of the object of code and its scope. If the code follows its scope, it is there.
-pub(crate) fn end_object(reader: &mut Reader<'_>, code: &str, is_behind: bool) -> Result<(), Stop>
+pub(crate) fn end_object(
+    alloc: Global,
+    reader: &mut Reader<'_>,
+    depth: usize,
+    code: &str,
+    is_behind: bool,
+) -> Result<(), Stop>
     ensures ok { OnOk result (CodeEnds code.now is_behind reader.old reader.new) }
     ensures shorter { OnOk result (length reader.new < length reader.old) }
     ensures stops { IfErr result (λ e. EndDenied e is_behind reader.old) }
+    ensures placed { IfErr result (λ e. is_behind ≡ false → EndPlaced depth reader.old e reader.new) }
 {
     if is_behind {
         pass_code(reader, code)?;
     }
-    if reader.next_key()?.is_some() {
-        return Err(Stop::Fault);
+    let behind = reader.next_key()?;
+    match behind {
+        None => Ok(()),
+        Some(_) => Err(beside(alloc, reader, depth, beside_others(Wrapper::Code))),
     }
-    Ok(())
 }
 
 // The key of code, and then this text.
 fn pass_code(reader: &mut Reader<'_>, code: &str) -> Result<(), Stop>
     ensures ok { OnOk result (read_key reader.old ≡ Some (Some (codes "$code"), token.string code.now ∷ reader.new)) }
-    ensures fault { IfErr result (λ e. e ≡ Fault) }
+    ensures kind { IfErr result (λ e. e ≡ Syntax) }
 {
     let Some(key) = reader.next_key()? else {
-        return Err(Stop::Fault);
+        return Err(Stop::Syntax);
     };
     if key != "$code" {
-        return Err(Stop::Fault);
+        return Err(Stop::Syntax);
     }
     let Some(Token::String(text)) = reader.next() else {
-        return Err(Stop::Fault);
+        return Err(Stop::Syntax);
     };
     if text != code {
-        return Err(Stop::Fault);
+        return Err(Stop::Syntax);
     }
     Ok(())
 }

@@ -1,14 +1,14 @@
 //! Why the walk over the tokens of a text stops.
 ghost use Rattle.std.specs.Prelude.{◌≡◌};
-ghost use Rattle.bson_filter.specs.Stops.{stop_of, read_stop, write_stop, IsBehind};
+ghost use Rattle.bson_filter.specs.Stops.{write_stop};
 
-use bson_scalar::error;
+use bson_place::place::Place;
 use bson_scalar::write_error::WriteError;
 use json::{Error, Invalid};
 use std::alloc::AllocError;
 
 /// Why a text was not written.
-#[derive(Clone, Copy, Debug, Drop, PartialEq, Eq)]
+#[derive(Debug, Drop)]
 pub enum Stop {
     /// A request for memory was refused.
     OutOfMemory,
@@ -17,8 +17,11 @@ pub enum Stop {
     /// The text has a part that is not written as it is read: an object that begins with `$scope`,
     /// a value that the writer does not write, or keys that need too much memory to be sorted.
     GaveUp,
-    /// The text is not JSON of at most 127 levels, or does not mean a value.
-    Fault,
+    /// The text is not JSON of at most 127 levels, or a number is out of range.
+    Syntax,
+    /// The text does not mean a value. If the keys of each object ascend, the place is that of the
+    /// first fault.
+    Fault(Box<Place>),
 }
 
 impl From<AllocError> for Stop {
@@ -34,12 +37,12 @@ impl From<AllocError> for Stop {
 
 impl From<Invalid> for Stop {
     ghost use Rattle.std.specs.Prelude.{◌≡◌};
-    ghost use Rattle.bson_filter.specs.declared.stop.Stop.TheVariants.{Fault};
+    ghost use Rattle.bson_filter.specs.declared.stop.Stop.TheVariants.{Syntax};
 
-    ghost from_gives = { λ _ e. e ≡ Fault };
+    ghost from_gives = { λ _ e. e ≡ Syntax };
 
     fn from(_invalid: Invalid) -> Stop {
-        Stop::Fault
+        Stop::Syntax
     }
 }
 
@@ -51,19 +54,9 @@ impl From<Error> for Stop {
 
     fn from(error: Error) -> Stop {
         match error {
-            Error::Invalid => Stop::Fault,
+            Error::Invalid => Stop::Syntax,
             _ => Stop::OutOfMemory,
         }
-    }
-}
-
-// The stop for an error in a wrapper.
-pub(crate) fn read_error(cause: error::Error) -> Stop
-    ensures { result ≡ read_stop cause }
-{
-    match cause {
-        error::Error::OutOfMemory => Stop::OutOfMemory,
-        _ => Stop::Fault,
     }
 }
 
@@ -74,15 +67,5 @@ pub(crate) fn write_error(error: WriteError) -> Stop
     match error {
         WriteError::OutOfMemory => Stop::OutOfMemory,
         WriteError::FiniteDouble => Stop::GaveUp,
-    }
-}
-
-// If code was read ahead, a fault can be that code's, so the walk only gives up.
-pub(crate) fn behind(stop: Stop) -> Stop
-    ensures { IsBehind stop result }
-{
-    match stop {
-        Stop::Fault => Stop::GaveUp,
-        other => other,
     }
 }

@@ -1,10 +1,7 @@
 //! The walk over the tokens of a text, which writes each value as it is read.
-ghost use Rattle.std.specs.Prelude.{◌≡◌, ◌<◌, ◌≤◌, ◌&&◌, [], length, Some, is_some, option_map, OnOk, IfOk, IfErr, Ok};
+ghost use Rattle.std.specs.Prelude.{◌≡◌, ◌<◌, ◌≤◌, [], length, Some, option_map, OnOk, IfErr};
 ghost use Rattle.json.specs.Json.{value, items};
-ghost use Rattle.serde_json.specs.Read.{converted, number_of};
-ghost use Rattle.bson_scalar.specs.Reading.{number_read_in};
-ghost use Rattle.serde_json.specs.Data.{Num};
-ghost use Rattle.bson_scalar.specs.View.{scalar_view};
+ghost use Rattle.serde_json.specs.Read.{converted};
 ghost use Rattle.bson_scalar.specs.Table.{wrapper_of};
 ghost use Rattle.bson_model.specs.Value.{Value as Meaning, array};
 ghost use Rattle.bson_order.specs.Kept.{kept, kept_items};
@@ -12,21 +9,22 @@ ghost use Rattle.bson_order.specs.Texts.{HasMeaningInOrder};
 ghost use Rattle.bson_filter.specs.Walked.{TreeMeans, ItemsMean, ObjectMeans, MembersMean, ScopeMeans};
 ghost use Rattle.bson_filter.specs.Walked.{CodeMeans, kept_object, inside, from_key};
 ghost use Rattle.bson_filter.specs.Exact.{TextDenied, ValueDenied, ItemsDenied, ObjectDenied, MembersDenied};
-ghost use Rattle.bson_filter.specs.Exact.{CodeDenied, ScopeDenied, NumberDenied};
+ghost use Rattle.bson_filter.specs.Exact.{CodeDenied, ScopeDenied};
+ghost use Rattle.bson_filter.specs.Placed.{TextPlaced, ValuePlaced, ItemsPlaced, ObjectPlaced, MembersPlaced};
+ghost use Rattle.bson_filter.specs.Placed.{CodePlaced, ScopePlaced};
 
 use crate::ahead::Ahead;
-use crate::parts::{Scope, end_object, read_scope, text_of};
-use crate::stop::{Stop, behind, read_error};
+use crate::parts::{Scope, end_object, misplaced, read_scope, read_token, text_of};
+use crate::places::{behind, beside, in_element, in_member, in_scope, read_alone};
+use crate::stop::Stop;
 use crate::writer::ValueWriter;
+use bson_place::shape::{CODE, beside_others};
 use bson_scalar::code::is_code_with_scope;
-use bson_scalar::doubles::read_number;
 use bson_scalar::form::Doubles;
-use bson_scalar::read::read_wrapper;
 use bson_scalar::scalar::Scalar;
 use bson_scalar::wrapper::{Wrapper, wrapper_named};
 use bson_tokens::MAX_DEPTH;
 use bson_tokens::held::read_held;
-use bson_tokens::number::number;
 use itoa::Buffer;
 use json::{Reader, Scratch, Token};
 use std::alloc::Global;
@@ -42,7 +40,8 @@ const LONG: usize = 1 << 16;
 /// - `OutOfMemory`: an allocation failed.
 /// - `DuplicateKey`: an object has two equal keys.
 /// - `GaveUp`: an object begins with `$scope`, or the writer cannot write a value of the text.
-/// - `Fault`: the text is not JSON of at most 127 levels, or does not mean a value.
+/// - `Syntax`: the text is not JSON of at most 127 levels, or a number is out of range.
+/// - `Fault`: the text does not mean a value.
 pub fn write_text<W: ValueWriter>(
     alloc: Global,
     doubles: Doubles,
@@ -52,6 +51,7 @@ pub fn write_text<W: ValueWriter>(
 ) -> Result<(), Stop>
     ensures ok { OnOk result ((v : Meaning) × HasMeaningInOrder doubles text.now v × W.wrote out.old [] v out.new) }
     ensures stops { IfErr result (λ e. TextDenied doubles (W.leaves doubles) W.sorts e text.now) }
+    ensures placed { IfErr result (λ e. TextPlaced doubles e text.now) }
 {
     if text.len() > LONG {
         return write_long(alloc, doubles, text, out);
@@ -69,6 +69,7 @@ fn write_long<W: ValueWriter>(
 ) -> Result<(), Stop>
     ensures ok { OnOk result ((v : Meaning) × HasMeaningInOrder doubles text.now v × W.wrote out.old [] v out.new) }
     ensures stops { IfErr result (λ e. TextDenied doubles (W.leaves doubles) W.sorts e text.now) }
+    ensures placed { IfErr result (λ e. TextPlaced doubles e text.now) }
 {
     let mut scratch = Scratch::new(alloc);
     write_whole(alloc, doubles, text, &mut scratch, out)
@@ -84,11 +85,12 @@ fn write_whole<W: ValueWriter>(
 ) -> Result<(), Stop>
     ensures ok { OnOk result ((v : Meaning) × HasMeaningInOrder doubles text.now v × W.wrote out.old [] v out.new) }
     ensures stops { IfErr result (λ e. TextDenied doubles (W.leaves doubles) W.sorts e text.now) }
+    ensures placed { IfErr result (λ e. TextPlaced doubles e text.now) }
 {
     let mut reader = Reader::new(text, scratch)?;
     write_first(alloc, doubles, text, &mut reader, out)?;
     if reader.next().is_some() {
-        return Err(Stop::Fault);
+        return Err(Stop::Syntax);
     }
     Ok(())
 }
@@ -104,6 +106,7 @@ fn write_first<W: ValueWriter>(
     ensures ok { OnOk result (TreeMeans doubles (converted kept (value 127 reader.old)) reader.new
         (λ v. W.wrote out.old [] v out.new)) }
     ensures stops { IfErr result (λ e. ValueDenied doubles (W.leaves doubles) W.sorts e (value 127 reader.old)) }
+    ensures placed { IfErr result (λ e. ValuePlaced doubles e (value 127 reader.old) reader.new) }
 {
     let mut keys = Vec::new(alloc);
     let mut ahead = Ahead::new(alloc, text);
@@ -114,15 +117,11 @@ fn write_first<W: ValueWriter>(
 
 /// Writes the next value under the name.
 ///
-/// The keys of the open objects are kept, each object's after those around it. If code follows its
-/// scope, what the text has ahead is kept too.
+/// `keys` are those of the open objects, from outside in. `ahead` knows the code after its scope.
 ///
 /// # Errors
 ///
-/// - `OutOfMemory`: a request for memory was refused.
-/// - `DuplicateKey`: an object has two equal keys.
-/// - `GaveUp`: the writer or the walk does not write a part as it is read.
-/// - `Fault`: the next value is not JSON of at most `depth` levels, or has no meaning.
+/// The errors of [`write_text`], for the next value, which has at most `depth` levels.
 #[cycle(walk)]
 pub fn write_value<'a, W: ValueWriter>(
     alloc: Global,
@@ -139,37 +138,28 @@ pub fn write_value<'a, W: ValueWriter>(
     ensures keys { OnOk result (keys.new.items ≡ keys.old.items) }
     ensures shorter { OnOk result (length reader.new < length reader.old) }
     ensures stops { IfErr result (λ e. ValueDenied doubles (W.leaves doubles) W.sorts e (value depth reader.old)) }
+    ensures placed { IfErr result (λ e. ValuePlaced doubles e (value depth reader.old) reader.new) }
 {
-    let token = reader.next().ok_or(Stop::Fault)?;
+    let token = reader.next().ok_or(Stop::Syntax)?;
     match token {
         Token::String(text) => out.string(name, text),
-        Token::Number(text) => out.scalar(name, read_token(doubles, text)?),
+        Token::Number(text) => out.scalar(name, read_token(alloc, doubles, text)?),
         Token::Bool(truth) => out.boolean(name, truth),
         Token::Null => out.null(name),
-        Token::EndObject | Token::EndArray | Token::Key(_) | Token::Bad => Err(Stop::Fault),
+        Token::EndObject | Token::EndArray | Token::Key(_) | Token::Bad => Err(Stop::Syntax),
         Token::BeginArray => {
             if depth == 0 {
-                return Err(Stop::Fault);
+                return Err(Stop::Syntax);
             }
             write_array(alloc, doubles, reader, depth - 1, name, keys, ahead, out)
         }
         Token::BeginObject => {
             if depth == 0 {
-                return Err(Stop::Fault);
+                return Err(Stop::Syntax);
             }
             write_object(alloc, doubles, reader, depth - 1, name, keys, ahead, out)
         }
     }
-}
-
-// The number of a token.
-fn read_token(doubles: Doubles, text: &str) -> Result<Scalar, Stop>
-    ensures ok { IfOk result (λ x. (n : Num) × (number_of text.now ≡ Some n)
-        × (number_read_in doubles n ≡ Ok (scalar_view x))) }
-    ensures stops { IfErr result (λ e. NumberDenied doubles e text.now) }
-{
-    let n = number(text).ok_or(Stop::Fault)?;
-    read_number(doubles, &n).map_err(read_error)
 }
 
 // An array whose bracket was read.
@@ -190,13 +180,17 @@ fn write_array<'a, W: ValueWriter>(
     ensures keys { OnOk result (keys.new.items ≡ keys.old.items) }
     ensures shorter { OnOk result (length reader.new < length reader.old) }
     ensures stops { IfErr result (λ e. ItemsDenied doubles (W.leaves doubles) W.sorts e (items (value depth) (length reader.old) reader.old)) }
+    ensures placed { IfErr result (λ e. ItemsPlaced doubles e (items (value depth) (length reader.old) reader.old) reader.new) }
 {
     let begun = out.begin_array(name)?;
     let mut place: usize = 0;
     'items: while !reader.take_end_array() {
         let mut buffer = Buffer::new();
         let name = W::item_name(&mut buffer, place);
-        write_value(alloc, doubles, reader, depth, name, keys, ahead, out)?;
+        match write_value(alloc, doubles, reader, depth, name, keys, ahead, out) {
+            Ok(()) => {}
+            Err(stop) => return Err(in_element(reader, depth, place, stop)),
+        }
         place = place.checked_add(1).ok_or(Stop::OutOfMemory)?;
     }
     out.end_array(begun)
@@ -219,6 +213,7 @@ fn write_object<'a, W: ValueWriter>(
     ensures keys { OnOk result (keys.new.items ≡ keys.old.items) }
     ensures shorter { OnOk result (length reader.new < length reader.old) }
     ensures stops { IfErr result (λ e. ObjectDenied doubles (W.leaves doubles) W.sorts e (inside depth reader.old)) }
+    ensures placed { IfErr result (λ e. ObjectPlaced doubles e (inside depth reader.old) reader.new) }
 {
     let first = reader.next_key()?;
     if let Some(code) = ahead.code_behind(first, reader.offset())? {
@@ -246,7 +241,7 @@ fn write_object<'a, W: ValueWriter>(
 ///
 /// # Errors
 ///
-/// The errors of [`write_value`], for the members of the object.
+/// The errors of [`write_text`], for the members of the object.
 #[cycle(walk)]
 pub fn write_document<'a, W: ValueWriter>(
     alloc: Global,
@@ -266,31 +261,29 @@ pub fn write_document<'a, W: ValueWriter>(
     ensures shorter { OnOk result (length reader.new ≤ length reader.old) }
     ensures stops { IfErr result (λ e. MembersDenied doubles (W.leaves doubles) W.sorts e is_document
         (from_key depth (option_map (λ k. k.now) first.entry) reader.old)) }
+    ensures placed { IfErr result (λ e. MembersPlaced doubles e is_document
+        (from_key depth (option_map (λ k. k.now) first.entry) reader.old) reader.new) }
 {
     let held = keys.len();
     let begun = out.begin()?;
     let mut next = first;
     'members: while let Some(key) = next {
-        if is_misplaced(is_document, key) {
-            return Err(Stop::Fault);
+        if let Some(wrapper) = misplaced(is_document, key) {
+            return Err(beside(alloc, reader, depth, beside_others(wrapper)));
         }
         let Ok(()) = keys.push(key) else {
             return Err(Stop::OutOfMemory);
         };
         out.key(key)?;
-        write_value(alloc, doubles, reader, depth, key, keys, ahead, out)?;
+        match write_value(alloc, doubles, reader, depth, key, keys, ahead, out) {
+            Ok(()) => {}
+            Err(stop) => return Err(in_member(alloc, reader, depth, is_document, key, stop)),
+        }
         next = reader.next_key()?;
     }
     out.end(begun, &mut keys.as_mut_slice()[held..])?;
     keys.truncate(held);
     Ok(())
-}
-
-// The key is a wrapper's, which no document has.
-fn is_misplaced(is_document: bool, key: &str) -> bool
-    ensures { result ≡ (is_document && is_some (wrapper_of key.now)) }
-{
-    is_document && wrapper_named(key).is_some()
 }
 
 // The wrapper whose key was read: of that key alone, or code with its scope behind it.
@@ -314,23 +307,25 @@ fn write_wrapper<'a, W: ValueWriter>(
     ensures keys { OnOk result (keys.new.items ≡ keys.old.items) }
     ensures shorter { OnOk result (length reader.new < length reader.old) }
     ensures stops { IfErr result (λ e. ObjectDenied doubles (W.leaves doubles) W.sorts e (from_key depth (Some key.now) reader.old)) }
+    ensures placed { IfErr result (λ e. ObjectPlaced doubles e (from_key depth (Some key.now) reader.old) reader.new) }
 {
     let held = read_held(alloc, reader, depth)?;
     let Some(other) = reader.next_key()? else {
-        let value = read_wrapper(alloc, doubles, wrapper, held).map_err(read_error)?;
+        let value = read_alone(alloc, doubles, wrapper, held, key)?;
         return out.scalar(name, value);
     };
     if !is_code_with_scope(key, other) {
-        return Err(Stop::Fault);
+        return Err(beside(alloc, reader, depth, beside_others(wrapper)));
     }
-    let code = text_of(held)?;
+    let Ok(code) = text_of(held) else {
+        return Err(beside(alloc, reader, depth, CODE));
+    };
     write_code(
         alloc, doubles, reader, depth, &code, false, name, keys, ahead, out,
     )
 }
 
-// Code from the value of its scope on, to the end of their object. Where it stands behind the scope
-// it is to be this.
+// Code from its scope's value on, to the end of their object. Code after its scope must be this.
 #[cycle(walk)]
 #[inline(never)]
 fn write_code<'a, W: ValueWriter>(
@@ -350,17 +345,21 @@ fn write_code<'a, W: ValueWriter>(
     ensures keys { OnOk result (keys.new.items ≡ keys.old.items) }
     ensures shorter { OnOk result (length reader.new < length reader.old) }
     ensures stops { IfErr result (λ e. CodeDenied doubles (W.leaves doubles) W.sorts e is_behind (value depth reader.old)) }
+    ensures placed { IfErr result (λ e. CodePlaced doubles is_behind depth e reader.old reader.new) }
 {
-    let scope = read_scope(reader)?;
+    let scope = read_scope(alloc, reader, depth)?;
     match scope {
         Scope::Null => {
-            end_object(reader, code, is_behind)?;
+            end_object(alloc, reader, depth, code, is_behind)?;
             out.scalar(name, Scalar::JavaScriptCode(String::from_str(alloc, code)?))
         }
         Scope::Object => {
             let begun = out.begin_code(name, code)?;
-            write_scope(alloc, doubles, reader, depth, keys, ahead, out)?;
-            end_object(reader, code, is_behind)?;
+            match write_scope(alloc, doubles, reader, depth, keys, ahead, out) {
+                Ok(()) => {}
+                Err(stop) => return Err(in_scope(alloc, reader, depth, stop)),
+            }
+            end_object(alloc, reader, depth, code, is_behind)?;
             out.end_code(begun)
         }
     }
@@ -381,9 +380,10 @@ fn write_scope<'a, W: ValueWriter>(
     ensures keys { OnOk result (keys.new.items ≡ keys.old.items) }
     ensures shorter { OnOk result (length reader.new < length reader.old) }
     ensures stops { IfErr result (λ e. ScopeDenied doubles (W.leaves doubles) W.sorts e depth reader.old) }
+    ensures placed { IfErr result (λ e. ScopePlaced doubles depth e reader.old reader.new) }
 {
     if depth == 0 {
-        return Err(Stop::Fault);
+        return Err(Stop::Syntax);
     }
     let first = reader.next_key()?;
     write_document(

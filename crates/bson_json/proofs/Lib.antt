@@ -8,3 +8,5 @@ pub mod Firsts
 pub mod Back
 pub mod Reading
 pub mod Corners
+pub mod Characters
+pub mod Parts

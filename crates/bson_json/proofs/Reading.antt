@@ -30,10 +30,10 @@ whole None j e = none_some j e
 whole (Some (i, [])) j e = ap (λ k. Some (k, [])) (some_inj i j e)
 whole (Some (i, t ∷ ts)) j e = none_some j e
 
-value_from : (d : ℕ) (text : List ℕ) (j : Json) → IsJson text j → depth j ≤ d → value d (tokens text) ≡ Some (j, [])
+pub value_from : (d : ℕ) (text : List ℕ) (j : Json) → IsJson text j → depth j ≤ d → value d (tokens text) ≡ Some (j, [])
 value_from d text j h n = ap (value d) (text_tokens h ∙ sym (append-nil (json_tokens j))) ∙ value-json_tokens j d [] n
 
-value_to : (d : ℕ) (text : List ℕ) (j : Json) → value d (tokens text) ≡ Some (j, []) → IsJson text j × (depth j ≤ d)
+pub value_to : (d : ℕ) (text : List ℕ) (j : Json) → value d (tokens text) ≡ Some (j, []) → IsJson text j × (depth j ≤ d)
 value_to d text j e = (text_back text j (value-json_tokens_back d (tokens text) [] j e ∙ append-nil (json_tokens j)), value-depth d (tokens text) [] j e)
 
 pub json_from : (text : List ℕ) (j : Json) → IsJson text j → depth j ≤ max_depth → json_of text ≡ Some j

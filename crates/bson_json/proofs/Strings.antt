@@ -119,7 +119,7 @@ passes (surrogates {h = t} {l = l} {u = u} {v = v} h high k low) = record {
       ∙ lex-escape_u (l ++ r) ∙ code_stays r k;
 }
 
-content-chars : {t s : List ℕ} (r : List ℕ) → AreChars t s → content plain (t ++ 0x22 ∷ r) ≡ Some s
+pub content-chars : {t s : List ℕ} (r : List ℕ) → AreChars t s → content plain (t ++ 0x22 ∷ r) ≡ Some s
 unfolding content
 content-chars r no_chars = refl
 content-chars r (char {c = c} {t = t} {s = s} h k) =

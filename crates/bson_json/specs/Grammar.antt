@@ -105,7 +105,7 @@ IsHighSurrogate u = (0xD800 ≤ u) × (u < 0xDC00)
 abbrev pub IsLowSurrogate : ℕ → Type 0
 IsLowSurrogate u = (0xDC00 ≤ u) × (u < 0xE000)
 
--- unescaped = %x20-21 / %x23-5B / %x5D-10FFFF, a byte at a time: those of UTF-8 above %x7F are no other character's
+-- unescaped = %x20-21 / %x23-5B / %x5D-10FFFF, a byte at a time. The law `unescaped_is_by_character` has the characters.
 abbrev pub IsUnescaped : ℕ → Type 0
 IsUnescaped x = (0x20 ≤ x) × (x ≢ 0x22) × (x ≢ 0x5C)
 

@@ -1,5 +1,5 @@
 -- What the words ask for.
-use Rattle.std.proofs.Common.{◌≡◌, ◌⊎◌, inl, inr, ◌<◌, ◌∙◌, ℕ, Bool, true, false, cond, List, Option, Some, None, map, length}
+use Rattle.std.proofs.Common.{◌≡◌, ◌⊎◌, codes, inl, inr, ◌<◌, ◌∙◌, ℕ, Bool, true, false, cond, List, Option, Some, None, map, length}
 use Rattle.std.proofs.Common.{refl, sym, ap, subst, get_or, Result, Ok, Err, IfOk, zero, suc, [], ◌∷◌, ◌++◌, ◌+◌, take, add-one, arith}
 use Rattle.std.proofs.lemmas.List.{get_or-map, length-map}
 use Rattle.std.specs.List.{Contains}
@@ -9,12 +9,17 @@ use Rattle.bson_run.specs.declared.order.Taking.{Taking}
 use Rattle.bson_run.specs.declared.order.Task.{Task}
 use Rattle.bson_run.specs.declared.order.Task.TheVariants.{Write, WriteInOrder, Check, Encode, EncodeInOrder}
 use Rattle.bson_run.specs.declared.order.Task.TheVariants.{Taken}
-use Rattle.bson_lines.specs.Order.{first_taken, in_order, AreGiven, one_more, IsAnswer, IsAskedBy, IsTaken, Takes}
+use Rattle.bson_lines.specs.Flags.{has}
+use Rattle.bson_lines.specs.Order.{first_taken, in_order, is_option, AreGiven, one_more, IsAnswer, IsAskedBy, IsBehind}
+use Rattle.bson_lines.specs.Order.{command_of, IsDashed, IsJoined, IsNumbered, IsRefused, IsTaken, Takes}
 use Rattle.bson_lines.specs.declared.arguments.Given.{Given}
 use Rattle.bson_lines.specs.declared.arguments.Taken as arguments
 use Rattle.bson_lines.specs.declared.arguments.Taken.TheVariants as taken
 use Rattle.bson_lines.specs.declared.order.Asked.{Asked}
-use Rattle.bson_lines.specs.declared.order.Asked.TheVariants.{Run, Help, Version, Former, Nothing}
+use Rattle.bson_lines.specs.declared.order.Asked.TheVariants.{Run, Help, Version, Wrong}
+use Rattle.bson_lines.specs.declared.order.Command.{Command}
+use Rattle.bson_lines.specs.declared.order.Flag.TheVariants as flag
+use Rattle.bson_lines.specs.declared.order.Misuse.{Misuse}
 
 -- ---- options leave a task its name
 
@@ -56,10 +61,9 @@ answered words given (Run order) are h is = (
   subst (Contains words) (sym (ap task_name is.task ∙ named _ _ is.verb)) (verb_there words given.task is.verb h is.is_verb),
   (given, are, is),
 )
-answered words given Help are h is = absurd is
+answered words given (Help command) are h is = absurd is
 answered words given Version are h is = absurd is
-answered words given Former are h is = absurd is
-answered words given Nothing are h is = tt
+answered words given (Wrong wrong) are h is = (given, is.1, inl (are, is.0))
 
 pub still_there : (words : List (List ℕ)) (word : List ℕ) (old new : Option Task) → Contains words word
     → IfSome old (λ verb. Contains words (task_name verb))
@@ -68,32 +72,13 @@ still_there words word old None there h is = tt
 still_there words word old (Some verb) there h (inl e) = verb_there words old verb h e
 still_there words word old (Some verb) there h (inr e) = subst (Contains words) e there
 
-pub help_there : (words : List (List ℕ)) (word : List ℕ) (it : arguments.Taken) → Contains words word → IsTaken word it
-    → it ≡ taken.Help → IsAskedBy words Help
-help_there words word taken.Word there h e = absurd cc
-help_there words word taken.Help there (inl is) e = inl (subst (Contains words) is there)
-help_there words word taken.Help there (inr is) e = inr (subst (Contains words) is there)
-help_there words word taken.Version there h e = absurd cc
-help_there words word taken.Former there h e = absurd cc
-help_there words word taken.Unknown there h e = absurd cc
-
-pub version_there : (words : List (List ℕ)) (word : List ℕ) (it : arguments.Taken) → Contains words word → IsTaken word it
-    → it ≡ taken.Version → IsAskedBy words Version
-version_there words word taken.Word there h e = absurd cc
-version_there words word taken.Help there h e = absurd cc
-version_there words word taken.Version there (inl is) e = inl (subst (Contains words) is there)
-version_there words word taken.Version there (inr is) e = inr (subst (Contains words) is there)
-version_there words word taken.Former there h e = absurd cc
-version_there words word taken.Unknown there h e = absurd cc
-
-pub former_there : (words : List (List ℕ)) (word : List ℕ) (it : arguments.Taken) → Contains words word → IsTaken word it
-    → it ≡ taken.Former → IsAskedBy words Former
-former_there words word taken.Word there h e = absurd cc
-former_there words word taken.Help there h e = absurd cc
-former_there words word taken.Version there h e = absurd cc
-former_there words word taken.Former there (inl is) e = inl (subst (Contains words) is there)
-former_there words word taken.Former there (inr is) e = inr (subst (Contains words) is there)
-former_there words word taken.Unknown there h e = absurd cc
+pub version_there : (words : List (List ℕ)) (word : List ℕ) (given : Given) (it : arguments.Taken) → Contains words word
+    → IsTaken given word it → it ≡ taken.Version → IsAskedBy words Version
+version_there words word given taken.Word there h e = absurd cc
+version_there words word given taken.Help there h e = absurd cc
+version_there words word given taken.Version there (inl is) e = inl (subst (Contains words) is there)
+version_there words word given taken.Version there (inr is) e = inr (subst (Contains words) is there)
+version_there words word given (taken.Wrong why) there h e = absurd cc
 
 -- the word at a place is among the words
 pub word_there : {X : Type 0} (f : X → List ℕ) (all xs : List X) (i : ℕ) (x : X) (word : List ℕ) → xs ≡ all → i < length xs
@@ -128,3 +113,61 @@ more_given f all xs i x word old new same within is of given takes =
     subst (λ ws. AreGiven ws new) (sym grown) (one_more (f x) new before (subst (λ w. Takes w old new) of takes)) in
     subst (λ ys. AreGiven (take (i + 1) (map f ys)) new) same
     (subst (λ n. AreGiven (take n (map f xs)) new) (sym (add-one i)) after)
+
+-- ---- the first word that asks for help, or is not accepted
+
+-- the word at a place, and what those before it give
+pub behind : {X : Type 0} (f : X → List ℕ) (all xs : List X) (i : ℕ) (x : X) (word : List ℕ) (given : Given) → xs ≡ all
+    → i < length xs → x ≡ get_or xs i x → word ≡ f x → AreGiven (take i (map f all)) given → IsBehind (map f all) given word
+behind f all xs i x word given same within is of are = record {
+  at = i;
+  within = subst (λ ys. i < length (map f ys)) same (subst (λ n. i < n) (sym (length-map xs f)) within);
+  is = subst (λ ys. get_or (map f ys) i word ≡ word) same
+      (subst (λ w. get_or (map f xs) i w ≡ w) (sym of) (get_or-map f xs i x (f x) within ∙ ap f (sym is)));
+  before = are;
+}
+
+pub help_behind : (words : List (List ℕ)) (given : Given) (word : List ℕ) (it : arguments.Taken) (command : Command)
+    → IsBehind words given word → IsTaken given word it → it ≡ taken.Help → command ≡ command_of given.input given.task
+    → IsAskedBy words (Help command)
+help_behind words given word taken.Word command there h e of = absurd cc
+help_behind words given word taken.Help command there h e of = (given, word, there, h, of)
+help_behind words given word taken.Version command there h e of = absurd cc
+help_behind words given word (taken.Wrong why) command there h e of = absurd cc
+
+pub refused_behind : (words : List (List ℕ)) (given : Given) (word : List ℕ) (it : arguments.Taken) (why : Misuse)
+    → IsTaken given word it → it ≡ taken.Wrong why → IsRefused given word why
+refused_behind words given word taken.Word why h e = absurd cc
+refused_behind words given word taken.Help why h e = absurd cc
+refused_behind words given word taken.Version why h e = absurd cc
+refused_behind words given word (taken.Wrong other) why h e =
+    let same : other ≡ why = cc in
+    subst (IsRefused given word) same h
+
+-- ---- values of options
+
+pub numbered_indent : (given old : Given) (word text : List ℕ) (it : arguments.Taken) → IsNumbered flag.Indent 16 old text it
+    → has flag.Indent old ≡ has flag.Indent given → (word ≡ text) ⊎ (word ≡ codes "--indent=" ++ text)
+    → IsTaken given word it
+numbered_indent given old word text taken.Word h e at = tt
+numbered_indent given old word text taken.Help h e at = absurd h
+numbered_indent given old word text taken.Version h e at = absurd h
+numbered_indent given old word text (taken.Wrong why) (inl is) e at = subst (IsRefused given word) (sym is.0) (sym e ∙ is.1)
+numbered_indent given old word text (taken.Wrong why) (inr is) e at = subst (IsRefused given word) (sym is.0) (text, is.1, at)
+
+pub numbered_jobs : (given old : Given) (word text : List ℕ) (it : arguments.Taken) → IsNumbered flag.Jobs 9999 old text it
+    → has flag.Jobs old ≡ has flag.Jobs given → (word ≡ text) ⊎ (word ≡ codes "--jobs=" ++ text) → IsTaken given word it
+numbered_jobs given old word text taken.Word h e at = tt
+numbered_jobs given old word text taken.Help h e at = absurd h
+numbered_jobs given old word text taken.Version h e at = absurd h
+numbered_jobs given old word text (taken.Wrong why) (inl is) e at = subst (IsRefused given word) (sym is.0) (sym e ∙ is.1)
+numbered_jobs given old word text (taken.Wrong why) (inr is) e at = subst (IsRefused given word) (sym is.0) (text, is.1, at)
+
+pub joined_taken : (given : Given) (word : List ℕ) (it : arguments.Taken) → IsJoined given word it → IsDashed word
+    → is_option word ≡ false → IsTaken given word it
+joined_taken given word it (inl is) dashed other = subst (IsTaken given word) (sym is) (dashed, other)
+joined_taken given word it (inr h) dashed other = h
+
+pub when_ok : {X E : Type 0} (r : Result X E) (P Q : X → Type 0) → ((x : X) → P x → Q x) → IfOk r P → IfOk r Q
+when_ok (Ok x) P Q f h = f x h
+when_ok (Err e) P Q f h = tt

@@ -1,6 +1,6 @@
 -- A number of spaces as a word.
-use Rattle.std.proofs.Common.{◌≡◌, ◌≢◌, ◌<◌, ◌≤◌, ◌==◌, ◌||◌, ℕ, suc, zero, Bool, true, List, get_or, Result, Ok, Err, sym, ap, subst}
-use Rattle.std.proofs.Common.{◌∙◌, arith, lit<}
+use Rattle.std.proofs.Common.{◌≡◌, ◌≢◌, ◌<◌, ◌==◌, ◌||◌, ℕ, suc, zero, Bool, true, List, get_or, Result, Ok, Err, sym, ap, subst}
+use Rattle.std.proofs.Common.{◌∙◌, ◌^◌, arith, lit<}
 use Rattle.std.specs.Fmt.{decimal}
 use Rattle.std.specs.Str.{all_ascii_digits}
 use Rattle.std.specs.Str.Parse.{digits_value, ParsesUnsigned}
@@ -26,10 +26,10 @@ is_count {E} word (Ok n) count h is plus other =
     (e, positive word count e other)
 
 pub reads_count : {E : Type 0} (word : List ℕ) (r : Result ℕ E) (count : ℕ) → ParsesUnsigned 64 10 word r
-    → count ≤ 16 → word ≡ decimal count → r ≡ Ok count
-reads_count word r count h few e = parse-decimal 64 count word r (omega arith) (omega arith) e h
+    → count < 2 ^ 64 → word ≡ decimal count → r ≡ Ok count
+reads_count word r count h few e = parse-decimal 64 count word r few (omega arith) e h
 
-pub begins_well : (word : List ℕ) (count : ℕ) → 0 < count → count ≤ 16 → word ≡ decimal count → 48 < get_or word 0 0
+pub begins_well : (word : List ℕ) (count : ℕ) → 0 < count → count < 2 ^ 64 → word ≡ decimal count → 48 < get_or word 0 0
 begins_well word count some few e =
     subst (λ w. 48 < get_or w 0 0) (sym e) (first_decimal count some (omega arith))
 

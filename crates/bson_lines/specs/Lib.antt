@@ -1,4 +1,6 @@
 pub mod Messages
+pub mod Misuses
+pub mod Flags
 pub mod Order
 pub mod Stops
 pub mod Dump

@@ -1,26 +1,33 @@
 -- What the words after the program's name ask for.
-use Rattle.std.specs.Prelude.{◌≡◌, ◌≢◌, ◌⊎◌, ◌≤◌, ◌++◌, ℕ, Bool, true, false, List, [], ◌∷◌, Option, None, Some, IsSome, codes}
-use Rattle.std.specs.Prelude.{bytes_eq, ◌||◌, Contains, map, string_bytes, vec_len, if◌then◌else◌}
+use Rattle.std.specs.Prelude.{◌≡◌, ◌==◌, ◌≢◌, ◌⊎◌, ◌<◌, ◌≤◌, ◌++◌, ℕ, Bool, true, false, List, [], ◌∷◌, Option, None, Some, codes}
+use Rattle.std.specs.Prelude.{bytes_eq, ◌||◌, Contains, get_or, length, map, string_bytes, slice_index, take, vec_len, if◌then◌else◌}
+use Rattle.std.specs.Fmt.{decimal}
 use Rattle.std.specs.Option.{option_map_or}
 use Rattle.bson_run.specs.Words.{task_name}
 use Rattle.bson_run.specs.declared.order.OnRefusal.TheVariants.{KeepGoing, Stop}
-use Rattle.bson_convert.specs.declared.mode.Mode.TheVariants.{Canonical, Relaxed}
 use Rattle.bson_run.specs.declared.order.Taking.{Taking}
 use Rattle.bson_run.specs.declared.order.Taking.TheVariants.{Distinct, Legacy, DistinctLegacy}
 use Rattle.bson_run.specs.declared.order.Task.{Task}
 use Rattle.bson_run.specs.declared.order.Task.TheVariants.{Write, WriteInOrder, Check, Encode, EncodeInOrder}
 use Rattle.bson_run.specs.declared.order.Task.TheVariants.{Taken}
 use Rattle.bson_run.specs.declared.order.Work.TheVariants as work
+use Rattle.bson_lines.specs.Flags.{clashes, has}
 use Rattle.bson_lines.specs.declared.order.Asked.{Asked}
-use Rattle.bson_lines.specs.declared.order.Asked.TheVariants.{Run, Help, Version, Former, Nothing}
+use Rattle.bson_lines.specs.declared.order.Asked.TheVariants.{Run, Help, Version, Wrong}
+use Rattle.bson_lines.specs.declared.order.Command.{Command}
+use Rattle.bson_lines.specs.declared.order.Command.TheVariants as command
+use Rattle.bson_lines.specs.declared.order.Flag.{Flag}
+use Rattle.bson_lines.specs.declared.order.Flag.TheVariants as flag
 use Rattle.bson_lines.specs.declared.order.Input.{Input}
-use Rattle.bson_lines.specs.declared.order.Input.TheVariants.{Lines, Text, Documents}
+use Rattle.bson_lines.specs.declared.order.Input.TheVariants.{Text, Lines, Documents}
+use Rattle.bson_lines.specs.declared.order.Misuse.{Misuse}
+use Rattle.bson_lines.specs.declared.order.Misuse.TheVariants as misuse
 use Rattle.bson_lines.specs.declared.order.Order.{Order}
 use Rattle.bson_lines.specs.declared.arguments.Given.{Given}
 use Rattle.bson_lines.specs.declared.arguments.Taken as arguments
 use Rattle.bson_lines.specs.declared.arguments.Taken.TheVariants as taken
 use Rattle.bson_lines.specs.declared.arguments.Next.{Next}
-use Rattle.bson_lines.specs.declared.arguments.Next.TheVariants.{Any, Output, Indent, Name}
+use Rattle.bson_lines.specs.declared.arguments.Next.TheVariants.{Any, Output, Indent, Jobs, Name}
 use Rattle.bson.specs.Doubles.TheVariants.{Finite, Special}
 use Rattle.bson.specs.declared.extjson.options.Options.{Options}
 
@@ -57,28 +64,66 @@ options_of false = record { doubles = Finite }
 abbrev pub HasOutput : (file word : List ℕ) → Type 0
 HasOutput file word = (word ≡ codes "--output=" ++ file) ⊎ (word ≡ codes "-o" ++ file)
 
+-- a number from 1 to the greatest, as it is written, is not the word
+abbrev pub IsNoCount : (most : ℕ) → (word : List ℕ) → Type 0
+IsNoCount most word = (count : ℕ) → 0 < count → count ≤ most → word ≡ decimal count → ⊥
+
+-- the words that are options, each with its value in the word or behind it
+abbrev pub is_option : List ℕ → Bool
+is_option word = bytes_eq word (codes "--sort-keys") || bytes_eq word (codes "--strict") || bytes_eq word (codes "--legacy")
+    || bytes_eq word (codes "--no-double-keys") || bytes_eq word (codes "--keep-going") || bytes_eq word (codes "--indent")
+    || bytes_eq word (codes "--jobs") || bytes_eq word (codes "-o") || bytes_eq word (codes "--output")
+    || bytes_eq word (codes "--help") || bytes_eq word (codes "-h") || bytes_eq word (codes "--version")
+    || bytes_eq word (codes "-v") || bytes_eq word (codes "--")
+
+-- ---- commands
+
+-- the input that the word of a command names
+abbrev pub input_named : (word : List ℕ) → Input → Input
+input_named word input = if bytes_eq word (codes "lines") then Lines
+    else (if bytes_eq word (codes "decode") then Documents
+    else (if bytes_eq word (codes "encode") then Lines else input))
+
+-- no word has named another
+abbrev pub is_text : Input → Bool
+is_text Text = true
+is_text input = false
+
+abbrev pub command_of : Input → Option Task → Command
+command_of Text None = command.All
+command_of Text (Some task) = command.Text
+command_of Documents task = command.Decode
+command_of Lines (Some Encode) = command.Encode
+command_of Lines task = command.Lines
+
 -- ---- what the words give
 
--- what a word sets where no option waits for it: each option sets its own part, and any other word none of these
+-- after a mode a word is a file
+abbrev pub input_of : (word : List ℕ) → Given → Input
+input_of word given = option_map_or (λ verb. given.input) given.task (input_named word given.input)
+
+-- what a word sets where no option waits for it: each option and each command sets its own part, and any other word none
+-- of these
 abbrev pub given_of : List ℕ → Given → Given
 given_of word given = record given {
   keeps_going = bytes_eq word (codes "--keep-going") || given.keeps_going;
-  input = if bytes_eq word (codes "--whole") then Text
-      else (if bytes_eq word (codes "--bson") then Documents else given.input);
+  input = input_of word given;
   sorts_keys = bytes_eq word (codes "--sort-keys") || given.sorts_keys;
   is_strict = bytes_eq word (codes "--strict") || given.is_strict;
   is_distinct = bytes_eq word (codes "--no-double-keys") || given.is_distinct;
   is_legacy = bytes_eq word (codes "--legacy") || given.is_legacy;
   next = if bytes_eq word (codes "--") then Name
       else (if bytes_eq word (codes "-o") || bytes_eq word (codes "--output") then Output
-      else (if bytes_eq word (codes "--indent") then Indent else given.next));
+      else (if bytes_eq word (codes "--indent") then Indent
+      else (if bytes_eq word (codes "--jobs") then Jobs else given.next)));
 }
 
--- a word that is an option gives what the table says; the words of files, of the verb and of numbers give the rest
+-- a word that is an option gives what the table says; the words of files, of the mode and of numbers give the rest
 abbrev pub Sets : (word : List ℕ) → (old new : Given) → Type 0
 Sets word old new = new ≡ record (given_of word old) {
   task = new.task;
   indent = new.indent;
+  jobs = new.jobs;
   output = new.output;
   inputs = new.inputs;
 }
@@ -88,7 +133,8 @@ abbrev pub TakesFor : Next → (word : List ℕ) → (old new : Given) → Type 
 TakesFor Any word old new = Sets word old new
 TakesFor Output word old new = new ≡ record old { next = Any; output = new.output }
 TakesFor Indent word old new = new ≡ record old { next = Any; indent = new.indent }
-TakesFor Name word old new = new ≡ record old { task = new.task; inputs = new.inputs }
+TakesFor Jobs word old new = new ≡ record old { next = Any; jobs = new.jobs }
+TakesFor Name word old new = new ≡ record old { task = new.task; input = input_of word old; inputs = new.inputs }
 
 abbrev pub Takes : (word : List ℕ) → (old new : Given) → Type 0
 Takes word old new = TakesFor old.next word old new
@@ -97,13 +143,14 @@ Takes word old new = TakesFor old.next word old new
 abbrev pub IsFirst : Given → Type 0
 IsFirst given = given ≡ record given {
   task = None;
+  input = Text;
   keeps_going = false;
-  input = Lines;
   sorts_keys = false;
   is_strict = false;
   is_distinct = false;
   is_legacy = false;
   indent = None;
+  jobs = None;
   output = None;
   next = Any;
 }
@@ -114,57 +161,72 @@ pub data AreGiven : List (List ℕ) → Given → Type 0 where
   one_more : {words : List (List ℕ)} {old : Given} (word : List ℕ) (new : Given) → AreGiven words old → Takes word old new
       → AreGiven (words ++ word ∷ []) new
 
--- ---- options
+-- ---- words that are not accepted
 
-abbrev pub IsForm : Task → Type 0
-IsForm task = (task ≡ Write Canonical) ⊎ (task ≡ Write Relaxed)
+-- the word names a mode, or, as the first, a command
+abbrev pub IsMode : Input → (word : List ℕ) → Type 0
+IsMode Text word = ((task : Task) × (word ≡ task_name task)) ⊎ (word ≡ codes "lines") ⊎ (word ≡ codes "decode")
+IsMode input word = (task : Task) × (task ≢ Encode) × (task ≢ EncodeInOrder) × (word ≡ task_name task)
 
--- BSON bytes are read or written
-abbrev pub IsBytes : Given → Task → Type 0
-IsBytes given task = (task ≡ Encode) ⊎ (given.input ≡ Documents)
+-- the value that is expected of the word, or of what is behind its option, is not there
+abbrev pub IsUnnumbered : (most : ℕ) → (option word : List ℕ) → Type 0
+IsUnnumbered most option word = (text : List ℕ) × IsNoCount most text × ((word ≡ text) ⊎ (word ≡ option ++ text))
 
--- one text is of one file, and the first that is refused ends it
-abbrev pub FitsText : Given → Type 0
-FitsText given = given.input ≡ Text → (given.keeps_going ≡ false) × (vec_len given.inputs ≤ 1)
+-- the word begins as an option
+abbrev pub IsDashed : (word : List ℕ) → Type 0
+IsDashed word = (slice_index word 0 == 45) ≡ true
 
--- the forms of one text alone are indented
-abbrev pub FitsIndent : Given → Task → Type 0
-FitsIndent given task = IsSome given.indent → IsForm task × (given.input ≡ Text)
+-- why the word is not accepted behind those that gave this
+abbrev pub IsRefused : Given → (word : List ℕ) → Misuse → Type 0
+IsRefused given word misuse.UnknownOption = IsDashed word × (is_option word ≡ false)
+IsRefused given word misuse.UnknownMode = (given.task ≡ None) × (IsMode given.input word → ⊥)
+IsRefused given word misuse.Former = (word ≡ codes "--doubles") ⊎ (word ≡ codes "--keep-order")
+IsRefused given word (misuse.Twice flag) = has flag given ≡ true
+IsRefused given word (misuse.NoValue flag.Indent) = IsUnnumbered 16 (codes "--indent=") word
+IsRefused given word (misuse.NoValue flag.Jobs) = IsUnnumbered 9999 (codes "--jobs=") word
+IsRefused given word other = ⊥
 
--- a check writes no keys, and a BSON document is shown with its own order
-abbrev pub FitsSorting : Given → Task → Type 0
-FitsSorting given task = given.sorts_keys ≡ true → (task ≢ Check) × ((given.input ≢ Documents) ⊎ IsForm task)
+-- the word asks for help: `help` is a file behind a mode
+abbrev pub IsHelp : Given → (word : List ℕ) → Type 0
+IsHelp given word = (word ≡ codes "--help") ⊎ (word ≡ codes "-h") ⊎ ((word ≡ codes "help") × (given.task ≡ None))
 
--- a BSON document has any double, and only its forms reject one
-abbrev pub FitsStrict : Given → Task → Type 0
-FitsStrict given task = given.is_strict ≡ true → (given.input ≢ Documents) ⊎ IsForm task
+-- what is answered to a word behind those that gave this
+abbrev pub IsTaken : Given → (word : List ℕ) → arguments.Taken → Type 0
+IsTaken given word taken.Word = Unit {0}
+IsTaken given word taken.Help = IsHelp given word
+IsTaken given word taken.Version = (word ≡ codes "--version") ⊎ (word ≡ codes "-v")
+IsTaken given word (taken.Wrong why) = IsRefused given word why
 
--- what texts are taken for stands where no bytes are
-abbrev pub FitsTaking : Given → Task → Type 0
-FitsTaking given task = (given.is_distinct ≡ true) ⊎ (given.is_legacy ≡ true) → ¬ (IsBytes given task)
+-- ---- modes and options
 
--- bytes are made of texts alone
-abbrev pub FitsBytes : Given → Task → Type 0
-FitsBytes given task = task ≡ Encode → given.input ≢ Documents
+-- the command has all options that are given
+pub record AllFit (given : Given) (task : Task) : Type 0 where
+  pub sort_keys : clashes flag.SortKeys given task ≡ false
+  pub strict : clashes flag.Strict given task ≡ false
+  pub legacy : clashes flag.Legacy given task ≡ false
+  pub no_double_keys : clashes flag.NoDoubleKeys given task ≡ false
+  pub indent : clashes flag.Indent given task ≡ false
+  pub keep_going : clashes flag.KeepGoing given task ≡ false
+  pub jobs : clashes flag.Jobs given task ≡ false
+  pub output : clashes flag.Output given task ≡ false
 
--- a check has no output
-abbrev pub FitsOutput : Given → Task → Type 0
-FitsOutput given task = task ≡ Check → given.output ≡ None
-
--- no option waits for its word
-abbrev pub IsEnded : Given → Type 0
-IsEnded given = (given.next ≢ Output) × (given.next ≢ Indent)
-
--- the options stand with the task and with one another
+-- one document is of one file, and the command has the options
 pub record Fits (given : Given) (task : Task) : Type 0 where
-  pub text : FitsText given
-  pub indent : FitsIndent given task
-  pub sorting : FitsSorting given task
-  pub strict : FitsStrict given task
-  pub taking : FitsTaking given task
-  pub bytes : FitsBytes given task
-  pub output : FitsOutput given task
-  pub ended : IsEnded given
+  pub files : given.input ≡ Text → vec_len given.inputs ≤ 1
+  pub options : AllFit given task
+
+-- why they do not fit
+abbrev pub IsMisfit : Given → Task → Misuse → Type 0
+IsMisfit given task misuse.ManyFiles = (given.input ≡ Text) × (1 < vec_len given.inputs)
+IsMisfit given task (misuse.Unfit flag verb) = (verb ≡ task) × (clashes flag given task ≡ true)
+IsMisfit given task other = ⊥
+
+-- the option whose value is missing
+abbrev pub awaited : Next → Option Flag
+awaited Output = Some flag.Output
+awaited Indent = Some flag.Indent
+awaited Jobs = Some flag.Jobs
+awaited next = None
 
 -- ---- what is asked for
 
@@ -183,6 +245,7 @@ or_standard (name ∷ names) = name ∷ names
 pub record IsGiven (given : Given) (order : Order) : Type 0 where
   pub verb : Task
   pub is_verb : given.task ≡ Some verb
+  pub ended : awaited given.next ≡ None
   pub fits : Fits given verb
   pub task : order.task ≡ task_of given verb
   pub options : order.options ≡ options_of given.is_strict
@@ -192,36 +255,55 @@ pub record IsGiven (given : Given) (order : Order) : Type 0 where
   pub output : string_bytes order.output ≡ option_map_or string_bytes given.output (codes "-")
   pub inputs : map string_bytes order.inputs.items ≡ or_standard (map string_bytes given.inputs.items)
 
--- the answer to what was given, where no help was asked for: a run, or nothing where no verb was given, or where the
--- options don't stand with it
+-- what is wrong with all words, where each was accepted
+abbrev pub IsWrongOf : Given → Misuse → Type 0
+IsWrongOf given (misuse.NoValue flag) = awaited given.next ≡ Some flag
+IsWrongOf given misuse.NoMode = given.task ≡ None
+IsWrongOf given why = (verb : Task) × (given.task ≡ Some verb) × IsMisfit given verb why
+
+-- the answer to what was given, where no help was asked for: a run, or what is wrong
 abbrev pub IsAnswer : Given → Asked → Type 0
 IsAnswer given (Run order) = IsGiven given order
-IsAnswer given Help = ⊥
-IsAnswer given Version = ⊥
-IsAnswer given Former = ⊥
-IsAnswer given Nothing = (verb : Task) → given.task ≡ Some verb → ¬ Fits given verb
+IsAnswer given (Wrong wrong) = IsWrongOf given wrong.misuse × (wrong.command ≡ command_of given.input given.task)
+IsAnswer given other = ⊥
 
--- what each answer says of the words: those that ask for help or for the version, or that were options, are among them,
--- and so is the name of the run's task, whose options stand together
+-- the word is among the words, and those before it give this
+pub record IsBehind (words : List (List ℕ)) (given : Given) (word : List ℕ) : Type 0 where
+  pub at : ℕ
+  pub within : at < length words
+  pub is : get_or words at word ≡ word
+  pub before : AreGiven (take at words) given
+
+-- what each answer says of the words: a run is what all of them give, and any other answer is that to the first word that
+-- asks for help, or is not accepted, or to all words
 abbrev pub IsAskedBy : (words : List (List ℕ)) → Asked → Type 0
 IsAskedBy words (Run order) =
     Contains words (task_name order.task) × ((given : Given) × AreGiven words given × IsGiven given order)
-IsAskedBy words Help = Contains words (codes "--help") ⊎ Contains words (codes "-h")
+IsAskedBy words (Help command) = (given : Given) × (word : List ℕ) × IsBehind words given word × IsHelp given word
+    × (command ≡ command_of given.input given.task)
 IsAskedBy words Version = Contains words (codes "--version") ⊎ Contains words (codes "-v")
-IsAskedBy words Former = Contains words (codes "--doubles") ⊎ Contains words (codes "--keep-order")
-IsAskedBy words Nothing = Unit {0}
+IsAskedBy words (Wrong wrong) = (given : Given) × (wrong.command ≡ command_of given.input given.task)
+    × ((AreGiven words given × IsWrongOf given wrong.misuse)
+    ⊎ (IsBehind words given (string_bytes wrong.word) × IsRefused given (string_bytes wrong.word) wrong.misuse))
 
 -- ---- for private clauses
 
--- what is answered to a word says of it
-abbrev pub IsTaken : (word : List ℕ) → arguments.Taken → Type 0
-IsTaken word taken.Help = (word ≡ codes "--help") ⊎ (word ≡ codes "-h")
-IsTaken word taken.Version = (word ≡ codes "--version") ⊎ (word ≡ codes "-v")
-IsTaken word taken.Former = (word ≡ codes "--doubles") ⊎ (word ≡ codes "--keep-order")
-IsTaken word other = Unit {0}
+abbrev pub IsAskedWrong : Misuse → Command → Asked → Type 0
+IsAskedWrong why command (Wrong wrong) = (wrong.misuse ≡ why) × (wrong.command ≡ command)
+IsAskedWrong why command other = ⊥
 
-abbrev pub IsNoHelp : arguments.Taken → Type 0
-IsNoHelp taken.Help = ⊥
-IsNoHelp taken.Version = ⊥
-IsNoHelp taken.Former = ⊥
-IsNoHelp other = Unit {0}
+-- the number of an option is in the text, or the option is given twice
+abbrev pub IsNumbered : Flag → (most : ℕ) → Given → (text : List ℕ) → arguments.Taken → Type 0
+IsNumbered flag most given text taken.Word = Unit {0}
+IsNumbered flag most given text (taken.Wrong why) =
+    ((why ≡ misuse.Twice flag) × (has flag given ≡ true)) ⊎ ((why ≡ misuse.NoValue flag) × IsNoCount most text)
+IsNumbered flag most given text other = ⊥
+
+abbrev pub IsStored : Given → arguments.Taken → Type 0
+IsStored given taken.Word = Unit {0}
+IsStored given (taken.Wrong (misuse.Twice flag.Output)) = has flag.Output given ≡ true
+IsStored given other = ⊥
+
+-- the value of an option is in its word, or the word is not an option
+abbrev pub IsJoined : Given → (word : List ℕ) → arguments.Taken → Type 0
+IsJoined given word it = (it ≡ taken.Wrong misuse.UnknownOption) ⊎ IsTaken given word it

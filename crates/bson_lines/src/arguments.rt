@@ -1,29 +1,36 @@
 //! What the words after the program's name give, one after the other.
-ghost use Rattle.std.specs.Prelude.{◌≡◌, ◌⊎◌, ◌<◌, ◌≤◌, ℕ, List, None, OnOk, IfOk, IfSome, map, string_bytes};
-ghost use Rattle.std.specs.Prelude.{◌==◌, ◌||◌, slice_index, if◌then◌else◌, true, vec_len};
-ghost use Rattle.std.specs.Fmt.{decimal};
-ghost use Rattle.bson_lines.specs.Order.{first_taken, in_order, options_of, or_standard, taking_of};
-ghost use Rattle.bson_lines.specs.Order.{HasOutput, IsAnswer, IsFirst, IsNoHelp, IsTaken, Sets, Takes};
+ghost use Rattle.std.specs.Prelude.{◌≡◌, ◌⊎◌, None, OnOk, IfOk, IfSome, string_bytes, if◌then◌else◌, true, vec_len};
+ghost use Rattle.bson_lines.specs.Flags.{has};
+ghost use Rattle.bson_lines.specs.Order.{command_of, input_of, is_text};
+ghost use Rattle.bson_lines.specs.Order.{IsAnswer, IsAskedWrong, IsFirst, IsJoined, IsNumbered, IsStored, IsTaken, Sets, Takes};
 ghost use Rattle.bson_run.specs.Words.{task_name};
 
-use crate::fits::fits;
-use crate::order::{Asked, Input, Order, STANDARD};
-use bson::extjson::{Doubles, Options};
-use bson_run::order::{OnRefusal, Taking, Task, Work};
+use crate::choices::{awaited, first_taken, in_order, options_of, taking_of};
+use crate::fits::misfit;
+use crate::order::{Asked, Command, Flag, Input, Misuse, Order, STANDARD, Wrong};
+use crate::values::{inputs_of, is_dashed, number, output_in};
+use bson_run::order::{OnRefusal, Task};
 use std::alloc::{AllocError, Global};
+
+/// The greatest number of spaces.
+const MOST_SPACES: usize = 16;
+
+/// The greatest number of jobs.
+const MOST_JOBS: usize = 9999;
 
 /// What the words so far gave.
 #[derive(Drop)]
 pub struct Given {
     alloc: Global,
-    task: Option<Task>,
-    pub keeps_going: bool,
+    pub task: Option<Task>,
     pub input: Input,
+    pub keeps_going: bool,
     pub sorts_keys: bool,
     pub is_strict: bool,
     pub is_distinct: bool,
     pub is_legacy: bool,
     pub indent: Option<usize>,
+    pub jobs: Option<usize>,
     pub output: Option<String>,
     pub inputs: Vec<String>,
     pub next: Next,
@@ -37,25 +44,25 @@ pub enum Next {
     Output,
     /// The number of `--indent`.
     Indent,
-    /// No option.
+    /// The number of `--jobs`.
+    Jobs,
+    /// Not an option.
     Name,
 }
 
 /// What a word is.
 #[derive(Clone, Copy, PartialEq, Eq)]
 pub enum Taken {
-    /// One that was taken.
+    /// One that is accepted.
     Word,
     Help,
     Version,
-    /// An option of an earlier version, which is the default now.
-    Former,
-    /// One that can't stand here.
-    Unknown,
+    /// One that is not accepted here.
+    Wrong(Misuse),
 }
 
 impl Given {
-    /// No word yet.
+    /// Returns what no word gives.
     pub fn new(alloc: Global) -> Given
         ensures first { IsFirst result }
         ensures inputs { vec_len result.inputs ≡ 0 }
@@ -63,24 +70,54 @@ impl Given {
         Given {
             alloc,
             task: None,
+            input: Input::Text,
             keeps_going: false,
-            input: Input::Lines,
             sorts_keys: false,
             is_strict: false,
             is_distinct: false,
             is_legacy: false,
             indent: None,
+            jobs: None,
             output: None,
             inputs: Vec::new(alloc),
             next: Next::Any,
         }
     }
 
-    /// Takes the next word.
+    /// Returns the command that the words so far name.
+    pub fn command(&self) -> Command
+        ensures { result ≡ command_of self.now.input self.now.task }
+    {
+        match self.input {
+            Input::Text if self.task.is_none() => Command::All,
+            Input::Text => Command::Text,
+            Input::Documents => Command::Decode,
+            Input::Lines if self.task == Some(Task::Encode) => Command::Encode,
+            Input::Lines => Command::Lines,
+        }
+    }
+
+    /// Returns whether the option is given.
+    pub fn has(&self, flag: Flag) -> bool
+        ensures { result ≡ has flag self.now }
+    {
+        match flag {
+            Flag::SortKeys => self.sorts_keys,
+            Flag::Strict => self.is_strict,
+            Flag::Legacy => self.is_legacy,
+            Flag::NoDoubleKeys => self.is_distinct,
+            Flag::Indent => self.indent.is_some(),
+            Flag::KeepGoing => self.keeps_going,
+            Flag::Jobs => self.jobs.is_some(),
+            Flag::Output => self.output.is_some(),
+        }
+    }
+
+    /// Accepts the next word, or says why not.
     pub fn take(&mut self, word: &str) -> Result<Taken, AllocError>
         ensures given { Takes word.now self.old self.new }
         ensures verb { IfSome self.new.task (λ verb. (self.old.task ≡ Some verb) ⊎ (word.now ≡ task_name verb)) }
-        ensures help { IfOk result (λ taken. IsTaken word.now taken) }
+        ensures taken { IfOk result (IsTaken self.old word.now) }
     {
         match self.next {
             Next::Any => self.take_any(word),
@@ -92,15 +129,19 @@ impl Given {
                 self.next = Next::Any;
                 Ok(self.take_indent(word))
             }
+            Next::Jobs => {
+                self.next = Next::Any;
+                Ok(self.take_jobs(word))
+            }
             Next::Name => self.take_name(word),
         }
     }
 
-    // Takes a word that no option waits for.
+    // Accepts a word that no option waits for.
     fn take_any(&mut self, word: &str) -> Result<Taken, AllocError>
         ensures given { Sets word.now self.old self.new }
         ensures verb { IfSome self.new.task (λ verb. (self.old.task ≡ Some verb) ⊎ (word.now ≡ task_name verb)) }
-        ensures help { IfOk result (λ taken. IsTaken word.now taken) }
+        ensures taken { IfOk result (IsTaken self.old word.now) }
     {
         match word {
             "--help" | "-h" => Ok(Taken::Help),
@@ -108,56 +149,87 @@ impl Given {
             "--" => self.expect(Next::Name),
             "-o" | "--output" => self.expect(Next::Output),
             "--indent" => self.expect(Next::Indent),
-            "--keep-going" => Ok(set(&mut self.keeps_going)),
-            "--whole" => self.take_input(Input::Text),
-            "--bson" => self.take_input(Input::Documents),
-            "--sort-keys" => Ok(set(&mut self.sorts_keys)),
-            "--strict" => Ok(set(&mut self.is_strict)),
-            "--no-double-keys" => Ok(set(&mut self.is_distinct)),
-            "--legacy" => Ok(set(&mut self.is_legacy)),
-            "--doubles" | "--keep-order" => Ok(Taken::Former),
-            STANDARD => self.take_name(word),
-            _ => self.take_joined(word),
+            "--jobs" => self.expect(Next::Jobs),
+            "--keep-going" => Ok(set(&mut self.keeps_going, Flag::KeepGoing)),
+            "--sort-keys" => Ok(set(&mut self.sorts_keys, Flag::SortKeys)),
+            "--strict" => Ok(set(&mut self.is_strict, Flag::Strict)),
+            "--no-double-keys" => Ok(set(&mut self.is_distinct, Flag::NoDoubleKeys)),
+            "--legacy" => Ok(set(&mut self.is_legacy, Flag::Legacy)),
+            "--doubles" | "--keep-order" => Ok(Taken::Wrong(Misuse::Former)),
+            "help" => self.take_help(word),
+            STANDARD | "lines" | "decode" | "encode" => self.take_name(word),
+            _ => {
+                if is_dashed(word) {
+                    self.take_joined(word)
+                } else {
+                    self.take_name(word)
+                }
+            }
         }
     }
 
-    // Takes a word that has its option in it, or a name.
+    // Accepts `help`, which is a file after a mode.
+    fn take_help(&mut self, word: &str) -> Result<Taken, AllocError>
+        ensures given { self.new ≡ record self.old { inputs = self.new.inputs } }
+        ensures taken { IfOk result (λ taken. (taken ≡ Taken.Word) ⊎ ((taken ≡ Taken.Help) × (self.old.task ≡ None))) }
+    {
+        if self.task.is_none() {
+            return Ok(Taken::Help);
+        }
+        self.inputs.push(String::from_str(self.alloc, word)?)?;
+        Ok(Taken::Word)
+    }
+
+    // Accepts an option whose value is in the same word.
     fn take_joined(&mut self, word: &str) -> Result<Taken, AllocError>
-        ensures given { self.new ≡ record self.old { task = self.new.task; indent = self.new.indent; output = self.new.output; inputs = self.new.inputs } }
-        ensures verb { IfSome self.new.task (λ verb. (self.old.task ≡ Some verb) ⊎ (word.now ≡ task_name verb)) }
-        ensures no_help { IfOk result IsNoHelp }
+        ensures given { self.new ≡ record self.old { indent = self.new.indent; jobs = self.new.jobs; output = self.new.output } }
+        ensures taken { IfOk result (IsJoined self.old word.now) }
     {
         if let Some(count) = word.strip_prefix("--indent=") {
             return Ok(self.take_indent(count));
         }
+        if let Some(count) = word.strip_prefix("--jobs=") {
+            return Ok(self.take_jobs(count));
+        }
         match output_in(word) {
             Some(name) => self.take_output(name),
-            None if word.starts_with("-") => Ok(Taken::Unknown),
-            None => self.take_name(word),
+            None => Ok(Taken::Wrong(Misuse::UnknownOption)),
         }
     }
 
-    // A number of spaces, from 1 to 16.
+    // Accepts a number of spaces.
     fn take_indent(&mut self, word: &str) -> Taken
         ensures given { self.new ≡ record self.old { indent = self.new.indent } }
-        ensures no_help { IsNoHelp result }
+        ensures taken { IsNumbered Flag.Indent 16 self.old word.now result }
     {
-        let is_first = self.indent.is_none();
-        self.indent = spaces(word);
-        once(is_first && self.indent.is_some())
+        if self.indent.is_some() {
+            return Taken::Wrong(Misuse::Twice(Flag::Indent));
+        }
+        self.indent = number(word, MOST_SPACES);
+        if self.indent.is_some() {
+            Taken::Word
+        } else {
+            Taken::Wrong(Misuse::NoValue(Flag::Indent))
+        }
     }
 
-    // The input is this, and nothing else was said of it.
-    fn take_input(&mut self, input: Input) -> Result<Taken, AllocError>
-        ensures given { self.new ≡ record self.old { input = input } }
-        ensures no_help { IfOk result IsNoHelp }
+    // Accepts a number of jobs.
+    fn take_jobs(&mut self, word: &str) -> Taken
+        ensures given { self.new ≡ record self.old { jobs = self.new.jobs } }
+        ensures taken { IsNumbered Flag.Jobs 9999 self.old word.now result }
     {
-        let is_first = self.input == Input::Lines;
-        self.input = input;
-        Ok(once(is_first))
+        if self.jobs.is_some() {
+            return Taken::Wrong(Misuse::Twice(Flag::Jobs));
+        }
+        self.jobs = number(word, MOST_JOBS);
+        if self.jobs.is_some() {
+            Taken::Word
+        } else {
+            Taken::Wrong(Misuse::NoValue(Flag::Jobs))
+        }
     }
 
-    // The next word is taken for this.
+    // Waits for the value of an option.
     fn expect(&mut self, next: Next) -> Result<Taken, AllocError>
         ensures given { self.new ≡ record self.old { next = next } }
         ensures word { result ≡ Ok Taken.Word }
@@ -170,42 +242,75 @@ impl Given {
         ensures given { self.new ≡ record self.old { output = self.new.output } }
         ensures output { OnOk result (IfSome self.new.output
             (λ file. (self.old.output ≡ Some file) ⊎ (string_bytes file ≡ name.now))) }
-        ensures no_help { IfOk result IsNoHelp }
+        ensures taken { IfOk result (IsStored self.old) }
     {
         if self.output.is_some() {
-            return Ok(Taken::Unknown);
+            return Ok(Taken::Wrong(Misuse::Twice(Flag::Output)));
         }
         self.output = Some(String::from_str(self.alloc, name)?);
         Ok(Taken::Word)
     }
 
-    // The first is a mode, and the others are files.
+    // Accepts a command or a mode, and behind them files.
     fn take_name(&mut self, word: &str) -> Result<Taken, AllocError>
-        ensures given { self.new ≡ record self.old { task = self.new.task; inputs = self.new.inputs } }
+        ensures given { self.new ≡ record self.old { task = self.new.task; input = input_of word.now self.old; inputs = self.new.inputs } }
         ensures verb { IfSome self.new.task (λ verb. (self.old.task ≡ Some verb) ⊎ (word.now ≡ task_name verb)) }
-        ensures no_help { IfOk result IsNoHelp }
+        ensures taken { IfOk result (IsTaken self.old word.now) }
     {
         if self.task.is_some() {
             self.inputs.push(String::from_str(self.alloc, word)?)?;
             return Ok(Taken::Word);
         }
-        self.task = Task::from_name(word);
-        Ok(if self.task.is_some() {
-            Taken::Word
-        } else {
-            Taken::Unknown
-        })
+        match word {
+            "lines" => Ok(self.take_command(Input::Lines, None)),
+            "decode" => Ok(self.take_command(Input::Documents, None)),
+            "encode" => Ok(self.take_command(Input::Lines, Some(Task::Encode))),
+            _ => Ok(self.take_mode(word)),
+        }
     }
 
-    /// What all words ask for.
-    pub fn answer(self) -> Result<Asked, AllocError>
-        ensures { IfOk result (λ asked. IsAnswer self asked) }
+    // Accepts the word of a command, which is the first.
+    fn take_command(&mut self, input: Input, task: Option<Task>) -> Taken
+        ensures given { self.new ≡ record self.old { input = input; task = task } }
+        ensures taken { result ≡ (if is_text self.old.input then Taken.Word else Taken.Wrong Misuse.UnknownMode) }
     {
+        let is_first = self.input == Input::Text;
+        self.input = input;
+        self.task = task;
+        if is_first {
+            Taken::Word
+        } else {
+            Taken::Wrong(Misuse::UnknownMode)
+        }
+    }
+
+    // Accepts a mode.
+    fn take_mode(&mut self, word: &str) -> Taken
+        ensures given { self.new ≡ record self.old { task = self.new.task } }
+        ensures verb { IfSome self.new.task (λ verb. word.now ≡ task_name verb) }
+        ensures taken { (result ≡ Taken.Word) ⊎ ((result ≡ Taken.Wrong Misuse.UnknownMode) × ((task : Task) → word.now ≡ task_name task → ⊥)) }
+    {
+        self.task = Task::from_name(word);
+        if self.task.is_some() {
+            Taken::Word
+        } else {
+            Taken::Wrong(Misuse::UnknownMode)
+        }
+    }
+
+    /// Returns what all words ask for.
+    pub fn answer(self) -> Result<Asked, AllocError>
+        ensures { IfOk result (IsAnswer self) }
+    {
+        let command = self.command();
+        if let Some(flag) = awaited(self.next) {
+            return Ok(wrong(self.alloc, Misuse::NoValue(flag), command));
+        }
         let Some(task) = self.task else {
-            return Ok(Asked::Nothing);
+            return Ok(wrong(self.alloc, Misuse::NoMode, command));
         };
-        if !fits(&self, task) {
-            return Ok(Asked::Nothing);
+        if let Some(misuse) = misfit(&self, task) {
+            return Ok(wrong(self.alloc, misuse, command));
         }
         let Given {
             alloc,
@@ -248,114 +353,25 @@ impl Given {
     }
 }
 
-// Returns which doubles have a text: all, or those of the specification.
-fn options_of(is_strict: bool) -> Options
-    ensures { result ≡ options_of is_strict }
+// Returns what is wrong with all words.
+fn wrong(alloc: Global, misuse: Misuse, command: Command) -> Asked
+    ensures { IsAskedWrong misuse command result }
 {
-    Options {
-        doubles: if is_strict {
-            Doubles::Special
-        } else {
-            Doubles::Finite
-        },
-    }
+    Asked::Wrong(Wrong {
+        misuse,
+        command,
+        word: String::new(alloc),
+    })
 }
 
-// Returns the task that keeps the keys of each document in their order.
-fn in_order(task: Task) -> Task
-    ensures { result ≡ in_order task }
+// Sets what an option sets, unless it is given twice.
+fn set(is_given: &mut bool, flag: Flag) -> Taken
+    ensures word { result ≡ (if is_given.old then Taken.Wrong (Misuse.Twice flag) else Taken.Word) }
+    ensures set { is_given.new ≡ true }
 {
-    match task {
-        Task::Write(mode) => Task::WriteInOrder(mode),
-        Task::Encode => Task::EncodeInOrder,
-        other => other,
+    if *is_given {
+        return Taken::Wrong(Misuse::Twice(flag));
     }
-}
-
-// What is looked for in a text before it is read.
-fn taking_of(is_distinct: bool, is_legacy: bool) -> Option<Taking>
-    ensures { result ≡ taking_of is_distinct is_legacy }
-{
-    match (is_distinct, is_legacy) {
-        (true, true) => Some(Taking::DistinctLegacy),
-        (true, false) => Some(Taking::Distinct),
-        (false, true) => Some(Taking::Legacy),
-        (false, false) => None,
-    }
-}
-
-// The task, of texts that are taken so.
-fn first_taken(taking: Taking, task: Task) -> Task
-    ensures { result ≡ first_taken taking task }
-{
-    match task {
-        Task::Write(mode) => Task::Taken(taking, Work::Write(mode)),
-        Task::WriteInOrder(mode) => Task::Taken(taking, Work::WriteInOrder(mode)),
-        Task::Check => Task::Taken(taking, Work::Check),
-        other => other,
-    }
-}
-
-// Sets what an option sets, which stands once.
-fn set(flag: &mut bool) -> Taken
-    ensures word { result ≡ (if flag.old then Taken.Unknown else Taken.Word) }
-    ensures set { flag.new ≡ true }
-{
-    let is_first = !*flag;
-    *flag = true;
-    once(is_first)
-}
-
-// An option stands once.
-fn once(is_first: bool) -> Taken
-    ensures { result ≡ (if is_first then Taken.Word else Taken.Unknown) }
-{
-    if is_first {
-        Taken::Word
-    } else {
-        Taken::Unknown
-    }
-}
-
-// The files that are read: standard input where none is named.
-fn inputs_of(alloc: Global, mut names: Vec<String>) -> Result<Vec<String>, AllocError>
-    ensures { IfOk result
-        (λ inputs. map string_bytes inputs.items ≡ or_standard (map string_bytes names.items)) }
-{
-    if names.is_empty() {
-        names.push(String::from_str(alloc, STANDARD)?)?;
-    }
-    Ok(names)
-}
-
-// A number from 1 to 16, with no sign and no zero before it.
-fn spaces(word: &str) -> Option<usize>
-    ensures some { IfSome result (λ count. (word.now ≡ decimal count) × (0 < count) × (count ≤ 16)) }
-    ensures none { result ≡ None → (count : ℕ) → 0 < count → count ≤ 16 → word.now ≡ decimal count → ⊥ }
-{
-    if begins_otherwise(word) {
-        return None;
-    }
-    match word.parse::<usize>() {
-        Ok(count) if count <= 16 => Some(count),
-        _ => None,
-    }
-}
-
-// Whether a sign or a zero stands before a number.
-fn begins_otherwise(word: &str) -> bool
-    ensures { result ≡ ((slice_index word.now 0 == 43) || (slice_index word.now 0 == 48)) }
-{
-    word.starts_with('+') || word.starts_with('0')
-}
-
-// The file that stands in one word with its option.
-fn output_in(word: &str) -> Option<&str>
-    ensures some { IfSome result (λ file. HasOutput file.now word.now) }
-    ensures none { result ≡ None → (file : List ℕ) → HasOutput file word.now → ⊥ }
-{
-    if let Some(name) = word.strip_prefix("--output=") {
-        return Some(name);
-    }
-    word.strip_prefix("-o")
+    *is_given = true;
+    Taken::Word
 }

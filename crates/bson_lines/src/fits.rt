@@ -1,95 +1,97 @@
-//! Which options stand with a task, and with one another.
-ghost use Rattle.std.specs.Prelude.{◌≡◌, ◌⊎◌, ◌↔◌, IsTrue, MatchBool};
-ghost use Rattle.bson_lines.specs.Order.{Fits, FitsBytes, FitsIndent, FitsOutput, FitsSorting, FitsStrict, FitsTaking};
-ghost use Rattle.bson_lines.specs.Order.{FitsText, IsBytes, IsEnded, IsForm};
+//! Which options each command has, and whether the given ones are among them.
+ghost use Rattle.std.specs.Prelude.{◌≡◌, IfSome, None, true};
+ghost use Rattle.bson_lines.specs.Flags as flags;
+ghost use Rattle.bson_lines.specs.Order.{AllFit, Fits, IsMisfit};
 
-use crate::arguments::{Given, Next};
-use crate::order::Input;
+use crate::arguments::Given;
+use crate::order::{Flag, Input, Misuse};
 use bson_convert::mode::Mode;
 use bson_run::order::Task;
 
-/// Whether the options stand with the task and with one another.
-pub fn fits(given: &Given, task: Task) -> bool
-    ensures { MatchBool result (Fits given.now task) (¬ Fits given.now task) }
+/// Returns what is wrong with a mode and the given options, or `None` if they fit one another.
+pub fn misfit(given: &Given, task: Task) -> Option<Misuse>
+    ensures some { IfSome result (IsMisfit given.now task) }
+    ensures none { result ≡ None → Fits given.now task }
 {
-    if !fits_text(given) || !fits_indent(given, task) {
-        return false;
+    if given.input == Input::Text && given.inputs.len() > 1 {
+        return Some(Misuse::ManyFiles);
     }
-    if !fits_sorting(given, task) || !fits_strict(given, task) {
-        return false;
+    match unfit(given, task) {
+        Some(flag) => Some(Misuse::Unfit(flag, task)),
+        None => None,
     }
-    if !fits_taking(given, task) || !fits_bytes(given, task) {
-        return false;
+}
+
+// Returns the first given option that the command does not have.
+fn unfit(given: &Given, task: Task) -> Option<Flag>
+    ensures some { IfSome result (λ flag. flags.clashes flag given.now task ≡ true) }
+    ensures none { result ≡ None → AllFit given.now task }
+{
+    if clashes(Flag::SortKeys, given, task) {
+        return Some(Flag::SortKeys);
     }
-    fits_output(given, task) && is_ended(given)
+    if clashes(Flag::Strict, given, task) {
+        return Some(Flag::Strict);
+    }
+    if clashes(Flag::Legacy, given, task) {
+        return Some(Flag::Legacy);
+    }
+    if clashes(Flag::NoDoubleKeys, given, task) {
+        return Some(Flag::NoDoubleKeys);
+    }
+    if clashes(Flag::Indent, given, task) {
+        return Some(Flag::Indent);
+    }
+    if clashes(Flag::KeepGoing, given, task) {
+        return Some(Flag::KeepGoing);
+    }
+    if clashes(Flag::Jobs, given, task) {
+        return Some(Flag::Jobs);
+    }
+    if clashes(Flag::Output, given, task) {
+        return Some(Flag::Output);
+    }
+    None
 }
 
-// One text is of one file, and the first that is refused ends it.
-fn fits_text(given: &Given) -> bool
-    ensures { MatchBool result (FitsText given.now) (¬ FitsText given.now) }
+// Returns whether the option is given, and the command does not have it.
+fn clashes(flag: Flag, given: &Given, task: Task) -> bool
+    ensures { result ≡ flags.clashes flag given.now task }
 {
-    given.input != Input::Text || (!given.keeps_going && given.inputs.len() <= 1)
+    if accepts(flag, given.input, task) {
+        false
+    } else {
+        given.has(flag)
+    }
 }
 
-// The forms of one text alone are indented.
-fn fits_indent(given: &Given, task: Task) -> bool
-    ensures { MatchBool result (FitsIndent given.now task) (¬ FitsIndent given.now task) }
+// Returns whether the command has the option.
+fn accepts(flag: Flag, input: Input, task: Task) -> bool
+    ensures { result ≡ flags.accepts flag input task }
 {
-    given.indent.is_none() || (is_form(task) && given.input == Input::Text)
+    match flag {
+        Flag::SortKeys if input == Input::Documents => is_form(task),
+        Flag::SortKeys | Flag::Output => task != Task::Check,
+        Flag::Strict => input != Input::Documents || is_form(task),
+        Flag::Legacy | Flag::NoDoubleKeys => reads_texts(input, task),
+        Flag::Indent => input == Input::Text && is_form(task),
+        Flag::KeepGoing | Flag::Jobs => input != Input::Text,
+    }
 }
 
-// A check writes no keys, and `show` writes those of a BSON document in their own order.
-fn fits_sorting(given: &Given, task: Task) -> bool
-    ensures { MatchBool result (FitsSorting given.now task) (¬ FitsSorting given.now task) }
+// Returns whether texts are read, and no bytes are written of them.
+fn reads_texts(input: Input, task: Task) -> bool
+    ensures { result ≡ flags.reads_texts input task }
 {
-    !given.sorts_keys || (task != Task::Check && (given.input != Input::Documents || is_form(task)))
+    input != Input::Documents && task != Task::Encode
 }
 
-// A BSON document has any double, and only its forms reject one.
-fn fits_strict(given: &Given, task: Task) -> bool
-    ensures { MatchBool result (FitsStrict given.now task) (¬ FitsStrict given.now task) }
-{
-    !given.is_strict || given.input != Input::Documents || is_form(task)
-}
-
-// What texts are taken for stands where no bytes are.
-fn fits_taking(given: &Given, task: Task) -> bool
-    ensures { MatchBool result (FitsTaking given.now task) (¬ FitsTaking given.now task) }
-{
-    (!given.is_distinct && !given.is_legacy) || !is_bytes(given, task)
-}
-
-// Bytes are made of texts alone.
-fn fits_bytes(given: &Given, task: Task) -> bool
-    ensures { MatchBool result (FitsBytes given.now task) (¬ FitsBytes given.now task) }
-{
-    task != Task::Encode || given.input != Input::Documents
-}
-
-// A check has no output.
-fn fits_output(given: &Given, task: Task) -> bool
-    ensures { MatchBool result (FitsOutput given.now task) (¬ FitsOutput given.now task) }
-{
-    task != Task::Check || given.output.is_none()
-}
-
-// No option waits for its word.
-fn is_ended(given: &Given) -> bool
-    ensures { MatchBool result (IsEnded given.now) (¬ IsEnded given.now) }
-{
-    given.next != Next::Output && given.next != Next::Indent
-}
-
-// Whether a form of Extended JSON is written.
+// Returns whether a form of Extended JSON is written.
 fn is_form(task: Task) -> bool
-    ensures { IsTrue result ↔ IsForm task }
+    ensures { result ≡ flags.is_form task }
 {
-    task == Task::Write(Mode::Canonical) || task == Task::Write(Mode::Relaxed)
-}
-
-// Whether BSON bytes are read or written.
-fn is_bytes(given: &Given, task: Task) -> bool
-    ensures { IsTrue result ↔ IsBytes given.now task }
-{
-    task == Task::Encode || given.input == Input::Documents
+    match task {
+        Task::Write(Mode::Canonical) | Task::Write(Mode::Relaxed) => true,
+        _ => false,
+    }
 }

@@ -1,28 +1,32 @@
-//! The program `bson_lines MODE [FILE ..]`: reads documents, one a line, and writes the output of
-//! each on a line of its own, in constant memory.
+//! The program that `./bson` runs: it converts one document, the lines of files, or dumps, and writes
+//! dumps, all of them with the words that its user gave.
 //!
-//! The library `bson_run` goes the whole way; here stand the arguments (`order`, `arguments`,
-//! `fits`), the files (`run`, `streams`, `output`; `whole` for one text, `dump` for BSON documents),
-//! the line of progress (`progress`), and the lines on standard error (`messages`, `words`) and the
-//! statuses.
+//! The library `bson_run` converts. This crate has the arguments (`order`, `arguments`, `values`,
+//! `choices`, `fits`), the files (`run`, `streams`, `output`; `whole` for one text, `dump` for BSON
+//! documents), the line of progress (`progress`), the lines on standard error (`messages`, `misuse`),
+//! the help (`words`) and the statuses.
 #![tactic(auto)]
 
 mod arguments;
+mod choices;
 mod dump;
 mod fits;
 mod messages;
+mod misuse;
 mod order;
 mod output;
 mod progress;
 mod run;
 mod streams;
+mod values;
 mod whole;
 mod words;
 
 use crate::messages::{line_of, summary};
-use crate::order::{Asked, Order, STANDARD, parse_arguments};
+use crate::misuse::misuse_line;
+use crate::order::{Asked, Command, Misuse, Order, STANDARD, Wrong, parse_arguments};
 use crate::run::{Stop, run};
-use crate::words::{FORMER, HELP, OUT_OF_MEMORY, USAGE, VERSION};
+use crate::words::{OUT_OF_MEMORY, VERSION, help_of, usage_of};
 use bson_convert::fault::Fault;
 use bson_convert::program::{exit_with, words_given};
 use std::alloc::AllocError;
@@ -38,22 +42,36 @@ const NO_READER: u8 = 141;
 fn main(rt: HostRuntime) -> ExitCode {
     match read_order(&rt) {
         Ok(Asked::Run(order)) => run_order(&rt, &order),
-        Ok(Asked::Help) => print_text(&rt, HELP),
+        Ok(Asked::Help(command)) => print_text(&rt, help_of(command)),
         Ok(Asked::Version) => print_text(&rt, VERSION),
-        Ok(Asked::Former) => exit_with(&rt, FORMER, 2),
-        Ok(Asked::Nothing) => exit_with(&rt, USAGE, 2),
+        Ok(Asked::Wrong(wrong)) => reject(&rt, &wrong),
         Err(_) => exit_with(&rt, OUT_OF_MEMORY, 1),
     }
 }
 
-// What the arguments ask for. One that is no UTF-8 asks for nothing.
+// Returns what the arguments ask for.
 fn read_order(rt: &HostRuntime) -> Result<Asked, Fault> {
     let Some(words) = words_given(rt)? else {
-        return Ok(Asked::Nothing);
+        return Ok(Asked::Wrong(Wrong {
+            misuse: Misuse::NotUtf8,
+            command: Command::All,
+            word: String::new(rt.alloc()),
+        }));
     };
     match parse_arguments(rt.alloc(), words) {
         Ok(asked) => Ok(asked),
         Err(_) => Err(Fault::OutOfMemory),
+    }
+}
+
+// Names what is wrong with the arguments, and then shows the usage.
+fn reject(rt: &HostRuntime, wrong: &Wrong) -> ExitCode {
+    match misuse_line(rt.alloc(), wrong) {
+        Ok(line) => {
+            let _ = rt.eprintln(&line);
+            exit_with(rt, usage_of(wrong.command), 2)
+        }
+        Err(_) => exit_with(rt, OUT_OF_MEMORY, 1),
     }
 }
 

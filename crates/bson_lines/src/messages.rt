@@ -139,8 +139,8 @@ fn show_name(alloc: Global, name: &str, stream: &str) -> Result<String, AllocErr
     escape_name(alloc, name)
 }
 
-// A name on one line, that steers no terminal.
-fn escape_name(alloc: Global, name: &str) -> Result<String, AllocError>
+/// Returns a name on one line, that steers no terminal.
+pub fn escape_name(alloc: Global, name: &str) -> Result<String, AllocError>
     ensures { IfOk result (λ escaped. string_bytes escaped ≡ escaped_name name.now) }
 {
     let mut escaped = String::new(alloc);

@@ -14,26 +14,94 @@ pub const STANDARD: &str = "-";
 /// What the arguments ask for.
 #[derive(Drop)]
 pub enum Asked {
-    /// A run over lines.
+    /// A run over files.
     Run(Order),
-    /// The words of `--help`.
-    Help,
+    /// The help of a command.
+    Help(Command),
     /// The line of `--version`.
     Version,
-    /// An option of an earlier version, which is the default now.
+    /// Something that the program does not do.
+    Wrong(Wrong),
+}
+
+/// The commands, each with its usage and its help.
+#[derive(Clone, Copy, PartialEq, Eq)]
+pub enum Command {
+    /// Every command: no word has named one.
+    All,
+    /// One document, in a mode.
+    Text,
+    /// `lines`.
+    Lines,
+    /// `decode`.
+    Decode,
+    /// `encode`.
+    Encode,
+}
+
+/// What is wrong with the arguments.
+#[derive(Drop)]
+pub struct Wrong {
+    /// What is wrong.
+    pub misuse: Misuse,
+    /// The command that the words before name.
+    pub command: Command,
+    /// The word that is wrong, if it is one.
+    pub word: String,
+}
+
+/// What can be wrong with arguments.
+#[derive(Clone, Copy, PartialEq, Eq)]
+pub enum Misuse {
+    /// A word is an option that no command has.
+    UnknownOption,
+    /// A word is expected to be a command or a mode, and is not.
+    UnknownMode,
+    /// A word is an option of an earlier version, which is the default now.
     Former,
-    /// Nothing that the program does.
-    Nothing,
+    /// An option is given twice.
+    Twice(Flag),
+    /// An option has no value, or not one that it can have.
+    NoValue(Flag),
+    /// The command does not have an option.
+    Unfit(Flag, Task),
+    /// No mode is given.
+    NoMode,
+    /// A single document is read from several files.
+    ManyFiles,
+    /// A word is not UTF-8.
+    NotUtf8,
+}
+
+/// The options, each once at most.
+#[derive(Clone, Copy, PartialEq, Eq)]
+pub enum Flag {
+    /// `--sort-keys`.
+    SortKeys,
+    /// `--strict`.
+    Strict,
+    /// `--legacy`.
+    Legacy,
+    /// `--no-double-keys`.
+    NoDoubleKeys,
+    /// `--indent N`.
+    Indent,
+    /// `--keep-going`.
+    KeepGoing,
+    /// `--jobs N`.
+    Jobs,
+    /// `-o FILE`.
+    Output,
 }
 
 /// What the input is.
 #[derive(Clone, Copy, PartialEq, Eq)]
 pub enum Input {
-    /// A text a line.
-    Lines,
     /// One text, on any number of lines.
     Text,
-    /// BSON documents, one behind the other.
+    /// A text per line.
+    Lines,
+    /// Concatenated BSON documents.
     Documents,
 }
 
@@ -73,19 +141,26 @@ impl Order {
     }
 }
 
-/// What the words after the program's name ask for: a mode, then names of files, with options
-/// anywhere before a word `--`, each once at most.
+/// Returns what the words after the program's name ask for: a command, a mode, then names of files,
+/// with options anywhere before a word `--`, each once at most.
 pub fn parse_arguments(alloc: Global, words: Vec<String>) -> Result<Asked, AllocError>
     ensures { IfOk result (λ asked. IsAskedBy (map string_bytes words.items) asked) }
 {
     let mut given = Given::new(alloc);
     for word in words.iter() {
+        let command = given.command();
         match given.take(word.as_str())? {
             Taken::Word => {}
-            Taken::Help => return Ok(Asked::Help),
+            Taken::Help => return Ok(Asked::Help(command)),
             Taken::Version => return Ok(Asked::Version),
-            Taken::Former => return Ok(Asked::Former),
-            Taken::Unknown => return Ok(Asked::Nothing),
+            Taken::Wrong(misuse) => {
+                let word = String::from_str(alloc, word.as_str())?;
+                return Ok(Asked::Wrong(Wrong {
+                    misuse,
+                    command,
+                    word,
+                }));
+            }
         }
     }
     given.answer()

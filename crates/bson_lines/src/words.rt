@@ -1,70 +1,170 @@
 //! The texts that the program writes about itself.
-
-/// The text for arguments that request nothing.
-pub const USAGE: &str =
-    "usage: bson_lines canonical|relaxed|show [--sort-keys] [--strict] [--whole|--bson] [OPTION ..] [FILE ..]
-       bson_lines check [--strict] [--whole|--bson] [OPTION ..] [FILE ..]
-       bson_lines encode [--sort-keys] [--strict] [--whole] [OPTION ..] [FILE ..]
-see bson_lines --help";
-
-/// The message about an option of an earlier version.
-pub const FORMER: &str =
-    "bson: --doubles and --keep-order are the default now; see bson_lines --help";
+use crate::order::Command;
 
 /// The message if there is no memory for any other.
 pub const OUT_OF_MEMORY: &str = "bson: out of memory";
 
-pub const VERSION: &str = "bson_lines 0.2.0";
+pub const VERSION: &str = "bson 0.2.0";
 
-pub const HELP: &str =
-    "usage: bson_lines canonical|relaxed|show [--sort-keys] [--strict] [--whole|--bson] [OPTION ..] [FILE ..]
-       bson_lines check [--strict] [--whole|--bson] [OPTION ..] [FILE ..]
-       bson_lines encode [--sort-keys] [--strict] [--whole] [OPTION ..] [FILE ..]
+/// Returns the help of a command.
+pub fn help_of(command: Command) -> &'static str {
+    match command {
+        Command::All => HELP,
+        Command::Text => TEXT,
+        Command::Lines => LINES,
+        Command::Decode => DECODE,
+        Command::Encode => ENCODE,
+    }
+}
 
-Reads MongoDB Extended JSON v2, one document per line, from the files or from standard input, and writes for each line:
+/// Returns the usage of a command.
+pub fn usage_of(command: Command) -> &'static str {
+    match command {
+        Command::All => USAGE,
+        Command::Text => "usage: bson canonical|relaxed|show|check [OPTION ..] [FILE]",
+        Command::Lines => "usage: bson lines canonical|relaxed|show|check [OPTION ..] [FILE ..]",
+        Command::Decode => "usage: bson decode canonical|relaxed|show|check [OPTION ..] [FILE ..]",
+        Command::Encode => "usage: bson encode [OPTION ..] [FILE ..]",
+    }
+}
+
+/// The usage of all commands.
+pub const USAGE: &str = "usage: bson canonical|relaxed|show|check [OPTION ..] [FILE]
+       bson lines canonical|relaxed|show|check [OPTION ..] [FILE ..]
+       bson decode canonical|relaxed|show|check [OPTION ..] [FILE ..]
+       bson encode [OPTION ..] [FILE ..]";
+
+/// The help of `canonical`, `relaxed`, `show` and `check`.
+const TEXT: &str = "usage: bson canonical|relaxed|show|check [OPTION ..] [FILE]
+
+Reads one JSON document from FILE or standard input as MongoDB Extended JSON v2, and writes:
   canonical   its canonical form, which keeps every type
   relaxed     its relaxed form, with plain numbers, and with dates as strings
   show        the value as the library's Display writes it, which is not JSON
-  check       nothing; it only reports rejected lines
-  encode      the bytes of its document (BSON 1.1), without a newline after them
+  check       nothing; it only reports a rejected document
+
+  --sort-keys             (not check) writes keys in ascending order at every depth
+  --strict                accepts of all doubles only zeros, infinities and NaNs; keys are written in ascending order
+  --legacy                also reads three objects of Extended JSON v1
+  --no-double-keys        rejects input in which an object has a duplicate key, at any depth
+  --indent N              (canonical, relaxed) writes the document over several lines, with N spaces for each bracket
+  -o FILE, --output FILE  (not check) writes the output to FILE, as a whole at the end
+
+`bson --help` says more of each option, and lists the statuses.";
+
+/// The help of `lines`.
+const LINES: &str = "usage: bson lines canonical|relaxed|show|check [OPTION ..] [FILE ..]
+
+Reads one JSON document per line, from files or standard input, and writes a line for each. It needs the memory of the
+longest line. A rejected line is reported as FILE:LINE:, or with its number for standard input. `check` writes only these
+reports. Blank lines are counted, and write nothing.
+
+  --sort-keys             (not check) writes keys in ascending order at every depth
+  --strict                accepts of all doubles only zeros, infinities and NaNs; keys are written in ascending order
+  --legacy                also reads three objects of Extended JSON v1
+  --no-double-keys        rejects a line in which an object has a duplicate key, at any depth
+  --keep-going            skips a rejected line and reports it; without it the run ends there
+  --jobs N                converts N parts of named files at a time, with GNU parallel
+  -o FILE, --output FILE  (not check) writes the output to FILE, as a whole at the end
+
+`bson --help` says more of each option, and lists the statuses.";
+
+/// The help of `decode`.
+const DECODE: &str = "usage: bson decode canonical|relaxed|show|check [OPTION ..] [FILE ..]
+
+Reads concatenated documents of BSON 1.1, as in a dump, and writes a line for each. It needs the memory of the largest
+document, which may nest 100 levels deep. `check` only checks the bytes. A rejected document is reported with its number,
+its offset in the file, and the offset of the error in it.
+
+  --sort-keys             (canonical, relaxed) writes keys in ascending order at every depth
+  --strict                (canonical, relaxed) rejects finite doubles other than zeros; keys are written in ascending order
+  --keep-going            skips a rejected document and reports it, if all the bytes of its length are present
+  --jobs N                converts N parts of named files at a time, with GNU parallel
+  -o FILE, --output FILE  (not check) writes the output to FILE, as a whole at the end
+
+`bson --help` says more of each option, and lists the statuses.";
+
+/// The help of `encode`.
+const ENCODE: &str = "usage: bson encode [OPTION ..] [FILE ..]
+
+Reads one JSON document per line, as `lines` does, and writes their bytes (BSON 1.1) without anything in between. A line
+is rejected if its value is not a document, or if a key or a regular expression has a 0 byte. Each part must have fewer
+than 2^31 bytes. Bytes are not written to a terminal.
+
+  --sort-keys             writes keys in ascending order at every depth
+  --strict                accepts of all doubles only zeros, infinities and NaNs; keys are written in ascending order
+  --keep-going            skips a rejected line and reports it; without it the run ends there
+  --jobs N                converts N parts of named files at a time, with GNU parallel
+  -o FILE, --output FILE  writes the output to FILE, as a whole at the end
+
+`bson --help` says more of each option, and lists the statuses.";
+
+/// The help of all commands.
+pub const HELP: &str = "usage: bson canonical|relaxed|show|check [OPTION ..] [FILE]
+       bson lines canonical|relaxed|show|check [OPTION ..] [FILE ..]
+       bson decode canonical|relaxed|show|check [OPTION ..] [FILE ..]
+       bson encode [OPTION ..] [FILE ..]
+
+Reads one JSON document from FILE or standard input as MongoDB Extended JSON v2, in either form or mixed, and writes:
+  canonical   its canonical form, which keeps every type
+  relaxed     its relaxed form, with plain numbers, and with dates as strings
+  show        the value as the library's Display writes it, which is not JSON
+  check       nothing; it only reports a rejected document
 
 Keys keep the order of the input. A duplicate key has its last value at its first position. A number that is not a
 64-bit integer, such as 1.5, is read as the nearest double. A double is written as its shortest decimal.
 
-  --sort-keys             (not check, not show with --bson) writes keys in ascending order at every depth
-  --strict                (with --bson only in canonical and relaxed) does what the specified program bson_cli does.
-                          It accepts of all doubles only zeros, infinities and NaNs, and rejects numbers such as 1.5
-                          and 0.0. Keys are written in ascending order at every depth
-  --whole                 reads one document on any number of lines, from one file at most
-  --bson                  (not encode) reads concatenated documents of BSON 1.1, as in a dump, and writes a line for
-                          each; check only checks the bytes
-  --no-double-keys        (not encode, not --bson) rejects input in which an object has a duplicate key, at any depth,
-                          and reports the path to the first one; keys are compared after their escapes are decoded
-  --legacy                (not encode, not --bson) also reads three objects of Extended JSON v1, as those of v2:
-                          $binary with $type, $regex with $options, and a $date whose offset has no colon
-  --keep-going            (not --whole) skips a rejected line or document and reports it; without it the run ends there
-  --indent N              (--whole, canonical or relaxed) writes the document over several lines, one for each member
-                          and element, with N spaces for each bracket, N from 1 to 16; it reads as the same tree
-  -o FILE, --output FILE  (not check) writes the output to FILE, as a whole at the end, and not to standard output
-  -h, --help; -v, --version
+Input is rejected, with one line on standard error, if it is not JSON. It is also rejected if a wrapper, such as
+{\"$oid\": ..}, does not have its shape. One file has one document, which nests at most 127 levels deep.
 
-Options can be anywhere before a word --, and FILE - is standard input or output. If a file is both input and output,
-the run is rejected before anything is read. -o writes FILE.N.part next to FILE, for the process number N, and renames
-it at the end. If a run ends early, the part is removed, and FILE stays as it was. A signal leaves the part in place.
+`lines` reads one document per line, from files or standard input, in the memory of the longest line. A rejected line is
+reported as FILE:LINE:, or with its number for standard input. `check` writes only these reports.
 
-Blank lines are counted, and write nothing. A byte order mark at the start of a file is skipped. Lines are numbered from
-1 in each file, and a rejected line of a file is reported as FILE:LINE:. Columns count bytes from 1. A run needs the
-memory of the longest line, or of the largest BSON document. A BSON document may nest 100 levels deep. A rejected one is
-reported with its number from 1 and with the number of bytes before it. With --keep-going it is skipped if all the bytes
-of its length are present. Otherwise the run ends.
+`decode` reads concatenated documents of BSON 1.1, as in a dump. It writes a line for each, in the memory of the largest
+document. `check` only checks the bytes. A rejected document is reported with its number, its offset in the file, and
+the offset of the error in it.
 
-encode rejects a line if its value is not a document, or if a key or a regular expression has a 0 byte. Each part must
-have fewer than 2^31 bytes. Bytes are not written to a terminal. If standard error is a terminal, it has a line of
-progress while files are read.
+`encode` reads one document per line, as `lines` does, and writes their bytes (BSON 1.1) without anything in between.
+`decode canonical` reads this dump as the same lines. A line is rejected if its value is not a document, or if a key or
+a regular expression has a 0 byte. Each part must have fewer than 2^31 bytes. Bytes are not written to a terminal.
+
+  --sort-keys             (not check, decode show) writes keys in ascending order at every depth, so that equal values
+                          have equal output
+  --strict                (not decode show, decode check) accepts of all doubles only zeros, infinities and NaNs, and
+                          rejects numbers such as 1.5 and 0.0; a double zero is {\"$numberDouble\": \"0.0\"}. Keys are
+                          written in ascending order at every depth
+  --legacy                (not decode, encode) also reads three objects of Extended JSON v1, as those of v2: $binary
+                          with $type, $regex with $options, and a $date whose offset has no colon, such as +0100. The
+                          keys of a scope stay as they are
+  --no-double-keys        (not decode, encode) rejects input in which an object has a duplicate key, at any depth, and
+                          reports the path to the first one; keys are compared after their escapes are decoded
+  --indent N              (canonical, relaxed) writes a document over several lines, one for each member and element,
+                          with N spaces for each bracket, N from 1 to 16; it reads as exactly the same tree
+  --keep-going            (lines, decode, encode) skips a rejected line or document and reports it; a rejected BSON
+                          document is skipped if all the bytes of its length are present
+  --jobs N                (lines, decode, encode) cuts named files at ends of lines, or at the start of documents, and
+                          converts N parts at a time, with GNU parallel. Output, messages and status are those of one
+                          job. Many small files are one job
+  -o FILE, --output FILE  writes the output to FILE, as a whole at the end; if a run ends early, FILE stays as it was
+  -h, --help; -v, --version  after a command, `--help` writes the help of that command alone
+
+Options can be anywhere before the word --, and FILE - is standard input or output. If a file is both input and output,
+the run is rejected before anything is read. A byte order mark at the start of a named file is skipped.
 
 Status:
   0    done; no line or document was rejected
-  1    a line or document was rejected, or the run could not continue; standard error has the reason. All lines before
-       it are in the output, and with --keep-going all that were not rejected
-  2    wrong arguments; nothing was read
-  141  nobody reads the output any more; nothing is reported";
+  1    the input was rejected, or a file could not be read or written as a whole. The output of one document is empty.
+       For `lines`, `decode` and `encode` it has everything before the error, and with --keep-going all that was not
+       rejected
+  2    wrong arguments
+  3    the program is not built, and cannot be built here
+  141  nobody reads the output any more
+  128 and more  a signal ended the program
+
+Examples:
+  $ echo '{\"n\": 5, \"at\": {\"$date\": \"2020-06-01T00:42:40Z\"}}' | bson canonical
+  {\"n\":{\"$numberInt\":\"5\"},\"at\":{\"$date\":{\"$numberLong\":\"1590972160000\"}}}
+  $ echo '{\"price\": 12.50, \"count\": 3}' | bson relaxed --sort-keys
+  {\"count\":3,\"price\":12.5}
+  $ echo '{\"price\": 12.50, \"count\": 3}' | bson encode | bson decode relaxed
+  {\"price\":12.5,\"count\":3}";

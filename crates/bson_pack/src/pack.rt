@@ -24,7 +24,7 @@ const LONG: usize = 1 << 16;
 /// # Errors
 ///
 /// - `OutOfMemory`: a request for memory was refused.
-/// - `DuplicateKey`, `GaveUp` and `Fault`: the text is to be read whole. They say nothing of it.
+/// - `DuplicateKey`, `GaveUp`, `Syntax` and `Fault`: the text is to be read whole. They say nothing of it.
 pub fn pack_text(
     alloc: Global,
     doubles: Doubles,
@@ -89,7 +89,7 @@ fn write_whole(
     let mut reader = Reader::new(text, scratch)?;
     let bytes = write_first(alloc, doubles, text, &mut reader)?;
     if reader.next().is_some() {
-        return Err(Stop::Fault);
+        return Err(Stop::Syntax);
     }
     Ok(bytes)
 }
@@ -105,7 +105,7 @@ fn write_first(
         → IfOk result (λ out. IsPackedText doubles text.now out.items) }
 {
     let Some(Token::BeginObject) = reader.next() else {
-        return Err(Stop::Fault);
+        return Err(Stop::GaveUp);
     };
     let first = reader.next_key()?;
     let mut writer = ElementWriter {

@@ -1,6 +1,9 @@
 //! `json TEXT`, `json wide TEXT`: whether a text is JSON. A wide text has a number out of range.
+//! `is_canonical TEXT`: whether a text is the canonical text of its value, with finite doubles.
 use crate::answer::Answer;
 use crate::stop::{Outcome, Stop};
+use bson::extjson::{Doubles, Options};
+use bson_convert::canonical::is_canonical_text;
 use bson_json::text::is_json;
 use std::alloc::Global;
 
@@ -10,5 +13,16 @@ pub(crate) fn call(alloc: Global, rest: &str, out: &mut Answer) -> Outcome {
         return Err(Stop::OutOfMemory);
     };
     out.text(if valid { "true" } else { "false" });
+    Ok(())
+}
+
+pub(crate) fn is_canonical(alloc: Global, text: &str, out: &mut Answer) -> Outcome {
+    let options = Options {
+        doubles: Doubles::Finite,
+    };
+    let Ok(canonical) = is_canonical_text(alloc, options, text.as_bytes()) else {
+        return Err(Stop::OutOfMemory);
+    };
+    out.text(if canonical { "true" } else { "false" });
     Ok(())
 }

@@ -7,7 +7,7 @@ ghost use Rattle.bson_run.specs.InOrder.{ConvertsInOrder};
 use crate::in_order::{convert_whole_in_order, filter_once};
 use bson::extjson::Options;
 use bson_convert::convert::{convert_whole, end_line};
-use bson_convert::converted::{Tried, arrange, refuse, refuse_arranged, try_text};
+use bson_convert::converted::{Tried, arrange, refuse, try_text};
 use bson_convert::error::Error;
 use bson_convert::mode::Mode;
 use bson_distinct::arrangement::Arrangement;
@@ -55,10 +55,7 @@ impl Accepted {
     {
         match try_text(alloc, options, mode, bytes)? {
             Tried::Written(text) => Ok(Accepted::Output(end_line(text)?)),
-            Tried::Arranged(text) => {
-                refuse_arranged(alloc, options, text.as_str())?;
-                Ok(Accepted::Arranged(mode, text))
-            }
+            Tried::Arranged(text) => Ok(Accepted::Arranged(mode, text)),
         }
     }
 

@@ -1,17 +1,14 @@
 //! One text to another in the order of its keys: from bytes to bytes.
-ghost use Rattle.std.specs.Prelude.{◌≡◌, IfOk, IfErr, IfSome, IsUtf8, ℕ, List, true, string_bytes};
+ghost use Rattle.std.specs.Prelude.{◌≡◌, IfOk, IfErr, IfSome, IsUtf8, ℕ, List, string_bytes};
 ghost use Rattle.serde_json.specs.Data.{Data};
 ghost use Rattle.bson_model.specs.Means.{MeansIn};
-ghost use Rattle.bson_model.specs.Normal.{writable_in};
 ghost use Rattle.bson_model.specs.Value as model;
-ghost use Rattle.bson.specs.View.{bson_view};
 ghost use Rattle.bson.specs.TextMeaning.{IsTextOf};
 ghost use Rattle.bson_convert.specs.Convert.{IsRefusedIn};
-ghost use Rattle.bson_run.specs.InOrder.{ConvertsInOrder, IsConvertedTextInOrder, IsKeptInOrder, IsTextInOrderFor};
+ghost use Rattle.bson_run.specs.InOrder.{ConvertsInOrder, IsConvertedTextInOrder, IsKeptInOrder};
 
-use bson::Bson;
-use bson::extjson::{Form, Options, WriteError};
-use bson_convert::convert::{displayed_text, end_line, error_of};
+use bson::extjson::{Form, Options};
+use bson_convert::convert::end_line;
 use bson_convert::converted::{arrange, refuse};
 use bson_convert::error::Error;
 use bson_convert::mode::Mode;
@@ -132,8 +129,8 @@ fn arranged_text(alloc: Global, options: Options, mode: Mode, text: &str) -> Res
     text_of_distinct(alloc, options, mode, arranged.as_str())
 }
 
-// The text of one in which each object has each key once. Where it means nothing its first fault is
-// told, and no value is made.
+// The text of one in which each object has each key once. If it has no meaning, its first fault is
+// the error.
 fn text_of_distinct(
     alloc: Global,
     options: Options,
@@ -148,7 +145,8 @@ fn text_of_distinct(
         Some(written) => Ok(written),
         None => {
             refuse(alloc, options, text)?;
-            whole_text(alloc, options, mode, text.as_bytes())
+            // Only memory: the text has a meaning, and no key twice.
+            Err(Error::OutOfMemory)
         }
     }
 }
@@ -188,37 +186,5 @@ fn filter(
         Mode::Canonical => filter_text(alloc, options.doubles, Form::Canonical, text, scratch),
         Mode::Relaxed => filter_text(alloc, options.doubles, Form::Relaxed, text, scratch),
         Mode::Show => show_text_in_order(alloc, options.doubles, text, scratch),
-    }
-}
-
-// The text of the value, which is read whole.
-fn whole_text(alloc: Global, options: Options, mode: Mode, bytes: &[u8]) -> Result<Vec<u8>, Error>
-    ensures ok { IfOk result (λ text. IsConvertedTextInOrder options mode bytes.now text.items) }
-    ensures utf8 { IfOk result (λ text. IsUtf8 text.items) }
-    ensures fault { IfErr result (λ fault. IsRefusedIn options fault bytes.now) }
-{
-    match Bson::try_from_text_in_order(alloc, options, bytes) {
-        Ok(value) => value_text(alloc, options, mode, value),
-        Err(error) => Err(error_of(error)),
-    }
-}
-
-// The value's text in the mode, in its own order.
-fn value_text(alloc: Global, options: Options, mode: Mode, value: Bson) -> Result<Vec<u8>, Error>
-    requires { writable_in options.doubles (bson_view value) ≡ true }
-    ensures ok { IfOk result (λ text. IsTextInOrderFor options mode (bson_view value) text.items) }
-    ensures utf8 { IfOk result (λ text. IsUtf8 text.items) }
-    ensures fault { IfErr result (λ fault. fault ≡ Error.OutOfMemory) }
-{
-    let text = match mode {
-        Mode::Canonical => value.into_text_in_order(alloc, options, Form::Canonical),
-        Mode::Relaxed => value.into_text_in_order(alloc, options, Form::Relaxed),
-        Mode::Show => return displayed_text(alloc, &value),
-    };
-    match text {
-        Ok(text) => Ok(text.into_bytes()),
-        // What was read can be written.
-        Err(WriteError::FiniteDouble) => unreachable!(),
-        Err(WriteError::OutOfMemory) => Err(Error::OutOfMemory),
     }
 }

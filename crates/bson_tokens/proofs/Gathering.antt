@@ -1,15 +1,11 @@
 -- The members of an object that were read so far, before those that are left.
-use Rattle.std.proofs.Common.{◌≡◌, ℕ, ◌<◌, ◌≤◌, List, length, Option, Some, None, sym, subst, arith}
+use Rattle.std.proofs.Common.{◌≡◌, ℕ, ◌<◌, ◌≤◌, List, length, Some, None, arith}
 use Rattle.json.specs.Token.{Token}
-use Rattle.json.specs.Json.{read_key, value, members}
+use Rattle.json.specs.Json.{read_key, value}
 use Rattle.json.proofs.Grammar.{read_key-shorter}
-use Rattle.serde_json.specs.Data.{Data, Members, no_members, object, put}
-use Rattle.serde_json.specs.Read.{of_json, of_members, converted}
-use Rattle.bson_scalar.specs.declared.form.Doubles.{Doubles}
+use Rattle.serde_json.specs.Data.{Data, Members, put}
+use Rattle.serde_json.specs.Read.{of_json, converted}
 use Rattle.bson_tokens.specs.Parts.{MembersAre, NoMembers}
-use Rattle.bson_tokens.specs.Found.{found}
-use Rattle.bson_tokens.specs.Told.{Finds, ObjectFinds}
-use Rattle.bson_place.specs.declared.place.Place.{Place}
 use Rattle.bson_tokens.proofs.Rounds.{more_members, no_more_members, no_members_behind}
 
 -- from the start of the members, beside old ones, up to here
@@ -38,17 +34,3 @@ pub all_gathered : (depth : ℕ) (old : Members) (start here rest : List Token) 
     → Gathers depth old start here so_far → read_key here ≡ Some (None, rest) → MembersAre depth old start so_far rest
 all_gathered depth old start here rest so_far g ended =
     g.all so_far rest (no_more_members depth here rest so_far ended)
-
--- what is found of an object from its first key on is what is found of it as a whole
-pub from_first : (D : Doubles) (depth : ℕ) (k : List ℕ) (start here s rest : List Token) (so_far : Members)
-    (p : Option Place)
-    → Gathers depth no_members start here so_far → so_far ≡ no_members → read_key here ≡ Some (Some k, s)
-    → ObjectFinds D depth k s p rest
-    → Finds (λ ms. found D (object ms))
-    (converted (λ js. of_members js no_members) (members (value depth) (length start) start)) p rest
-from_first D depth k start here s rest so_far p g first named m = (
-  m.0,
-  g.all m.0 rest (subst (λ ms. MembersAre depth ms here m.0 rest) (sym first) (m.1 here named)) (length start)
-      (omega arith),
-  m.2,
-)

@@ -2,12 +2,6 @@ pub mod Rounds
 pub mod Starts
 pub mod Elements
 pub mod Gathering
-pub mod Trees
 pub mod Pruned
-pub mod Keys
-pub mod Faulty
-pub mod Entered
-pub mod Verdicts
-pub mod Wrapped
 pub mod Found
 pub mod Offered

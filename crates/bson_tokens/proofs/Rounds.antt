@@ -1,10 +1,10 @@
 -- A round of the grammar's loops over tokens, where each part that is read becomes a part of the tree.
 use Rattle.std.proofs.Common.{◌≡◌, ℕ, zero, suc, ◌-◌, ◌<◌, ◌≤◌, List, length, Option, Some, None, Result, Ok, Err}
-use Rattle.std.proofs.Common.{IfOk, IfErr, option_map, option_and_then, refl, ap, ◌∙◌, arith, []}
+use Rattle.std.proofs.Common.{IfOk, IfErr, option_map, refl, ap, ◌∙◌, arith}
 use Rattle.std.proofs.lemmas.Option.{same_Some}
 use Rattle.json.specs.Token.{Token}
 use Rattle.json.specs.Json as json
-use Rattle.json.specs.Json.{Parse, parse_map, after_end_array, read_key, items, members, value, if_last}
+use Rattle.json.specs.Json.{Parse, parse_map, after_end_array, read_key, items, members, value}
 use Rattle.json.proofs.Grammar.{items_end, items_more, members_end, members_more}
 use Rattle.json.proofs.Grammar.{read_key-shorter, items_fail, members_no_key, members_fail}
 use Rattle.serde_json.specs.Data.{Data, no_items, item, Members, put}
@@ -160,16 +160,3 @@ no_members_behind depth k ts s r d named read h old (suc n) =
 pub if_err : {X E : Type 0} {P Q : E → Type 0} (r : Result X E) → IfErr r P → ((e : E) → P e → Q e) → IfErr r Q
 if_err (Ok x) h f = tt
 if_err (Err e) h f = f e h
-
--- ---- whole texts
-
-abbrev whole : Option (json.Json × List Token) → Option Data
-whole x = option_and_then of_json (option_and_then (λ p. if_last p.0 p.1) x)
-
-pub whole_read : (x : Option (json.Json × List Token)) (d : Data) → converted of_json x ≡ Some (d, [])
-    → whole x ≡ Some d
-whole_read x d e = let j = was_read of_json x d [] e in ap whole j.1 ∙ j.2
-
-pub no_value : (x : Option (json.Json × List Token)) → option_map (λ p. p.1) x ≡ None → whole x ≡ None
-no_value None h = refl
-no_value (Some p) h = cc

@@ -1,5 +1,5 @@
 -- How a value starts: with one token as a whole, or with the bracket or brace of what is in it.
-use Rattle.std.proofs.Common.{◌≡◌, ℕ, ◌-◌, ◌<◌, List, length, Option, Some, None, option_map, refl, ap, ◌∙◌, subst, ◌∷◌, ◌⊎◌}
+use Rattle.std.proofs.Common.{◌≡◌, ℕ, ◌-◌, List, length, Option, Some, None, option_map, refl, ap, ◌∙◌, subst, ◌∷◌, ◌⊎◌}
 use Rattle.std.proofs.Common.{inl, inr, Bor}
 use Rattle.json.specs.Token.{Token}
 use Rattle.json.specs.Json as json

@@ -1,8 +1,6 @@
--- The first fault of a tree and the path to it, as a function, and what a walk keeps of an object. For private clauses.
-use Rattle.std.specs.Prelude.{ℕ, ◌+◌, List, [], ◌∷◌, ◌++◌, codes, ◌&&◌, if◌then◌else◌, Option, Some, None, cond}
+-- The first fault of a tree and the path to it, as a function. For private clauses.
+use Rattle.std.specs.Prelude.{ℕ, ◌+◌, List, [], ◌∷◌, ◌++◌, codes, ◌&&◌, if◌then◌else◌, Option, Some, None}
 use Rattle.std.specs.Prelude.{Result, Ok, Err}
-use Rattle.std.specs.Ordering.{nat_cmp, match_ordering, is_eq}
-use Rattle.std.specs.Cmp.Lexicographic.{slice_cmp}
 use Rattle.std.specs.Str.{bytes_eq}
 use Rattle.serde_json.specs.Data.{Data, Items, no_items, item, Members, no_members, member}
 use Rattle.serde_json.specs.Data as tree
@@ -71,33 +69,3 @@ abbrev mutual
   found_scope D (tree.string s) = here
   found_scope D (tree.array ds) = here
   found_scope D (tree.object ms) = within (key (codes "$scope")) (found_members D ms)
-
--- ---- what is kept of an object's members: those with a fault, by ascending key
-
-abbrev pub Faults : Type 0
-Faults = List (List ℕ × (Fault × List PathSegment))
-
-abbrev pub onto : List ℕ → Verdict → Faults → Faults
-onto k None fs = fs
-onto k (Some f) fs = (k, f) ∷ fs
-
-abbrev pub faults : Doubles → Members → Faults
-faults D no_members = []
-faults D (member k d ms) = onto k (found D d) (faults D ms)
-
-abbrev pub least : Faults → Verdict
-least [] = None
-least (f ∷ fs) = within (key f.0) (Some f.1)
-
-abbrev pub insert : List ℕ → Fault × List PathSegment → Faults → Faults
-insert k f [] = (k, f) ∷ []
-insert k f (g ∷ fs) = match_ordering (slice_cmp nat_cmp k g.0) ((k, f) ∷ g ∷ fs) ((g.0, f) ∷ fs) (g ∷ insert k f fs)
-
-abbrev pub remove : List ℕ → Faults → Faults
-remove k [] = []
-remove k (g ∷ fs) = cond (is_eq (slice_cmp nat_cmp k g.0)) fs (g ∷ remove k fs)
-
--- the key's last value has this verdict
-abbrev pub enter : List ℕ → Verdict → Faults → Faults
-enter k None fs = remove k fs
-enter k (Some f) fs = insert k f fs

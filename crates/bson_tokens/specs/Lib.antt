@@ -1,6 +1,5 @@
 pub mod Found
 pub mod Held
-pub mod Keys
 pub mod Parts
 pub mod Prefix
 pub mod Start

@@ -1,8 +1,8 @@
 -- What was read of the parts of a text. For private clauses.
 use Rattle.std.specs.Prelude.{◌≡◌, ◌≤◌, ℕ, List, length, Option, Some, None}
 use Rattle.json.specs.Token.{Token}
-use Rattle.json.specs.Json.{read_key, members, value}
-use Rattle.serde_json.specs.Data.{Data, Members, put}
+use Rattle.json.specs.Json.{members, value}
+use Rattle.serde_json.specs.Data.{Members}
 use Rattle.serde_json.specs.Read.{of_members, converted}
 use Rattle.json.specs.declared.error.Error.{Error}
 use Rattle.json.specs.declared.error.Error.TheVariants.{Invalid}
@@ -10,10 +10,6 @@ use Rattle.json.specs.declared.error.Error.TheVariants.{Invalid}
 -- no tree was read, unless memory ran out
 abbrev pub IsBroken : {X : Type 0} → Option X → Error → Type 0
 IsBroken tree e = e ≡ Invalid → tree ≡ None
-
--- a tree was read, and put at the key among the members
-abbrev pub IsEntered : Option (Data × List Token) → List ℕ → Members → Members → List Token → Type 0
-IsEntered tree k old new rest = (d : Data) × (tree ≡ Some (d, rest)) × (new ≡ put k d old)
 
 -- the members are read to the end of the object, beside those before them
 abbrev pub MembersAre : ℕ → Members → List Token → Members → List Token → Type 0
@@ -23,11 +19,3 @@ MembersAre depth old ts new rest = (n : ℕ) → length ts ≤ n
 -- they are not, since the text breaks
 abbrev pub NoMembers : ℕ → List Token → Type 0
 NoMembers depth ts = (old : Members) (n : ℕ) → converted (λ js. of_members js old) (members (value depth) n ts) ≡ None
-
--- the same where a key was read: from before that key
-abbrev pub ObjectIs : ℕ → Members → List ℕ → List Token → Members → List Token → Type 0
-ObjectIs depth old k ts ms rest = (before : List Token) → read_key before ≡ Some (Some k, ts)
-    → MembersAre depth old before ms rest
-
-abbrev pub NoObject : ℕ → List ℕ → List Token → Type 0
-NoObject depth k ts = (before : List Token) → read_key before ≡ Some (Some k, ts) → NoMembers depth before

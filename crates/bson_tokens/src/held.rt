@@ -61,15 +61,9 @@ fn held_value(
     }
 }
 
-/// Passes over the elements of an array after its bracket, each nested at most `depth` deep.
-///
-/// # Errors
-///
-/// - `Invalid`: an element is not valid, nests deeper, or has a number out of range, or the array
-///   does not end.
-/// - `OutOfMemory`: a request for memory was refused.
+// Passes over the elements of an array after its bracket.
 #[cycle(held)]
-pub fn pass_items(alloc: Global, reader: &mut Reader<'_>, depth: usize) -> Result<(), Error>
+fn pass_items(alloc: Global, reader: &mut Reader<'_>, depth: usize) -> Result<(), Error>
     ensures ok { OnOk result
         (ArePassed (converted of_items (items (value depth) (length reader.old) reader.old)) reader.new) }
     ensures broken { IfErr result

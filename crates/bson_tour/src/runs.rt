@@ -64,8 +64,9 @@ fn convert_in_order_call(rt: &impl Print, alloc: Global) -> anyhow::Result<()> {
 
 fn tried(rt: &impl Print, alloc: Global) -> anyhow::Result<()> {
     let options = Options::default();
-    if let Ok(Tried::Arranged(text)) = try_text(alloc, options, Mode::Relaxed, b"[7, 1.5]") {
-        println!(rt; "{text}")?; // [7,1.5]
+    let bytes = br#"{"a": 1.5, "a": 7}"#.as_slice();
+    if let Ok(Tried::Arranged(text)) = try_text(alloc, options, Mode::Relaxed, bytes) {
+        println!(rt; "{text}")?; // {"a":7}
     }
     Ok(())
 }

@@ -1,6 +1,7 @@
 //! Extended JSON, from trees and texts, and why they mean nothing.
 use bson::extjson::{Doubles, Form, Options};
 use bson::{Bson, Document};
+use bson_convert::canonical::is_canonical_text;
 use bson_convert::convert::text_with;
 use bson_convert::mode::Mode;
 use bson_place::builder::Nothing;
@@ -21,6 +22,7 @@ pub(crate) fn print(rt: &impl Print, alloc: Global) -> anyhow::Result<()> {
     try_from_text_in_order_call(rt, alloc)?;
     text_error(rt, alloc)?;
     text_with_call(rt, alloc)?;
+    is_canonical_text_call(rt, alloc)?;
     place(rt, alloc)?;
     segment(rt, alloc)?;
     reason(rt, alloc)?;
@@ -131,6 +133,14 @@ fn text_with_call(rt: &impl Print, alloc: Global) -> anyhow::Result<()> {
     if let Ok(text) = text_with(alloc, Options::default(), Mode::Relaxed, bytes) {
         println!(rt; "{}", str::from_utf8(&text)?)?; // [5]
     }
+    Ok(())
+}
+
+fn is_canonical_text_call(rt: &impl Print, alloc: Global) -> anyhow::Result<()> {
+    let options = Options::default();
+    let one = is_canonical_text(alloc, options, br#"{"n":{"$numberInt":"5"}}"#)?;
+    let other = is_canonical_text(alloc, options, br#"{"n": 5}"#)?;
+    println!(rt; "{one} {other}")?; // true false
     Ok(())
 }
 

@@ -4,8 +4,13 @@ use Rattle.std.specs.Prelude.{IsUtf8}
 use Rattle.serde_json.specs.Data.{Data}
 use Rattle.serde_json.specs.Read.{read}
 use Rattle.bson.specs.Doubles.{Doubles}
+use Rattle.bson.specs.Doubles.TheVariants.{Special, Finite}
+use Rattle.bson.specs.Form.{Form}
+use Rattle.bson.specs.Form.TheVariants as form
 use Rattle.bson.specs.OrderedTexts.{HasMeaningInOrder}
-use Rattle.bson.specs.TextMeaning.{HasTextMeaningIn, IsTextOf}
+use Rattle.bson.specs.TextMeaning.{HasTextMeaningIn}
+use Rattle.bson.specs.TextMeaning as meaning
+use Rattle.bson.specs.Texts.{IsTextInOrder}
 use Rattle.bson.specs.View.{bson_view, document_view}
 use Rattle.bson.specs.declared.bson.Bson.{the_lemmas}
 use Rattle.bson.specs.declared.bson.Bson.TheVariants.{Document as held}
@@ -14,13 +19,16 @@ use Rattle.bson.specs.declared.extjson.options.Options.{Options}
 use Rattle.bson.specs.Kept.{read_kept}
 use Rattle.bson.specs.MeansInOrder.{MeansInOrder}
 use Rattle.bson_codec.specs.Laws.{IsRead}
+use Rattle.bson_codec.specs.Texts.{IsTextOf}
 use Rattle.bson_model.specs.Means.{MeansIn}
 use Rattle.bson_model.specs.Normal.{writable_in}
 use Rattle.bson_model.specs.Sorted.{sorted}
 use Rattle.bson_model.specs.Value.{Value, Pairs, document}
 use Rattle.bson_convert.specs.declared.mode.Mode.{Mode}
 use Rattle.bson_convert.specs.declared.mode.Mode.TheVariants.{Canonical, Relaxed, Show}
-use Rattle.vbson.specs.Documents.{HasNoTextIn, IsOneDocument, IsUndecoded, depth}
+use Rattle.vbson.specs.Documents.{Decodes, HasNoTextIn, IsOneDocument, IsUndecoded, depth, direct_form, form_in, form_under}
+use Rattle.vbson.specs.declared.flags.KeyOrder.{KeyOrder}
+use Rattle.vbson.specs.declared.flags.KeyOrder.TheVariants.{Ascending, AsGiven}
 
 -- ---- bytes
 
@@ -57,6 +65,52 @@ no_document o mode bytes none = record {
   listed = inr (inr refl);
 }
 
+-- memory ran out
+pub no_memory : (o : Options) (mode : Mode) (bytes : List ℕ) → IsUndecoded o mode 5 bytes
+no_memory o mode bytes = record {
+  no_document = λ ten is. absurd (omega (arith, ten));
+  no_text = λ seven. absurd (omega (arith, seven));
+  accepts = λ ps is writes. refl;
+  listed = inl refl;
+}
+
+pub unread : (o : Options) (mode : Mode) (status : ℕ) (bytes : List ℕ)
+    → (status ≡ 5) ⊎ ((status ≡ 10) × (IsOneDocument bytes → ⊥)) → IsUndecoded o mode status bytes
+unread o mode status bytes (inl five) = subst (λ n. IsUndecoded o mode n bytes) (sym five) (no_memory o mode bytes)
+unread o mode status bytes (inr (ten, none)) =
+    subst (λ n. IsUndecoded o mode n bytes) (sym ten) (no_document o mode bytes none)
+
+-- the text that is written while the bytes are read is that of the document
+in_form : (o : Options) (mode : Mode) (f : Form) (bytes text : List ℕ) → o.doubles ≡ Finite → form_in mode ≡ Some f
+    → IsTextOf f depth bytes text → Decodes AsGiven o mode bytes text
+in_form o Canonical f bytes text finite is it =
+    let same : f ≡ form.Canonical = cc in
+    record {
+      pairs = it.pairs;
+      read = it.read;
+      written = subst (λ D. IsTextInOrder D form.Canonical (document it.pairs) text) (sym finite)
+          (subst (λ g. IsTextInOrder Finite g (document it.pairs) text) same it.text_in_order);
+    }
+in_form o Relaxed f bytes text finite is it =
+    let same : f ≡ form.Relaxed = cc in
+    record {
+      pairs = it.pairs;
+      read = it.read;
+      written = subst (λ D. IsTextInOrder D form.Relaxed (document it.pairs) text) (sym finite)
+          (subst (λ g. IsTextInOrder Finite g (document it.pairs) text) same it.text_in_order);
+    }
+in_form o Show f bytes text finite is it = absurd cc
+
+under_doubles : (o : Options) (D : Doubles) (mode : Mode) (f : Form) (bytes text : List ℕ) → o.doubles ≡ D
+    → form_under D mode ≡ Some f → IsTextOf f depth bytes text → Decodes AsGiven o mode bytes text
+under_doubles o Special mode f bytes text is given it = absurd cc
+under_doubles o Finite mode f bytes text is given it = in_form o mode f bytes text is given it
+
+pub directly : (k : KeyOrder) (o : Options) (mode : Mode) (f : Form) (bytes text : List ℕ)
+    → direct_form k o mode ≡ Some f → IsTextOf f depth bytes text → Decodes k o mode bytes text
+directly Ascending o mode f bytes text given it = absurd cc
+directly AsGiven o mode f bytes text given it = under_doubles o o.doubles mode f bytes text refl given it
+
 -- ---- texts
 
 -- a document as a value is seen as the pairs of the document
@@ -64,7 +118,7 @@ pub document_seen : (d : Document) → bson_view (held d) ≡ document (document
 document_seen d = search (rules, the_lemmas)
 
 -- a text means no two documents
-pub means_one : (D : Doubles) (bytes : List ℕ) (tree : Data) (ps qs : Pairs) → IsTextOf bytes tree
+pub means_one : (D : Doubles) (bytes : List ℕ) (tree : Data) (ps qs : Pairs) → meaning.IsTextOf bytes tree
     → MeansIn D tree (document ps) → HasTextMeaningIn D bytes (document qs) → ps ≡ qs
 means_one D bytes tree ps qs text means it =
     let a : read bytes ≡ Some tree = text.tree_read in
@@ -86,6 +140,6 @@ means_one_in_order D bytes ps qs it also =
 
 -- what means a value in order means one by default
 pub means_by_default : (D : Doubles) (bytes : List ℕ) (v : Value) → IsUtf8 bytes → HasMeaningInOrder D bytes v
-    → (tree : Data) × (w : Value) × IsTextOf bytes tree × MeansIn D tree w
+    → (tree : Data) × (w : Value) × meaning.IsTextOf bytes tree × MeansIn D tree w
 means_by_default D bytes v utf8 it =
     (it.by_default.0, sorted v, record { utf8 = utf8; tree_read = it.by_default.1 }, it.by_default.2.means)

@@ -1,6 +1,7 @@
 mod Appending
 mod Causes
 mod Decoding
+mod DocumentErrors
 mod Dumps
 mod Elements
 mod Explained

@@ -1,17 +1,14 @@
 -- Documents by their bytes (BSON 1.1, bsonspec.org), and by their texts.
-use Rattle.std.specs.Prelude.{◌≡◌, ◌⊎◌, ◌≤◌, ℕ, List, [], ◌++◌, IsUtf8, Some, codes, false, true}
-use Rattle.std.specs.Fmt.{decimal}
+use Rattle.std.specs.Prelude.{◌≡◌, ◌⊎◌, ◌≤◌, ℕ, List, IsUtf8, Option, Some, None, false, true}
+use Rattle.bson.specs.Doubles.{Doubles}
+use Rattle.bson.specs.Doubles.TheVariants.{Special, Finite}
 use Rattle.bson.specs.Form.{Form}
 use Rattle.bson.specs.Form.TheVariants as form
 use Rattle.bson.specs.TextMeaning.{HasTextMeaningIn}
 use Rattle.bson.specs.Texts.{IsTextUnder, IsTextInOrder}
 use Rattle.bson.specs.declared.extjson.options.Options.{Options}
-use Rattle.bson_bytes.specs.declared.fault.FaultKind.{FaultKind}
-use Rattle.bson_codec.specs.Bytes.{reads}
 use Rattle.bson_codec.specs.Canonical.{Cause, zero_in_key, zero_in_regex, too_long}
-use Rattle.bson_codec.specs.Errors.{IsPlacedFault}
 use Rattle.bson_codec.specs.Laws.{IsRead}
-use Rattle.bson_codec.specs.Told.{words_for}
 use Rattle.bson_model.specs.Displayed.{display_text}
 use Rattle.bson_model.specs.Normal.{writable_in}
 use Rattle.bson_model.specs.Value.{Value, Pairs, document}
@@ -75,22 +72,6 @@ pub record HasNoText (o : Options) (number : ℕ) (bytes : List ℕ) : Type 0 wh
   pub read : IsRead depth bytes pairs
   pub unwritable : HasNoTextIn o mode pairs
 
--- ---- why bytes are no document
-
--- the number of bytes before the place of a fault, and words for what is wrong there
-abbrev pub words_at : ℕ → List ℕ → List ℕ
-words_at n words = codes "not a document at byte " ++ decimal n ++ codes " (" ++ words ++ codes ")"
-
--- no words for bytes that are a document, and else those for their first fault
-abbrev pub ExplainsDocument : List ℕ → List ℕ → Type 0
-ExplainsDocument bytes words =
-    (IsOneDocument bytes × (words ≡ []))
-    ⊎ ((k : FaultKind) × (n : ℕ) × IsPlacedFault k n bytes (reads depth bytes) × (words ≡ words_at n (words_for k)))
-
--- the text that is left has such words, which are UTF-8
-abbrev pub IsDocumentExplained : List ℕ → Text → Type 0
-IsDocumentExplained bytes out = (words : List ℕ) × ExplainsDocument bytes words × IsUtf8 words × IsText words out
-
 -- ---- from a text to bytes
 
 -- the text means the value, its keys in the order
@@ -115,6 +96,20 @@ abbrev pub HasNoBytes : KeyOrder → Options → Cause → List ℕ → Type 0
 HasNoBytes k o cause text = FailsFor (HasMeaningBy k o text) cause
 
 -- ---- for private clauses
+
+abbrev pub form_in : Mode → Option Form
+form_in Canonical = Some form.Canonical
+form_in Relaxed = Some form.Relaxed
+form_in Show = None
+
+abbrev pub form_under : Doubles → Mode → Option Form
+form_under Special mode = None
+form_under Finite mode = form_in mode
+
+-- the form in which a text is written while the bytes are read: with finite doubles, and with keys as given
+abbrev pub direct_form : KeyOrder → Options → Mode → Option Form
+direct_form Ascending o mode = None
+direct_form AsGiven o mode = form_under o.doubles mode
 
 -- what a status says of bytes that gave no text
 pub record IsUndecoded (o : Options) (mode : Mode) (status : ℕ) (bytes : List ℕ) : Type 0 where

@@ -1,6 +1,7 @@
 pub mod Buffer
 pub mod Builder
 pub mod Convert
+pub mod DocumentError
 pub mod Documents
 pub mod Dumps
 pub mod Explain

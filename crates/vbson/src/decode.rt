@@ -12,6 +12,7 @@ ghost use Rattle.vbson.specs.Documents.{Decodes, HasNoText, IsDecoded, IsOneDocu
 ghost use Rattle.vbson.specs.Documents.{HasNoTextIn, depth};
 
 use crate::convert::mode_of;
+use crate::direct::{decode_directly, direct_form};
 use crate::flags::{KeyOrder, has_others, options_of, order_of};
 use crate::status;
 use crate::text::{Text, as_line, text_of_line};
@@ -67,6 +68,24 @@ fn decode_document(
         × (line.items ≡ text ++ newline)) }
     ensures refused { IfErr result (λ status. IsUndecoded options mode status bytes.now) }
 {
+    match direct_form(order, options, mode) {
+        Some(form) => decode_directly(alloc, form, bytes),
+        None => decode_by_value(alloc, order, options, mode, bytes),
+    }
+}
+
+// The text in the mode, through a document in memory.
+fn decode_by_value(
+    alloc: Global,
+    order: KeyOrder,
+    options: Options,
+    mode: Mode,
+    bytes: &[u8],
+) -> Result<Vec<u8>, u32>
+    ensures ok { IfOk result (λ line. (text : List ℕ) × Decodes order options mode bytes.now text × IsUtf8 text
+        × (line.items ≡ text ++ newline)) }
+    ensures refused { IfErr result (λ status. IsUndecoded options mode status bytes.now) }
+{
     match from_slice(alloc, bytes, DEPTH) {
         Ok(document) => write_document(alloc, order, options, mode, document),
         Err(Error::Malformed { .. }) => Err(status::NOT_A_DOCUMENT),
@@ -105,8 +124,12 @@ fn write_document(
     }
 }
 
-// The text, and a newline.
-fn end_line(text: String) -> Result<Vec<u8>, u32>
+/// Returns the text, and a newline.
+///
+/// # Errors
+///
+/// - `OUT_OF_MEMORY`: an allocation failed.
+pub fn end_line(text: String) -> Result<Vec<u8>, u32>
     ensures ok { IfOk result (λ line. IsUtf8 (string_bytes text) × (line.items ≡ string_bytes text ++ newline)) }
     ensures refused { IfErr result (λ status. status ≡ 5) }
 {

@@ -25,17 +25,18 @@ use bson_place::place::{Reason, Segment};
 use bson_run::explain::Explanation;
 use std::alloc::{AllocError, Global};
 
-/// Why a text is refused, and where. The caller frees each text by `free`.
+/// Why a text or a document is rejected, and where. The caller frees each text by `free`.
 #[repr(C)]
 #[derive(Drop)]
 pub struct Rejection<'a> {
-    /// The status of the error, or `OK` if the text is accepted.
+    /// The status of the error, or `OK` if the input is accepted.
     pub code: u32,
     /// If the code is `NOT_JSON`, the line on which the text stops to be JSON, from 1; else 0.
     pub line: usize,
     /// The byte of the line there, from 1.
     pub column: usize,
-    /// How many bytes of the text are before that byte.
+    /// How many bytes of the text are before that byte. If the code is `NOT_A_DOCUMENT`, the number of
+    /// bytes before the first fault.
     pub offset: usize,
     /// The path to the invalid value: the bytes of an array of keys and indexes. It has no element
     /// if the error is that of the whole text.
@@ -143,17 +144,17 @@ fn line_at(alloc: Global, fault: &Error, place: &str) -> Result<Vec<u8>, AllocEr
 
 // What a struct is made of, without its message. The bytes end in a newline.
 #[derive(Drop)]
-struct Parts {
-    code: u32,
-    line: usize,
-    column: usize,
-    offset: usize,
-    path: Vec<u8>,
-    reason: Vec<u8>,
+pub(crate) struct Parts {
+    pub(crate) code: u32,
+    pub(crate) line: usize,
+    pub(crate) column: usize,
+    pub(crate) offset: usize,
+    pub(crate) path: Vec<u8>,
+    pub(crate) reason: Vec<u8>,
 }
 
 // The struct of these parts.
-fn filled(parts: Parts, message: Vec<u8>) -> Rejection<'static>
+pub(crate) fn filled(parts: Parts, message: Vec<u8>) -> Rejection<'static>
     requires { (0 < length parts.path.items) × (0 < length parts.reason.items) × (0 < length message.items) }
     ensures { IsMadeOf parts message.items result }
 {
@@ -186,7 +187,7 @@ fn parts_of(alloc: Global, found: &Explanation<'_>, text: &[u8]) -> Result<Parts
 }
 
 // The words, and a newline.
-fn line_of(alloc: Global, words: &str) -> Result<Vec<u8>, AllocError>
+pub(crate) fn line_of(alloc: Global, words: &str) -> Result<Vec<u8>, AllocError>
     ensures { IfOk result (λ line. line.items ≡ words.now ++ newline) }
 {
     let line = format!(in alloc; "{words}\n")?;

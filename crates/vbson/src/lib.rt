@@ -6,7 +6,8 @@
 //! any other number an out parameter is as it was, except where its call says more. In reading
 //! order: `status`, `flags`, `text` (a text that the caller has and frees) with `convert` (one text
 //! to another), `explain` (why a text is refused, and where) with `path` (the bytes of a path) and `lines` (a block of lines), `values` (two texts by what they
-//! mean), `documents` (whether bytes are a document of BSON) with `decode` (their text), `encode`
+//! mean), `documents` (whether bytes are a document of BSON) with `document_error` (why not), `decode`
+//! (their text) with `direct` (what needs no document in memory), `encode`
 //! (the bytes of a text) and `dump` (a block of documents), `raw` (values of documents that remain bytes), `builder` (documents in the
 //! caller's memory) with `append` (their elements), and `buffer` (a buffer of the caller's) with
 //! `scalars` (decimals, object ids, moments).
@@ -17,6 +18,8 @@ mod buffer;
 mod builder;
 mod convert;
 mod decode;
+mod direct;
+mod document_error;
 mod documents;
 mod dump;
 mod encode;

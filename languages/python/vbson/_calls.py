@@ -71,7 +71,7 @@ def loaded():
         "explain": [number, text, size, out(Error)], "same": [number, text, size, text, size],
         "hash": [number, text, size, out(ctypes.c_uint64)], "same_documents": [number, text, size, text, size],
         "hash_document": [number, text, size, out(ctypes.c_uint64)],
-        "is_document": [text, size], "explain_document": [text, size, out(Buffer)],
+        "is_document": [text, size], "explain_document": [number, text, size, out(Error)],
         "decode": [number, number, text, size, out(Buffer)], "encode": [number, text, size, out(Buffer)],
         "raw_get": [ctypes.c_void_p, size, text, size, out(RawValue)], "raw_elements": [ctypes.c_void_p, size, out(Slice)],
         "raw_next": [out(Slice), out(Slice), out(RawValue)],
@@ -148,17 +148,17 @@ def text_of(call, *arguments):
 
 
 class Explained:
-    """What vbson_explain found: its fields, as values of Python."""
+    """What vbson_explain or vbson_explain_document found: its fields, as values of Python."""
 
     def __init__(self, out):
         self.code, self.line, self.column, self.offset = out.code, out.line, out.column, out.offset
         self.path, self.reason, self.message = taken(out.path), taken(out.reason).decode(), taken(out.message).decode()
 
 
-def explained(flags, given):
-    """Returns the status of vbson_explain, and what it found; None if the status is not OK."""
+def explained(flags, given, name="explain"):
+    """Returns the status of the call of this name, which explains, and what it found; None if the status is not OK."""
     out = Error(0, 0, 0, 0, empty(), empty(), empty())
-    status = library.vbson_explain(flags, given, len(given), ctypes.byref(out))
+    status = getattr(library, f"vbson_{name}")(flags, given, len(given), ctypes.byref(out))
     return status, Explained(out) if status == OK else None
 
 

@@ -10,20 +10,20 @@ from .errors import Error
 NO_CHANGE = DOUBLES | KEEP_ORDER | LEGACY
 
 
-def of_bytes(document):
-    """Returns the error of bytes that are not a document, or that have a duplicate key."""
-    status, words = _calls.text_of(_calls.library.vbson_explain_document, document, len(document))
-    # (only bytes with a duplicate key have no words; without memory for the words, the error has no path)
-    if status == errors.OK and not words:
-        return errors.NotADocument("not a document (duplicate key)", "duplicate key")
-    return errors.of_bytes(words or "not a document", document)
+def of_bytes(document, flags=0):
+    """Returns the error of bytes that are not a document, or that have a duplicate key, which the flags reject."""
+    status, found = _calls.explained(flags | DOUBLES, document, "explain_document")
+    # (without memory for it, the error has no path)
+    if status != errors.OK or found.code != errors.NOT_A_DOCUMENT:
+        return errors.NotADocument("not a document")
+    return errors.of_bytes(found.reason, found.offset, document)
 
 
 def expect_documents(status, flags, *documents):
     """Raises the error of the first rejected document, if there is one."""
     if status == errors.NOT_A_DOCUMENT:
         hashed = ((it, _calls.hash_by(_calls.library.vbson_hash_document, flags, it)[0]) for it in documents)
-        raise of_bytes(next((it for it, found in hashed if found == status), b""))
+        raise of_bytes(next((it for it, found in hashed if found == status), b""), flags)
     errors.expect_ok(status)
 
 
@@ -49,9 +49,9 @@ def explain_document(document: Bytes, **options: bool) -> str:
     'not a document at byte 4 (ends too early)'
     """
     flags, given = flags_of(options, REJECT_DUPLICATE_KEYS, NO_CHANGE), document_bytes(document)
-    status, words = _calls.text_of(_calls.library.vbson_explain_document, given, len(given))
+    status, found = _calls.explained(flags | DOUBLES, given, "explain_document")
     errors.expect_ok(status)
-    return words if words or not flags or is_document(given, reject_duplicate_keys=True) else str(of_bytes(given))
+    return found.message
 
 
 def same_documents(a: Bytes, b: Bytes, **options: bool) -> bool:

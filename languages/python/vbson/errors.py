@@ -121,8 +121,7 @@ def expect_ok(status):
         raise of_status(status)
 
 
-# The message for bytes that are not a document, and the diagnostics of documents.
-_OF_BYTES = re.compile(r" at byte (\d+) \((.*)\)")
+# The diagnostics of documents.
 _OF_DOCUMENT = re.compile(r"document (\d+) at byte (\d+): (.*?)(?: at its byte (\d+))?")
 
 
@@ -156,12 +155,9 @@ def of_lines(diagnostics, block, error_of):
     return refused
 
 
-def of_bytes(words, document):
-    """Returns the error of bytes that are not a document, from the words of `explain_document`."""
-    found = _OF_BYTES.fullmatch(words.removeprefix("not a document"))
-    if not found:
-        return NotADocument(words)
-    return NotADocument(words, found[2], _paths.at_offset(document, int(found[1])), offset=int(found[1]))
+def of_bytes(reason, offset, document):
+    """Returns the error of bytes that are not a document, from what is wrong at an offset."""
+    return NotADocument(f"not a document at byte {offset} ({reason})", reason, _paths.at_offset(document, offset), offset=offset)
 
 
 def of_double(document, hidden=0):
@@ -178,7 +174,7 @@ def of_documents(diagnostics, block):
         number, start, reason, offset = _OF_DOCUMENT.fullmatch(diagnostic).groups()
         length = int.from_bytes(block[int(start):int(start) + 4], "little")
         document = block[int(start):int(start) + length]
-        error = of_double(document) if offset is None else of_bytes(f"not a document at byte {offset} ({reason})", document)
+        error = of_double(document) if offset is None else of_bytes(reason, int(offset), document)
         refused.append((int(number), int(start), error))
     return refused
 

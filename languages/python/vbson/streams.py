@@ -42,17 +42,17 @@ def _checked(kinds, is_strict, block, number, start):
     for index in range(len(found) if is_strict else 0):
         end = at + _length(block[at:at + 4])
         if not documents.is_document(block[at:end], reject_duplicate_keys=True):
-            return found[:index], at, _rejected(block[at:end], number + index, start + at)
+            return found[:index], at, _rejected(block[at:end], number + index, start + at, REJECT_DUPLICATE_KEYS)
         at = end
     is_left = used < len(block) and not _is_cut(block, used)
     return found, used, _rejected(block[used:], number + len(found), start + used) if is_left else None
 
 
-def _rejected(block, number, start):
-    """Returns the error of the document at the beginning of a block."""
+def _rejected(block, number, start, flags=0):
+    """Returns the error of the document at the beginning of a block, under the flags."""
     length = _length(block)
     document = block[:length] if 5 <= length <= len(block) else block
-    return errors.in_dump(documents.of_bytes(bytes(document)), number, start)
+    return errors.in_dump(documents.of_bytes(bytes(document), flags), number, start)
 
 
 def loads_documents(data: Bytes, types: str = "plain", object_hook: _Hook = None, **options: bool) -> List[Any]:

@@ -77,7 +77,7 @@ extern "C" {
     fn vbson_same(flags: u32, a: *const u8, a_len: usize, b: *const u8, b_len: usize) -> u32;
     fn vbson_hash(flags: u32, text: *const u8, len: usize, out: *mut u64) -> u32;
     fn vbson_is_document(bytes: *const u8, len: usize) -> u32;
-    fn vbson_explain_document(bytes: *const u8, len: usize, out: *mut RawText) -> u32;
+    fn vbson_explain_document(flags: u32, bytes: *const u8, len: usize, out: *mut RawError) -> u32;
     fn vbson_same_documents(flags: u32, a: *const u8, a_len: usize, b: *const u8, b_len: usize) -> u32;
     fn vbson_hash_document(flags: u32, bytes: *const u8, len: usize, out: *mut u64) -> u32;
     fn vbson_decode(mode: u32, flags: u32, bytes: *const u8, len: usize, out: *mut RawText) -> u32;
@@ -212,11 +212,8 @@ pub fn convert_with(mode: u32, flags: u32, text: &[u8]) -> Result<RawText, Error
 
 /// Its three texts in blocks of their own, as above.
 pub fn explain(flags: u32, text: &[u8]) -> Result<RawError, ErrorKind> {
-    wants_processor();
-    let mut out = RawError { code: OK, line: 0, column: 0, offset: 0, path: none(), reason: none(), message: none() };
     // SAFETY: the slice is readable, and `out` is a valid struct that overlaps nothing.
-    expect_ok(unsafe { vbson_explain(flags, text.as_ptr(), text.len(), &mut out) })?;
-    Ok(out)
+    explained(|out| unsafe { vbson_explain(flags, text.as_ptr(), text.len(), out) })
 }
 
 pub fn is_document(bytes: &[u8]) -> bool {
@@ -225,10 +222,18 @@ pub fn is_document(bytes: &[u8]) -> bool {
     unsafe { vbson_is_document(bytes.as_ptr(), bytes.len()) == OK }
 }
 
-/// The words in a block of their own, as above.
-pub fn explain_document(bytes: &[u8]) -> Result<RawText, ErrorKind> {
+/// Its three texts in blocks of their own, as above.
+pub fn explain_document(flags: u32, bytes: &[u8]) -> Result<RawError, ErrorKind> {
     // SAFETY: as above.
-    left(|out| unsafe { vbson_explain_document(bytes.as_ptr(), bytes.len(), out) })
+    explained(|out| unsafe { vbson_explain_document(flags, bytes.as_ptr(), bytes.len(), out) })
+}
+
+/// What a call left that explains.
+fn explained(call: impl FnOnce(*mut RawError) -> u32) -> Result<RawError, ErrorKind> {
+    wants_processor();
+    let mut out = RawError { code: OK, line: 0, column: 0, offset: 0, path: none(), reason: none(), message: none() };
+    expect_ok(call(&mut out))?;
+    Ok(out)
 }
 
 /// The text in a block of its own, as above.

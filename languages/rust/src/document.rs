@@ -37,7 +37,7 @@ pub fn is_document(bytes: &[u8]) -> bool {
 /// assert_eq!(vbson::explain_document(b"\x05\0\0\0\0"), None);
 /// ```
 pub fn explain_document(bytes: &[u8]) -> Option<Error> {
-    of_document(bytes)
+    of_document(0, bytes)
 }
 
 /// Compares two documents. The order of their keys doesn't matter.
@@ -63,13 +63,11 @@ pub fn hash_document(options: ReadOptions, bytes: &[u8]) -> Result<u64, Error> {
     call::hash_document(options.flags(), bytes).map_err(|kind| rejected(kind, options, &[bytes]))
 }
 
-/// The error of the first rejected document. Only a duplicate key is rejected without a message.
+/// The error of the first rejected document.
 fn rejected(kind: ErrorKind, options: ReadOptions, documents: &[&[u8]]) -> Error {
     let is_rejected = |it: &&&[u8]| call::hash_document(options.flags(), it) == Err(ErrorKind::NotADocument);
     match documents.iter().find(is_rejected) {
-        Some(it) if kind == ErrorKind::NotADocument => {
-            of_document(it).unwrap_or_else(|| Error::new(kind, "not a document (duplicate key)", "duplicate key"))
-        }
+        Some(it) if kind == ErrorKind::NotADocument => of_document(options.flags(), it).unwrap_or_else(|| kind.into()),
         _ => kind.into(),
     }
 }
@@ -87,7 +85,7 @@ fn rejected(kind: ErrorKind, options: ReadOptions, documents: &[&[u8]]) -> Error
 /// - `OutOfMemory` if an allocation fails.
 pub fn decode(mode: Mode, options: Options, bytes: &[u8]) -> Result<Text, Error> {
     call::decode(mode as u32, options.flags(), bytes).map(owned).map_err(|kind| match kind {
-        ErrorKind::NotADocument => of_document(bytes).unwrap_or_else(|| kind.into()),
+        ErrorKind::NotADocument => of_document(0, bytes).unwrap_or_else(|| kind.into()),
         ErrorKind::NotRepresentable => of_double(bytes),
         _ => kind.into(),
     })

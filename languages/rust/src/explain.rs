@@ -1,6 +1,6 @@
 //! The errors of rejected input, as the library reports them.
 use crate::block::Block;
-use crate::call::{self, RawText};
+use crate::call;
 use crate::error::{Error, ErrorKind};
 use crate::path::{self, Path, PathElement};
 use crate::text::owned;
@@ -69,28 +69,24 @@ fn number_of(diagnostic: &str) -> Option<u64> {
     diagnostic.strip_prefix("bson: line ")?.split_once(':')?.0.parse().ok()
 }
 
-fn words_of(explained: Result<RawText, ErrorKind>) -> Option<String> {
-    explained.ok().map(|it| owned(it).to_string())
-}
-
-/// The error of bytes that are not a document; `None` if they are one. If memory runs out, the error has no offset.
-pub(crate) fn of_document(bytes: &[u8]) -> Option<Error> {
-    match words_of(call::explain_document(bytes)) {
-        Some(words) if words.is_empty() => None,
-        Some(words) => Some(of_bytes(&words, bytes)),
-        None if call::is_document(bytes) => None,
-        None => Some(ErrorKind::NotADocument.into()),
+/// The error of bytes that are not a document, or that have a duplicate key, which the flags reject; `None` if they have no
+/// such error. If memory runs out, the error has no offset.
+pub(crate) fn of_document(flags: u32, bytes: &[u8]) -> Option<Error> {
+    match call::explain_document(flags | call::DOUBLES, bytes) {
+        Ok(found) => {
+            let (_path, reason, _message) = (Block::of(found.path), owned(found.reason), owned(found.message));
+            call::kind_of(found.code).map(|_| of_bytes(&reason, found.offset, bytes))
+        }
+        Err(_) if call::hash_document(flags, bytes) == Err(ErrorKind::NotADocument) => Some(ErrorKind::NotADocument.into()),
+        Err(_) => None,
     }
 }
 
-/// The error of bytes, of the message `not a document at byte 4 (ends too early)`.
-fn of_bytes(words: &str, bytes: &[u8]) -> Error {
-    let place = words.strip_prefix("not a document at byte ").and_then(|it| it.split_once(" ("));
-    let reason = place.and_then(|it| it.1.strip_suffix(')')).unwrap_or("");
-    let offset = place.and_then(|it| it.0.parse().ok());
-    Error::new(ErrorKind::NotADocument, words, reason).with(|it| {
-        it.offset = offset;
-        it.path = offset.map(|it| path::at_offset(bytes, it as usize)).unwrap_or_default();
+/// The error of bytes that are not a document, from what is wrong at an offset.
+fn of_bytes(reason: &str, offset: usize, bytes: &[u8]) -> Error {
+    Error::new(ErrorKind::NotADocument, format!("not a document at byte {offset} ({reason})"), reason).with(|it| {
+        it.offset = Some(offset as u64);
+        it.path = path::at_offset(bytes, offset);
     })
 }
 
@@ -125,7 +121,7 @@ fn refused_document(diagnostic: &str, block: &[u8]) -> Option<RefusedDocument> {
     let length = rest.get(..4).map(|it| u32::from_le_bytes(it.try_into().expect("four bytes")) as usize);
     let document = &rest[..length.unwrap_or(0).min(rest.len())];
     let error = match words.rsplit_once(" at its byte ") {
-        Some((reason, at)) => of_bytes(&format!("not a document at byte {at} ({reason})"), document),
+        Some((reason, at)) => of_bytes(reason, at.parse().ok()?, document),
         None => of_double(document),
     };
     Some(RefusedDocument { number: number.parse().ok()?, start, error })

@@ -199,7 +199,8 @@ fn documents_are_compared_by_their_bytes() {
     assert_eq!(hash_document(options, twice), hash(options, br#"{"b":6}"#));
     let strict = ReadOptions { reject_duplicate_keys: true, ..options };
     let error = same_documents(strict, twice, &one[..9]).unwrap_err();
-    assert_eq!((error.kind(), error.path().len(), error.reason()), (ErrorKind::NotADocument, 0, "duplicate key"));
+    assert_eq!((error.kind(), error.offset(), error.reason()), (ErrorKind::NotADocument, Some(12), "duplicate key"));
+    assert_eq!(error.path()[..], ["b".into()]);
     assert_eq!(hash_document(strict, twice), Err(error));
     assert_eq!(same_documents(strict, &one, &other), Ok(true));
 }

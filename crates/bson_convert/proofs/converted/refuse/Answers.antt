@@ -1,22 +1,14 @@
-use Rattle.std.proofs.Common.{◌≡◌, sym, subst, arith}
-use Rattle.std.proofs.lemmas.Result.{on_ok_weaker}
-use Rattle.std.specs.Prelude.{IsUtf8, string_bytes}
-use Rattle.serde_json.specs.Read.{read}
-use Rattle.bson_tokens.proofs.Offered.{if_err}
-use Rattle.bson_convert.proofs.Arranged.{accepted_alike, refused_alike}
+use Rattle.std.proofs.Common.{arith, subst}
+use Rattle.std.specs.Prelude.{IsUtf8}
+use Rattle.bson_model.proofs.Offered.{means_from_in}
+use Rattle.bson_tokens.specs.Told.{IsTextPlaceIn}
 use Rattle.bson_convert.proofs.converted.refuse.Goals as goal
 
-pub returns : goal.returns
-returns c =
+pub returns-in-Ok-None-clause-ok : goal.returns-in-Ok-None-clause-ok
+returns-in-Ok-None-clause-ok c =
+    let D = c.args.options.doubles in
     let text = c.args.text.now in
-    let arranged = c.as_str.result.now in
-    let whole : arranged ≡ string_bytes c.in_ok-arranged.arranged = grind arith in
-    let same = subst (λ s. read s ≡ read text) (sym whole) c.in_ok-arranged.ensures.same in
     let utf8 : IsUtf8 text = grind arith in
-    let valid : IsUtf8 arranged = grind arith in
-    record {
-      ok = on_ok_weaker c.refuse_arranged.result (accepted_alike c.args.options text arranged utf8 same)
-          c.refuse_arranged.ensures.ok;
-      fault = if_err c.refuse_arranged.result c.refuse_arranged.ensures.fault
-          (λ f is. refused_alike c.args.options text arranged utf8 same f valid is);
-    }
+    let found = subst (IsTextPlaceIn D text) c.in-Ok-None.field-0-is c.in-Ok-None.ensures.place in
+    let read = means_from_in D found.0 found.2.0 found.2.1 in
+    (found.0, found.2.0, record { utf8 = utf8; tree_read = found.1 }, read)

@@ -1,4 +1,4 @@
-use Rattle.std.proofs.Common.{◌≡◌, suc, ◌∷◌, [], drop, get_or, map, option_map, false, sym, subst, arith, add-one, refl}
+use Rattle.std.proofs.Common.{◌≡◌, suc, ◌∷◌, [], drop, get_or, map, option_map, sym, subst, arith, add-one, refl}
 use Rattle.std.proofs.Math.Seq.{drop-cons}
 use Rattle.std.proofs.lemmas.List.{drop_all}
 use Rattle.bson_filter.specs.Pieces.{KeysAscend}

@@ -3,6 +3,7 @@ use Rattle.json.specs.Json.{value, items, members, members_step}
 use Rattle.bson_filter.specs.Walked.{from_key}
 use Rattle.bson_filter.proofs.Objects.{Key}
 use Rattle.bson_filter.proofs.Walking.{ItemsToGo, ToGo}
+use Rattle.bson_filter.proofs.Faults.{ItemsFrom, MembersFrom}
 use Rattle.bson_filter.proofs.Denials.{ItemsStill, MembersStill}
 use Rattle.bson_filter.proofs.walk.+walk.Given as goal
 
@@ -34,6 +35,8 @@ invariant-write_array-items g l = (length l.reader ≤ length l.initial.reader)
     × ItemsToGo l.doubles g.W.ValueWriter.wrote g.W.ValueWriter.name_of
     (items (value l.depth) (length l.initial.reader) l.initial.reader) (items (value l.depth) n l.reader) l.place
     l.initial.out l.out
+    × ItemsFrom l.doubles (items (value l.depth) (length l.initial.reader) l.initial.reader)
+    (items (value l.depth) n l.reader) l.place
     × ItemsStill l.doubles (g.W.ValueWriter.leaves l.doubles) g.W.ValueWriter.sorts (items (value l.depth) (length l.initial.reader) l.initial.reader)
     (items (value l.depth) n l.reader)
 
@@ -48,6 +51,9 @@ invariant-write_document-members g l = (length l.reader ≤ length l.initial.rea
     (from_key l.depth (option_map (λ s. s.now) l.first) l.initial.reader)
     (members_step (value l.depth) (members (value l.depth) n) (option_map (λ s. s.now) l.next) l.reader)
     ks l.initial.out l.out
+    × MembersFrom l.doubles l.is_document
+    (from_key l.depth (option_map (λ s. s.now) l.first) l.initial.reader)
+    (members_step (value l.depth) (members (value l.depth) n) (option_map (λ s. s.now) l.next) l.reader)
     × MembersStill l.doubles (g.W.ValueWriter.leaves l.doubles) g.W.ValueWriter.sorts l.is_document
     (from_key l.depth (option_map (λ s. s.now) l.first) l.initial.reader)
     (members_step (value l.depth) (members (value l.depth) n) (option_map (λ s. s.now) l.next) l.reader)

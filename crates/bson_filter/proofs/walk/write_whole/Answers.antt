@@ -8,6 +8,9 @@ use Rattle.bson_filter.specs.Walked.{TreeMeans}
 use Rattle.bson_filter.proofs.Objects.{last_read}
 use Rattle.std.proofs.lemmas.Result.{err_from_is_err_and}
 use Rattle.bson_filter.specs.Exact.{ValueDenied}
+use Rattle.bson_filter.specs.Placed.{ValuePlaced}
+use Rattle.bson_filter.proofs.Passing.{at_map}
+use Rattle.bson_filter.proofs.Wrapped.{first_fault}
 use Rattle.bson_filter.proofs.TextDenials.{more_behind}
 use Rattle.bson_filter.proofs.walk.write_whole.Goals as goal
 
@@ -37,3 +40,11 @@ returns-then-is_some-clause-stops g c =
     let here = subst (λ ts. converted kept (value 127 ts) ≡ Some (t, rest)) c.in_ok-reader.ensures.ok read in
     let more : rest ≡ [] → ⊥ = λ empty. grind arith in
     λ j is d. more_behind (value 127 (tokens c.args.text.now)) t rest j here more is
+
+pub returns-in_err-write_first-clause-placed : goal.returns-in_err-write_first-clause-placed
+returns-in_err-write_first-clause-placed g c =
+    let e = c.in_err-write_first.field-0.0 in
+    let p = err_from_is_err_and c.from_residual-in_err-write_first.result c.from_residual-in_err-write_first.ensures.1 in
+    rw (p.1, p.2) (at_map e _ _ (λ place at j t is rise of. first_fault c.args.doubles t place (at j [] t is rise of).1)
+    (subst (λ ts. ValuePlaced c.args.doubles e (value 127 ts) c.write_first.new.reader) c.in_ok-reader.ensures.ok
+    c.in_err-write_first.ensures.placed))

@@ -1,33 +1,46 @@
-use Rattle.std.proofs.Common.{◌≡◌, None, ap, arith, length, map, string_bytes, subst, sym, take}
+use Rattle.std.proofs.Common.{◌≡◌, ◌∙◌, None, ap, arith, inr, length, map, string_bytes, subst, sym, take}
 use Rattle.std.proofs.lemmas.List.{length-map, take_all}
 use Rattle.std.specs.List.{Contains}
 use Rattle.std.specs.Option.{IfSome}
-use Rattle.bson_lines.specs.Order.{AreGiven, none}
+use Rattle.bson_lines.specs.Order.{none, AreGiven, IsBehind, IsRefused}
 use Rattle.bson_run.specs.Words.{task_name}
 use Rattle.bson_lines.specs.declared.arguments.Given.{Given}
-use Rattle.bson_lines.proofs.Asking.{answer, former_there, help_there, more_given, still_there, version_there, word_there}
+use Rattle.bson_lines.proofs.Asking.{answer, behind, help_behind, more_given, refused_behind, still_there, version_there}
+use Rattle.bson_lines.proofs.Asking.{word_there}
 use Rattle.bson_lines.proofs.order.parse_arguments.Goals as goal
 
 pub returns-in-Help : goal.returns-in-Help
 returns-in-Help c =
     let words = map string_bytes c.args.words.items in
-    let there = word_there string_bytes c.args.words.items c.deref-word-items.result.now _ _ _
-    c.deref-word-items.ensures.value (omega arith) c.word-item.is c.as_str.ensures.value in
-    help_there words c.as_str.result.now c.in_ok-take.field-0 there c.in_ok-take.ensures.help c.in-Help.is
+    let there = behind string_bytes c.args.words.items c.deref-word-items.result.now _ _ _ c.loop-word.given
+    c.deref-word-items.ensures.value (omega arith) c.word-item.is c.as_str.ensures.value c.loop-word.invariant.given in
+    help_behind words c.loop-word.given c.as_str.result.now c.in_ok-take.field-0 _ there c.in_ok-take.ensures.taken c.in-Help.is
+    c.command-command.ensures
 
 pub returns-in-Version : goal.returns-in-Version
 returns-in-Version c =
     let words = map string_bytes c.args.words.items in
     let there = word_there string_bytes c.args.words.items c.deref-word-items.result.now _ _ _
     c.deref-word-items.ensures.value (omega arith) c.word-item.is c.as_str.ensures.value in
-    version_there words c.as_str.result.now c.in_ok-take.field-0 there c.in_ok-take.ensures.help c.in-Version.is
+    version_there words c.as_str.result.now c.loop-word.given c.in_ok-take.field-0 there c.in_ok-take.ensures.taken c.in-Version.is
 
-pub returns-in-Former : goal.returns-in-Former
-returns-in-Former c =
+pub returns-in-Wrong : goal.returns-in-Wrong
+returns-in-Wrong c =
     let words = map string_bytes c.args.words.items in
-    let there = word_there string_bytes c.args.words.items c.deref-word-items.result.now _ _ _
-    c.deref-word-items.ensures.value (omega arith) c.word-item.is c.as_str.ensures.value in
-    former_there words c.as_str.result.now c.in_ok-take.field-0 there c.in_ok-take.ensures.help c.in-Former.is
+    let given = c.loop-word.given in
+    let there = behind string_bytes c.args.words.items c.deref-word-items.result.now _ _ _ given
+    c.deref-word-items.ensures.value (omega arith) c.word-item.is c.as_str.ensures.value c.loop-word.invariant.given in
+    let same : string_bytes c.in_ok-word-in-Wrong.word ≡ c.as_str.result.now =
+    c.in_ok-word-in-Wrong.ensures.ok ∙ c.as_str-in-Wrong.ensures.value ∙ sym c.as_str.ensures.value in
+    let refused = refused_behind words given c.as_str.result.now c.in_ok-take.field-0 c.in-Wrong.misuse
+    c.in_ok-take.ensures.taken c.in-Wrong.is in (
+      given,
+      c.command-command.ensures,
+      inr (
+        subst (IsBehind words given) (sym same) there,
+        subst (λ word. IsRefused given word c.in-Wrong.misuse) (sym same) refused,
+      ),
+    )
 
 pub loop-word-preserved : goal.loop-word-preserved
 loop-word-preserved c =

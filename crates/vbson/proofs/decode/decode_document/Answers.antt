@@ -1,25 +1,31 @@
-use Rattle.std.proofs.Common.{◌⊎◌, ◌≡◌}
-use Rattle.std.proofs.lemmas.Result.{IfErr-weaker}
-use Rattle.bson.specs.View.{document_view}
-use Rattle.vbson.proofs.Decoding.{no_document, undecoded}
-use Rattle.vbson.specs.Documents.{HasNoTextIn, IsUndecoded}
+use Rattle.std.proofs.Common.{◌≡◌, ◌⊎◌, ◌++◌, List, ℕ, Some, IsUtf8}
+use Rattle.std.proofs.lemmas.Result.{IfErr-weaker, IfOk-weaker}
+use Rattle.bson_codec.specs.Texts.{IsTextOf}
+use Rattle.bson_convert.specs.Convert.{newline}
+use Rattle.vbson.proofs.Decoding.{directly, unread}
+use Rattle.vbson.specs.Documents.{Decodes, IsOneDocument, IsUndecoded, depth, direct_form}
 use Rattle.vbson.proofs.decode.decode_document.Goals as goal
 
-pub returns-in-Ok-clause-refused : goal.returns-in-Ok-clause-refused
-returns-in-Ok-clause-refused c =
+pub returns-in-Some-clause-ok : goal.returns-in-Some-clause-ok
+returns-in-Some-clause-ok c =
+    let k = c.args.order in
     let o = c.args.options in
     let mode = c.args.mode in
-    let ps = document_view c.in-Ok.document in
-    IfErr-weaker c.write_document.result (λ status. (status ≡ 5) ⊎ ((status ≡ 7) × HasNoTextIn o mode ps))
-    (λ status. IsUndecoded o mode status c.args.bytes.now)
-    (λ status h. undecoded o mode status c.args.bytes.now ps c.in-Ok.ensures.ok
-    (λ qs read. (c.in-Ok.ensures.only qs read).0) h)
-    c.write_document.ensures.refused
+    let f = c.in-Some.form in
+    let bytes = c.args.bytes.now in
+    let given : direct_form k o mode ≡ Some f = cc in
+    IfOk-weaker c.decode_directly.result
+    (λ line. (text : List ℕ) × IsTextOf f depth bytes text × IsUtf8 text × (line.items ≡ text ++ newline))
+    (λ line. (text : List ℕ) × Decodes k o mode bytes text × IsUtf8 text × (line.items ≡ text ++ newline))
+    (λ line is. (is.0, directly k o mode f bytes is.0 given is.1, is.2, is.3))
+    c.decode_directly.ensures.ok
 
--- reading gave a fault, and did not run out of memory
-pub returns-in-Err-Malformed-clause-refused : goal.returns-in-Err-Malformed-clause-refused
-returns-in-Err-Malformed-clause-refused c =
-    no_document c.args.options c.args.mode c.args.bytes.now (λ h.
-    let only = (c.in-Err-Malformed.ensures.only h.0 h.1).1 in
-    let is = c.in-Err-Malformed.field-0-is in
-    absurd cc)
+pub returns-in-Some-clause-refused : goal.returns-in-Some-clause-refused
+returns-in-Some-clause-refused c =
+    let o = c.args.options in
+    let mode = c.args.mode in
+    let bytes = c.args.bytes.now in
+    IfErr-weaker c.decode_directly.result (λ status. (status ≡ 5) ⊎ ((status ≡ 10) × (IsOneDocument bytes → ⊥)))
+    (λ status. IsUndecoded o mode status bytes)
+    (λ status h. unread o mode status bytes h)
+    c.decode_directly.ensures.refused

@@ -1,6 +1,6 @@
 -- What each stop denies.
-use Rattle.std.proofs.Common.{◌≡◌, ◌-◌, ◌+◌, ◌++◌, [], ◌∷◌, length, option_map, Some, sym, ap, ◌∙◌, arith}
-use Rattle.std.proofs.Common.{subst, take, drop, take_all, length-drop, codes, ◌&&◌, true, false, bytes_eq, is_some, None}
+use Rattle.std.proofs.Common.{◌≡◌, ◌-◌, ◌++◌, [], ◌∷◌, length, option_map, Some, sym, ap, ◌∙◌, arith}
+use Rattle.std.proofs.Common.{take, drop, take_all, length-drop, codes, ◌&&◌, true, false, bytes_eq, is_some, None}
 use Rattle.std.proofs.Common.{List, ℕ}
 use Rattle.json.specs.Token.{Token}
 use Rattle.json.specs.Json.{after_end_array, read_key, value}
@@ -8,12 +8,7 @@ use Rattle.json.proofs.Grammar.{value_is}
 use Rattle.json.specs.Reads.{token_of}
 use Rattle.serde_json.specs.View.{view}
 use Rattle.bson_scalar.specs.Table.{wrapper_of}
-use Rattle.bson_scalar.specs.Faults.{Gives}
-use Rattle.bson_scalar.specs.Reading.{single_in}
-use Rattle.bson_scalar.specs.Scalar.{code}
-use Rattle.bson_scalar.specs.View.{scalar_view}
 use Rattle.bson_order.specs.Kept.{kept}
-use Rattle.bson_filter.proofs.Sorting.{was_ok}
 use Rattle.bson_filter.proofs.Objects.{Key, pushed, texts, begins}
 use Rattle.std.proofs.lemmas.Result.{err_from_is_err_and}
 use Rattle.json.specs.Json as json
@@ -29,9 +24,12 @@ use Rattle.bson_filter.proofs.CodeDenials.{number_denied, array_denied, object_d
 use Rattle.bson_filter.specs.Parts.{scope_token}
 use Rattle.bson_filter.specs.declared.stop.Stop.TheVariants as stop
 use Rattle.json.proofs.Grammar.{members_no_key}
+use Rattle.bson_filter.specs.Stops.{read_stop}
+use Rattle.bson_filter.proofs.Becoming.{items_became, object_became, members_became, code_became}
+use Rattle.bson_filter.proofs.Scopes.{err_of}
 use Rattle.bson_filter.proofs.walk.+walk.Goals.{write_object-in-Ok, write_object-in-Err}
 use Rattle.bson_filter.proofs.walk.+walk.Goals.{write_object-in-Some-first+in_default-wrapper_named, write_object-in_default-first}
-use Rattle.bson_filter.proofs.Parsed.{was_err, nothing_begins}
+use Rattle.bson_filter.proofs.Parsed.{nothing_begins}
 use Rattle.bson_filter.proofs.walk.+walk.Goals as goal
 
 -- the keys of the document that ends
@@ -43,14 +41,14 @@ own_keys old ks all held is at =
 
 -- ---- where it stops
 
-pub write_array-returns-in_err-write_value-clause-stops : goal.write_array-returns-in_err-write_value-clause-stops
-write_array-returns-in_err-write_value-clause-stops g t c =
+pub write_array-returns-in-Err-clause-stops : goal.write_array-returns-in-Err-clause-stops
+write_array-returns-in-Err-clause-stops g t c =
     let l = c.items in
     let going : (after_end_array l.reader ≡ None) × (c.take_end_array.new.self ≡ l.reader) = grind arith in
-    let p = err_from_is_err_and c.from_residual-in_err-write_value.result c.from_residual-in_err-write_value.ensures.1 in
-    rw (p.1, p.2) (items_stopped c.args.doubles (g.W.ValueWriter.leaves c.args.doubles) g.W.ValueWriter.sorts _ _ _ l.invariant.5
-    (item_stopped c.args.doubles (g.W.ValueWriter.leaves c.args.doubles) g.W.ValueWriter.sorts _ (value c.args.depth) l.invariant.2 l.reader going.0
-    (rw (← going.1) c.in_err-write_value.ensures.stops)))
+    items_became c.args.doubles (g.W.ValueWriter.leaves c.args.doubles) g.W.ValueWriter.sorts c.in-Err.stop c.in_element.result _ c.in_element.ensures.kind
+    (items_stopped c.args.doubles (g.W.ValueWriter.leaves c.args.doubles) g.W.ValueWriter.sorts c.in-Err.stop _ _ l.invariant.6
+    (item_stopped c.args.doubles (g.W.ValueWriter.leaves c.args.doubles) g.W.ValueWriter.sorts c.in-Err.stop (value c.args.depth) l.invariant.2 l.reader going.0
+    (rw (← going.1) c.in-Err.ensures.stops)))
 
 pub write_array-returns-in_err-place-clause-stops : goal.write_array-returns-in_err-place-clause-stops
 write_array-returns-in_err-place-clause-stops g t c =
@@ -68,14 +66,13 @@ write_code-returns-in_err-end_object-in-Null-clause-stops g t c =
     (ap (value c.args.depth) is ∙ value_is c.args.depth (Token.null ∷ c.read_scope.new.reader))
     c.in_err-end_object-in-Null.ensures.stops)
 
-pub write_code-returns-in_err-write_scope-in-Object-clause-stops : goal.write_code-returns-in_err-write_scope-in-Object-clause-stops
-write_code-returns-in_err-write_scope-in-Object-clause-stops g t c =
+pub write_code-returns-in-Err-clause-stops : goal.write_code-returns-in-Err-clause-stops
+write_code-returns-in-Err-clause-stops g t c =
     let is : c.args.reader.now ≡ Token.begin_object ∷ c.read_scope.new.reader =
     c.in_ok-scope.ensures.ok ∙ ap (λ k. scope_token k ∷ c.read_scope.new.reader) c.in-Object.is in
-    let back = c.from_residual-in_err-write_scope-in-Object in
-    let p = err_from_is_err_and back.result back.ensures.1 in
-    rw (p.1, p.2) (scope_denied c.args.doubles (g.W.ValueWriter.leaves c.args.doubles) g.W.ValueWriter.sorts _ c.args.is_behind c.args.depth c.args.reader.now c.read_scope.new.reader is
-    c.in_err-write_scope-in-Object.ensures.stops)
+    code_became c.args.doubles (g.W.ValueWriter.leaves c.args.doubles) g.W.ValueWriter.sorts c.in-Err.stop c.in_scope.result c.args.is_behind _ c.in_scope.ensures.kind
+    (scope_denied c.args.doubles (g.W.ValueWriter.leaves c.args.doubles) g.W.ValueWriter.sorts c.in-Err.stop c.args.is_behind c.args.depth c.args.reader.now c.read_scope.new.reader is
+    c.in-Err.ensures.stops)
 
 pub write_code-returns-in_err-end_object-in-Object-clause-stops : goal.write_code-returns-in_err-end_object-in-Object-clause-stops
 write_code-returns-in_err-end_object-in-Object-clause-stops g t c =
@@ -84,29 +81,28 @@ write_code-returns-in_err-end_object-in-Object-clause-stops g t c =
     let back = c.from_residual-in_err-end_object-in-Object in
     let p = err_from_is_err_and back.result back.ensures.1 in
     let j = scope_parsed c.args.doubles (g.W.ValueWriter.leaves c.args.doubles) g.W.ValueWriter.sorts c.args.depth c.args.reader.now c.read_scope.new.reader c.write_scope.new.reader _ is
-    c.in_ok-write_scope-in-Object.ensures.ok in
+    c.in-Ok.ensures.ok in
     rw (p.1, p.2) (end_denied c.args.doubles (g.W.ValueWriter.leaves c.args.doubles) g.W.ValueWriter.sorts _ c.args.is_behind c.args.depth c.args.reader.now c.write_scope.new.reader j.0 j.1
     c.in_err-end_object-in-Object.ensures.stops)
 
-pub write_document-returns-then-is_misplaced-clause-stops : goal.write_document-returns-then-is_misplaced-clause-stops
-write_document-returns-then-is_misplaced-clause-stops g t c =
+pub write_document-returns-in-Some-misplaced-clause-stops : goal.write_document-returns-in-Some-misplaced-clause-stops
+write_document-returns-in-Some-misplaced-clause-stops g t c =
     let l = c.members in
     let k = c.in-Some.key in
     let bad : (c.args.is_document && is_some (wrapper_of k.now)) ≡ true = grind arith in
     let is : l.next ≡ Some k = grind arith in
-    members_stopped c.args.doubles (g.W.ValueWriter.leaves c.args.doubles) g.W.ValueWriter.sorts stop.Fault c.args.is_document _ _ (rw is at l.invariant.6)
-    (misplaced c.args.doubles (g.W.ValueWriter.leaves c.args.doubles) g.W.ValueWriter.sorts c.args.is_document (value c.args.depth) _ k.now l.reader bad)
+    members_became c.args.doubles (g.W.ValueWriter.leaves c.args.doubles) g.W.ValueWriter.sorts stop.Syntax c.beside.result c.args.is_document _ c.beside.ensures.kind
+    (members_stopped c.args.doubles (g.W.ValueWriter.leaves c.args.doubles) g.W.ValueWriter.sorts stop.Syntax c.args.is_document _ _ (rw is at l.invariant.7)
+    (misplaced c.args.doubles (g.W.ValueWriter.leaves c.args.doubles) g.W.ValueWriter.sorts c.args.is_document (value c.args.depth) _ k.now l.reader bad))
 
-pub write_document-returns-in_err-write_value-clause-stops : goal.write_document-returns-in_err-write_value-clause-stops
-write_document-returns-in_err-write_value-clause-stops g t c =
+pub write_document-returns-in-Err-clause-stops : goal.write_document-returns-in-Err-clause-stops
+write_document-returns-in-Err-clause-stops g t c =
     let l = c.members in
     let k = c.in-Some.key in
     let is : l.next ≡ Some k = grind arith in
-    let back = c.from_residual-in_err-write_value in
-    let p = err_from_is_err_and back.result back.ensures.1 in
-    rw (p.1, p.2) (members_stopped c.args.doubles (g.W.ValueWriter.leaves c.args.doubles) g.W.ValueWriter.sorts _ c.args.is_document _ _ (rw is at l.invariant.6)
-    (member_stopped c.args.doubles (g.W.ValueWriter.leaves c.args.doubles) g.W.ValueWriter.sorts _ c.args.is_document (value c.args.depth) _ k.now l.reader
-    c.in_err-write_value.ensures.stops))
+    members_became c.args.doubles (g.W.ValueWriter.leaves c.args.doubles) g.W.ValueWriter.sorts c.in-Err.stop c.in_member.result c.args.is_document _ c.in_member.ensures.kind
+    (members_stopped c.args.doubles (g.W.ValueWriter.leaves c.args.doubles) g.W.ValueWriter.sorts c.in-Err.stop c.args.is_document _ _ (rw is at l.invariant.7)
+    (member_stopped c.args.doubles (g.W.ValueWriter.leaves c.args.doubles) g.W.ValueWriter.sorts c.in-Err.stop c.args.is_document (value c.args.depth) _ k.now l.reader c.in-Err.ensures.stops))
 
 pub write_document-returns-in_err-next-clause-stops : goal.write_document-returns-in_err-next-clause-stops
 write_document-returns-in_err-next-clause-stops g t c =
@@ -115,11 +111,11 @@ write_document-returns-in_err-next-clause-stops g t c =
     let r = c.write_value.new.reader in
     let is : l.next ≡ Some k = grind arith in
     let none : read_key r ≡ None = grind arith in
-    let read = c.in_ok-write_value.ensures.ok in
+    let read = c.in-Ok-write_value.ensures.ok in
     let j = from_tree kept (value c.args.depth l.reader) read.0 r read.2 in
     let back = c.from_residual-in_err-next in
     let p = err_from_is_err_and back.result back.ensures.1 in
-    rw (p.1, p.2) (members_stopped c.args.doubles (g.W.ValueWriter.leaves c.args.doubles) g.W.ValueWriter.sorts stop.Fault c.args.is_document _ _ (rw is at l.invariant.6)
+    rw (p.1, p.2) (members_stopped c.args.doubles (g.W.ValueWriter.leaves c.args.doubles) g.W.ValueWriter.sorts stop.Syntax c.args.is_document _ _ (rw is at l.invariant.7)
     (none_lacks _ _ (no_key_behind c.args.doubles (value c.args.depth) l.invariant.3 k.now l.reader r j.0 j.1 none)))
 
 pub write_document-returns-in_err-end-clause-stops : goal.write_document-returns-in_err-end-clause-stops
@@ -137,7 +133,7 @@ write_document-returns-in_err-end-clause-stops g t c =
 pub write_object-returns-in_err-first-clause-stops : goal.write_object-returns-in_err-first-clause-stops
 write_object-returns-in_err-first-clause-stops g t c =
     let p = err_from_is_err_and c.from_residual.result c.from_residual.ensures.1 in
-    rw (p.1, p.2) (no_key_denied c.args.doubles (g.W.ValueWriter.leaves c.args.doubles) g.W.ValueWriter.sorts stop.Fault c.args.depth c.args.reader.now (grind arith))
+    rw (p.1, p.2) (no_key_denied c.args.doubles (g.W.ValueWriter.leaves c.args.doubles) g.W.ValueWriter.sorts stop.Syntax c.args.depth c.args.reader.now (grind arith))
 
 pub write_object-returns-in-Some-clause-stops : goal.write_object-returns-in-Some-clause-stops
 write_object-returns-in-Some-clause-stops g t c =
@@ -145,7 +141,7 @@ write_object-returns-in-Some-clause-stops g t c =
     elim c.match-written.branch [
       | write_object-in-Ok w ↦ rw w.result-is tt
       | write_object-in-Err w ↦ rw w.result-is (behind_denied c.args.doubles (g.W.ValueWriter.leaves c.args.doubles) g.W.ValueWriter.sorts w.in-Err.stop w.behind.result c.args.depth _
-          c.args.reader.now c.next_key.new.self c.in_ok-first.ensures.value scope w.behind.ensures
+          c.args.reader.now c.next_key.new.self c.in_ok-first.ensures.value scope w.behind.ensures.kind
           w.in-Err.ensures.stops)
     ]
 
@@ -236,7 +232,7 @@ write_wrapper-returns-in_err-other-clause-stops g t c =
     let none : read_key c.read_held.new.reader ≡ None = grind arith in
     let back = c.from_residual-in_err-other in
     let p = err_from_is_err_and back.result back.ensures.1 in
-    rw (p.1, p.2) (no_second c.args.doubles (g.W.ValueWriter.leaves c.args.doubles) g.W.ValueWriter.sorts stop.Fault c.args.depth c.args.key.now c.args.reader.now c.read_held.new.reader _
+    rw (p.1, p.2) (no_second c.args.doubles (g.W.ValueWriter.leaves c.args.doubles) g.W.ValueWriter.sorts stop.Syntax c.args.depth c.args.key.now c.args.reader.now c.read_held.new.reader _
     c.in_ok-held.ensures.ok none)
 
 pub write_wrapper-returns-in_err-value-clause-stops : goal.write_wrapper-returns-in_err-value-clause-stops
@@ -245,11 +241,10 @@ write_wrapper-returns-in_err-value-clause-stops g t c =
     let ended : read_key c.read_held.new.reader ≡ Some (None, c.next_key.new.self) = grind arith in
     let named : wrapper_of k ≡ Some c.args.wrapper = grind arith in
     let p = err_from_is_err_and c.from_residual-in_err-value.result c.from_residual-in_err-value.ensures.1 in
-    let f = was_err _ c.read_wrapper.result c.map_err.result c.in_err-value.field-0.0 c.map_err.ensures.cases c.in_err-value.was in
-    let fails = subst (λ r. Gives scalar_view r (single_in c.args.doubles c.args.wrapper (view c.in_ok-held.held))) f.1
-    c.read_wrapper.ensures in
-    rw (p.1, p.2, f.2) (scalar_denied c.args.doubles (g.W.ValueWriter.leaves c.args.doubles) g.W.ValueWriter.sorts f.0 c.args.depth k c.args.wrapper c.args.reader.now
-    c.read_held.new.reader c.next_key.new.self (view c.in_ok-held.held) named c.in_ok-held.ensures.ok ended fails)
+    let kind = c.in_err-value.ensures.kind in
+    rw (p.1, p.2) (object_became c.args.doubles (g.W.ValueWriter.leaves c.args.doubles) g.W.ValueWriter.sorts (read_stop kind.0) _ _ kind.2
+    (scalar_denied c.args.doubles (g.W.ValueWriter.leaves c.args.doubles) g.W.ValueWriter.sorts kind.0 c.args.depth k c.args.wrapper c.args.reader.now c.read_held.new.reader c.next_key.new.self
+    (view c.in_ok-held.held) named c.in_ok-held.ensures.ok ended kind.1))
 
 pub write_wrapper-returns-then-not-is_code_with_scope-clause-stops : goal.write_wrapper-returns-then-not-is_code_with_scope-clause-stops
 write_wrapper-returns-then-not-is_code_with_scope-clause-stops g t c =
@@ -258,8 +253,9 @@ write_wrapper-returns-then-not-is_code_with_scope-clause-stops g t c =
     let named : wrapper_of k ≡ Some c.args.wrapper = grind arith in
     let key : read_key c.read_held.new.reader ≡ Some (Some l, c.next_key.new.self) = grind arith in
     let are : (bytes_eq k (codes "$code") && bytes_eq l (codes "$scope")) ≡ false = grind arith in
-    strange_denied c.args.doubles (g.W.ValueWriter.leaves c.args.doubles) g.W.ValueWriter.sorts c.args.depth k l c.args.wrapper c.args.reader.now c.read_held.new.reader c.next_key.new.self _
-    named c.in_ok-held.ensures.ok key are
+    object_became c.args.doubles (g.W.ValueWriter.leaves c.args.doubles) g.W.ValueWriter.sorts stop.Syntax c.beside.result _ c.beside.ensures.kind
+    (strange_denied c.args.doubles (g.W.ValueWriter.leaves c.args.doubles) g.W.ValueWriter.sorts c.args.depth k l c.args.wrapper c.args.reader.now c.read_held.new.reader c.next_key.new.self
+    (view c.in_ok-held.held) named c.in_ok-held.ensures.ok key are)
 
 pub write_wrapper-returns-clause-stops : goal.write_wrapper-returns-clause-stops
 write_wrapper-returns-clause-stops g t c =
@@ -273,19 +269,20 @@ write_wrapper-returns-clause-stops g t c =
 pub write_code-returns-in_err-scope-clause-stops : goal.write_code-returns-in_err-scope-clause-stops
 write_code-returns-in_err-scope-clause-stops g t c =
     let p = err_from_is_err_and c.from_residual.result c.from_residual.ensures.1 in
-    rw (p.1, p.2, c.in_err-scope.ensures.fault.0) (no_scope_denied c.args.doubles (g.W.ValueWriter.leaves c.args.doubles) g.W.ValueWriter.sorts c.args.is_behind c.args.depth
-    c.args.reader.now c.in_err-scope.ensures.fault.1)
+    let kind = c.in_err-scope.ensures.kind in
+    rw (p.1, p.2) (code_became c.args.doubles (g.W.ValueWriter.leaves c.args.doubles) g.W.ValueWriter.sorts stop.Syntax _ c.args.is_behind _ kind.0
+    (no_scope_denied c.args.doubles (g.W.ValueWriter.leaves c.args.doubles) g.W.ValueWriter.sorts c.args.is_behind c.args.depth c.args.reader.now kind.1))
 
-pub write_wrapper-returns-in_err-code-clause-stops : goal.write_wrapper-returns-in_err-code-clause-stops
-write_wrapper-returns-in_err-code-clause-stops g t c =
+pub write_wrapper-returns-in_default-text_of-clause-stops : goal.write_wrapper-returns-in_default-text_of-clause-stops
+write_wrapper-returns-in_default-text_of-clause-stops g t c =
     let k = c.args.key.now in
     let l = c.in-Some.other.now in
-    let named : wrapper_of k ≡ Some c.args.wrapper = grind arith in
-    let key : read_key c.read_held.new.reader ≡ Some (Some l, c.next_key.new.self) = grind arith in
-    let p = err_from_is_err_and c.from_residual-in_err-code.result c.from_residual-in_err-code.ensures.1 in
-    rw (p.1, p.2, c.in_err-code.ensures.fault.0) (textless_denied c.args.doubles (g.W.ValueWriter.leaves c.args.doubles) g.W.ValueWriter.sorts c.args.depth k l c.args.wrapper
-    c.args.reader.now c.read_held.new.reader c.next_key.new.self (view c.in_ok-held.held) named c.in_ok-held.ensures.ok key
-    c.in_err-code.ensures.fault.1)
+    let wrapper : wrapper_of k ≡ Some c.args.wrapper = grind arith in
+    let named : read_key c.read_held.new.reader ≡ Some (Some l, c.next_key.new.self) = grind arith in
+    let none = err_of c.text_of.result _ c.in_default-text_of.not-Ok c.text_of.ensures.textless in
+    object_became c.args.doubles (g.W.ValueWriter.leaves c.args.doubles) g.W.ValueWriter.sorts stop.Syntax c.beside-in_default-text_of.result _ c.beside-in_default-text_of.ensures.kind
+    (textless_denied c.args.doubles (g.W.ValueWriter.leaves c.args.doubles) g.W.ValueWriter.sorts c.args.depth k l c.args.wrapper c.args.reader.now c.read_held.new.reader c.next_key.new.self
+    (view c.in_ok-held.held) wrapper c.in_ok-held.ensures.ok named none)
 
 -- ---- where the writer stops
 
@@ -346,10 +343,8 @@ write_object-returns-in_err-embed-clause-stops g t c =
 pub write_wrapper-returns-in_default-clause-stops : goal.write_wrapper-returns-in_default-clause-stops
 write_wrapper-returns-in_default-clause-stops g t c =
     let named : wrapper_of c.args.key.now ≡ Some c.args.wrapper = grind arith in
-    let read = subst (λ r. Gives scalar_view r (single_in c.args.doubles c.args.wrapper (view c.in_ok-held.held)))
-    (was_ok _ c.read_wrapper.result c.map_err.result c.in_ok-value.value c.map_err.ensures.cases c.in_ok-value.was)
-    c.read_wrapper.ensures in
-    let written = wrapper_written c.args.doubles c.args.key.now c.args.wrapper (view c.in_ok-held.held) _ named read in
+    let written = wrapper_written c.args.doubles c.args.key.now c.args.wrapper (view c.in_ok-held.held) _ named
+    c.in_ok-value.ensures.ok in
     if_err c.scalar.result c.scalar.ensures.stops (λ e h. object_writer c.args.doubles (g.W.ValueWriter.leaves c.args.doubles) g.W.ValueWriter.sorts e _
     (scalar_stops_in g.W.ValueWriter.leaves _ e c.args.doubles written h))
 

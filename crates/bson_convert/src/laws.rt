@@ -1,0 +1,17 @@
+//! Laws of the definitions.
+ghost use Rattle.std.specs.Prelude.{◌≡◌, ◌++◌, ℕ, List};
+ghost use Rattle.serde_json.specs.Data.{Data};
+ghost use Rattle.bson_model.specs.Normal.{normal_form};
+ghost use Rattle.bson.specs.TextMeaning.{IsTextOf};
+ghost use Rattle.bson.specs.declared.extjson.options.Options.{Options};
+ghost use Rattle.bson_convert.specs.Convert.{ConvertsIn, IsCanonicalText, newline};
+ghost use Rattle.bson_convert.specs.declared.mode.Mode.TheVariants.{Canonical};
+
+/// Values with one normal form have one canonical text. Conversion to the canonical form gives it,
+/// followed by a newline, unless it nests deeper than a text may.
+pub fn canonical_texts_are_one()
+    ensures one { (options : Options) (bytes other : List ℕ) (a : IsCanonicalText options bytes)
+        (b : IsCanonicalText options other) → normal_form a.value ≡ normal_form b.value → bytes ≡ other }
+    ensures given { (options : Options) (bytes text : List ℕ) (tree : Data)
+        → ConvertsIn options Canonical bytes (text ++ newline) → IsTextOf text tree → IsCanonicalText options text }
+{}

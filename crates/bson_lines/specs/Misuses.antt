@@ -1,0 +1,46 @@
+-- What is told of arguments that the program does not accept.
+use Rattle.std.specs.Prelude.{ℕ, List, ◌++◌, codes}
+use Rattle.bson_run.specs.Words.{task_name}
+use Rattle.bson_run.specs.declared.order.Task.{Task}
+use Rattle.bson_lines.specs.Flags.{flag_name}
+use Rattle.bson_lines.specs.Messages.{escaped_name}
+use Rattle.bson_lines.specs.declared.order.Command.{Command}
+use Rattle.bson_lines.specs.declared.order.Command.TheVariants as command
+use Rattle.bson_lines.specs.declared.order.Flag.TheVariants as flag
+use Rattle.bson_lines.specs.declared.order.Misuse.{Misuse}
+use Rattle.bson_lines.specs.declared.order.Misuse.TheVariants as misuse
+
+-- the words behind which a command's options and its help are
+abbrev pub command_name : Command → List ℕ
+command_name command.All = codes "bson"
+command_name command.Text = codes "bson"
+command_name command.Lines = codes "bson lines"
+command_name command.Decode = codes "bson decode"
+command_name command.Encode = codes "bson encode"
+
+-- a command with its mode
+abbrev pub full_name : Command → Task → List ℕ
+full_name command.Lines task = codes "lines " ++ task_name task
+full_name command.Decode task = codes "decode " ++ task_name task
+full_name other task = task_name task
+
+abbrev pub kind_of_word : Command → List ℕ
+kind_of_word command.All = codes "command"
+kind_of_word other = codes "mode"
+
+abbrev pub see : Command → List ℕ
+see it = codes " (see " ++ command_name it ++ codes " --help)"
+
+-- the word is the one that is wrong
+abbrev pub told_of : Command → Misuse → (word : List ℕ) → List ℕ
+told_of it misuse.UnknownOption word = codes "bson: unknown option '" ++ escaped_name word ++ codes "'" ++ see it
+told_of it misuse.UnknownMode word = codes "bson: unknown " ++ kind_of_word it ++ codes " '" ++ escaped_name word ++ codes "'" ++ see it
+told_of it misuse.Former word = codes "bson: " ++ escaped_name word ++ codes " is the default now" ++ see it
+told_of it (misuse.Twice flag) word = codes "bson: " ++ flag_name flag ++ codes " is given twice"
+told_of it (misuse.NoValue flag.Indent) word = codes "bson: --indent needs a number from 1 to 16"
+told_of it (misuse.NoValue flag.Jobs) word = codes "bson: --jobs needs a number from 1 to 9999"
+told_of it (misuse.NoValue flag) word = codes "bson: " ++ flag_name flag ++ codes " needs a file"
+told_of it (misuse.Unfit flag task) word = codes "bson: " ++ full_name it task ++ codes " does not accept " ++ flag_name flag
+told_of it misuse.NoMode word = codes "bson: no " ++ kind_of_word it ++ codes " is given"
+told_of it misuse.ManyFiles word = codes "bson: one document is read from one file; `bson lines` reads several"
+told_of it misuse.NotUtf8 word = codes "bson: an argument is not UTF-8"

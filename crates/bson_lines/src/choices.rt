@@ -1,0 +1,68 @@
+//! What follows from the options that are given: the task, and which doubles have a text.
+ghost use Rattle.std.specs.Prelude.{◌≡◌};
+ghost use Rattle.bson_lines.specs.Order.{awaited, first_taken, in_order, options_of, taking_of};
+
+use crate::arguments::Next;
+use crate::order::Flag;
+use bson::extjson::{Doubles, Options};
+use bson_run::order::{Taking, Task, Work};
+
+/// Returns the option that waits for its value.
+pub fn awaited(next: Next) -> Option<Flag>
+    ensures { result ≡ awaited next }
+{
+    match next {
+        Next::Output => Some(Flag::Output),
+        Next::Indent => Some(Flag::Indent),
+        Next::Jobs => Some(Flag::Jobs),
+        Next::Any | Next::Name => None,
+    }
+}
+
+/// Returns which doubles have a text: all, or those of the specification.
+pub fn options_of(is_strict: bool) -> Options
+    ensures { result ≡ options_of is_strict }
+{
+    Options {
+        doubles: if is_strict {
+            Doubles::Special
+        } else {
+            Doubles::Finite
+        },
+    }
+}
+
+/// Returns the task that keeps the keys of each document in their order.
+pub fn in_order(task: Task) -> Task
+    ensures { result ≡ in_order task }
+{
+    match task {
+        Task::Write(mode) => Task::WriteInOrder(mode),
+        Task::Encode => Task::EncodeInOrder,
+        other => other,
+    }
+}
+
+/// Returns what is looked for in a text before it is read.
+pub fn taking_of(is_distinct: bool, is_legacy: bool) -> Option<Taking>
+    ensures { result ≡ taking_of is_distinct is_legacy }
+{
+    match (is_distinct, is_legacy) {
+        (true, true) => Some(Taking::DistinctLegacy),
+        (true, false) => Some(Taking::Distinct),
+        (false, true) => Some(Taking::Legacy),
+        (false, false) => None,
+    }
+}
+
+/// Returns the task, for texts that are read after this look.
+pub fn first_taken(taking: Taking, task: Task) -> Task
+    ensures { result ≡ first_taken taking task }
+{
+    match task {
+        Task::Write(mode) => Task::Taken(taking, Work::Write(mode)),
+        Task::WriteInOrder(mode) => Task::Taken(taking, Work::WriteInOrder(mode)),
+        Task::Check => Task::Taken(taking, Work::Check),
+        other => other,
+    }
+}

@@ -1,0 +1,44 @@
+use Rattle.std.proofs.Common.{◌≡◌, subst, sym, true}
+use Rattle.std.proofs.lemmas.Result.{IfOk-weaker}
+use Rattle.bson.specs.View.{document_view}
+use Rattle.bson_bytes.specs.Laws.{IsReadIn}
+use Rattle.bson_model.specs.Normal.{writable_in}
+use Rattle.bson_model.specs.Value.{document}
+use Rattle.vbson.proofs.DocumentErrors.{nothing_found, of_document}
+use Rattle.vbson.specs.DocumentError.{IsFinding, IsOfDocument}
+use Rattle.vbson.specs.Documents.{depth}
+use Rattle.vbson.specs.declared.document_error.Finding.{Finding}
+use Rattle.vbson.specs.declared.document_error.Finding.TheVariants.{Nothing}
+use Rattle.vbson.proofs.document_error.find.Goals as goal
+
+pub returns-in-Ok-clause-found : goal.returns-in-Ok-clause-found
+returns-in-Ok-clause-found c =
+    let flags = c.args.flags in
+    let bytes = c.args.bytes.now in
+    let ps = document_view c.in-Ok.document in
+    let read = subst (λ k. IsReadIn k depth bytes ps) c.duplicate_keys_of.ensures c.in-Ok.ensures.ok in
+    IfOk-weaker c.find_double.result (λ (it : Finding). IsOfDocument c.options_of.result ps it)
+    (λ (it : Finding). IsFinding flags bytes it)
+    (λ it is. of_document flags bytes ps it read (subst (λ o. IsOfDocument o ps it) c.options_of.ensures is))
+    c.find_double.ensures.found
+
+pub returns-in-Ok-clause-accepts : goal.returns-in-Ok-clause-accepts
+returns-in-Ok-clause-accepts c = λ h.
+    let flags = c.args.flags in
+    let bytes = c.args.bytes.now in
+    let ps = document_view c.in-Ok.document in
+    let read = subst (λ k. IsReadIn k depth bytes h.pairs) (sym c.duplicate_keys_of.ensures) h.read in
+    let same = (c.in-Ok.ensures.only h.pairs read).0 in
+    IfOk-weaker c.find_double.result (λ (it : Finding). IsOfDocument c.options_of.result ps it)
+    (λ (it : Finding). it ≡ Nothing)
+    (λ it is. nothing_found c.options_of.result ps h.pairs it same
+    (subst (λ o. writable_in o.doubles (document h.pairs) ≡ true) (sym c.options_of.ensures) h.writable) is)
+    c.find_double.ensures.found
+
+-- reading gave a fault, and did not run out of memory
+pub returns-in-Err-Malformed-clause-accepts : goal.returns-in-Err-Malformed-clause-accepts
+returns-in-Err-Malformed-clause-accepts c = λ h.
+    let read = subst (λ k. IsReadIn k depth c.args.bytes.now h.pairs) (sym c.duplicate_keys_of.ensures) h.read in
+    let only = (c.in-Err-Malformed.ensures.only h.pairs read).1 in
+    let is = c.in-Err-Malformed.field-0-is in
+    absurd cc

@@ -1,0 +1,105 @@
+-- Why bytes are rejected as a document that has a text, and where, as a struct.
+use Rattle.std.specs.Prelude.{◌≡◌, ℕ, List, [], ◌++◌, IsUtf8, codes, false, true}
+use Rattle.std.specs.Fmt.{decimal}
+use Rattle.bson.specs.declared.extjson.options.Options.{Options}
+use Rattle.bson_bytes.specs.Laws.{IsReadIn}
+use Rattle.bson_bytes.specs.Writing.{document_bytes}
+use Rattle.bson_bytes.specs.declared.fault.FaultKind.{FaultKind}
+use Rattle.bson_codec.specs.Bytes.{reads_in}
+use Rattle.bson_codec.specs.Errors.{IsPlacedFault}
+use Rattle.bson_codec.specs.Told.{words_for}
+use Rattle.bson_convert.specs.Convert.{newline}
+use Rattle.bson_model.specs.Normal.{writable_in}
+use Rattle.bson_model.specs.Value.{Pairs, document}
+use Rattle.vbson.specs.Convert.{options_of}
+use Rattle.vbson.specs.Documents.{depth}
+use Rattle.vbson.specs.Path.{path_pairs}
+use Rattle.vbson.specs.Reading.{duplicate_keys_of}
+use Rattle.vbson.specs.Text.{IsText}
+use Rattle.vbson.specs.declared.document_error.Finding.{Finding}
+use Rattle.vbson.specs.declared.document_error.Finding.TheVariants.{Nothing, Malformed, FiniteDouble}
+use Rattle.vbson.specs.declared.explain.Parts.{Parts}
+use Rattle.vbson.specs.declared.explain.Rejection.{Rejection}
+
+-- ---- what is wrong
+
+-- under the flags the bytes are a document, and it has a text in the two forms
+pub record HasDocumentText (flags : ℕ) (bytes : List ℕ) : Type 0 where
+  pub pairs : Pairs
+  pub read : IsReadIn (duplicate_keys_of flags) depth bytes pairs
+  pub writable : writable_in (options_of flags).doubles (document pairs) ≡ true
+
+-- they are a document, and it has none
+pub record HasNoDocumentText (flags : ℕ) (bytes : List ℕ) : Type 0 where
+  pub pairs : Pairs
+  pub read : IsReadIn (duplicate_keys_of flags) depth bytes pairs
+  pub unwritable : writable_in (options_of flags).doubles (document pairs) ≡ false
+
+abbrev pub IsFinding : ℕ → List ℕ → Finding → Type 0
+IsFinding flags bytes Nothing = HasDocumentText flags bytes
+IsFinding flags bytes (Malformed k n) = IsPlacedFault k n bytes (reads_in (duplicate_keys_of flags) depth bytes)
+IsFinding flags bytes FiniteDouble = HasNoDocumentText flags bytes
+
+-- ---- what the struct has of it
+
+-- the status, or 0 for none
+abbrev pub code_for : Finding → ℕ
+code_for Nothing = 0
+code_for (Malformed k n) = 10
+code_for FiniteDouble = 7
+
+-- the number of bytes before the first fault of bytes that are not a document; else 0
+abbrev pub offset_for : Finding → ℕ
+offset_for Nothing = 0
+offset_for (Malformed k n) = n
+offset_for FiniteDouble = 0
+
+abbrev pub reason_for : Finding → List ℕ
+reason_for Nothing = []
+reason_for (Malformed k n) = words_for k
+reason_for FiniteDouble = codes "a finite double"
+
+-- the number of bytes before the place of a fault, and words for what is wrong there
+abbrev pub words_at : ℕ → List ℕ → List ℕ
+words_at n words = codes "not a document at byte " ++ decimal n ++ codes " (" ++ words ++ codes ")"
+
+-- words for why a document has no text
+abbrev pub unwritten : List ℕ → List ℕ
+unwritten words = codes "not representable (" ++ words ++ codes ")"
+
+abbrev pub message_for : Finding → List ℕ
+message_for Nothing = []
+message_for (Malformed k n) = words_at n (words_for k)
+message_for FiniteDouble = unwritten (codes "a finite double")
+
+-- the struct has this of what is wrong; the path has no segment
+pub record SaysOf (it : Finding) (out : Rejection) : Type 0 where
+  pub code : out.code ≡ code_for it
+  pub line : out.line ≡ 0
+  pub column : out.column ≡ 0
+  pub offset : out.offset ≡ offset_for it
+  pub path : IsText (document_bytes (path_pairs [])) out.path
+  pub reason : IsText (reason_for it) out.reason
+  pub message : IsText (message_for it) out.message
+  pub utf8 : IsUtf8 (message_for it)
+
+pub record ExplainsDocument (flags : ℕ) (bytes : List ℕ) (out : Rejection) : Type 0 where
+  pub finding : Finding
+  pub found : IsFinding flags bytes finding
+  pub said : SaysOf finding out
+
+-- ---- for private clauses
+
+-- the same of a document
+abbrev pub IsOfDocument : Options → Pairs → Finding → Type 0
+IsOfDocument o ps Nothing = writable_in o.doubles (document ps) ≡ true
+IsOfDocument o ps (Malformed k n) = ⊥
+IsOfDocument o ps FiniteDouble = writable_in o.doubles (document ps) ≡ false
+
+pub record ArePartsFor (it : Finding) (parts : Parts) : Type 0 where
+  pub code : parts.code ≡ code_for it
+  pub line : parts.line ≡ 0
+  pub column : parts.column ≡ 0
+  pub offset : parts.offset ≡ offset_for it
+  pub path : parts.path.items ≡ document_bytes (path_pairs []) ++ newline
+  pub reason : parts.reason.items ≡ reason_for it ++ newline

@@ -1,0 +1,187 @@
+//! Why bytes are rejected as a document that has a text, and where.
+ghost use Rattle.std.specs.Prelude.{◌≡◌, ◌⊎◌, ◌↔◌, ◌<◌, ◌++◌, IfOk, IsUtf8};
+ghost use Rattle.bson.specs.View.{document_view};
+ghost use Rattle.bson_convert.specs.Convert.{newline};
+ghost use Rattle.vbson.specs.DocumentError.{ArePartsFor, ExplainsDocument, HasDocumentText, IsFinding, IsOfDocument};
+ghost use Rattle.vbson.specs.DocumentError.{SaysOf, code_for, message_for, offset_for, reason_for, unwritten, words_at};
+ghost use Rattle.vbson.specs.declared.document_error.Finding.TheVariants.{Nothing};
+
+use crate::explain::{Parts, Rejection, filled, line_of};
+use crate::flags::{ALL, duplicate_keys_of, options_of};
+use crate::path::path_line;
+use crate::status;
+use bson::extjson::{Form, Options, WriteError};
+use bson::{Bson, Document};
+use bson_bytes::error::Error as PathError;
+use bson_codec::de::{DEPTH, Error, FaultKind, ReadOptions, from_slice_with};
+use bson_codec::run_end::RunFault;
+use std::alloc::{AllocError, Global};
+
+/// What is wrong with bytes, as a document that has a text.
+#[derive(Clone, Copy)]
+pub enum Finding {
+    /// The bytes are a document, and it has a text.
+    Nothing,
+    /// The bytes are not a document.
+    Malformed {
+        /// What is wrong.
+        kind: FaultKind,
+        /// The number of bytes before its place.
+        offset: usize,
+    },
+    /// The document has a finite double, which the flags do not accept.
+    FiniteDouble,
+}
+
+/// Leaves why bytes are not a document that has a text in the two forms, and where; the code 0, and
+/// no words, if they are one. The flags are those of `vbson_explain`; `KEEP_ORDER` and `LEGACY` change
+/// nothing here.
+#[unsafe(no_mangle)]
+pub extern "C" fn vbson_explain_document(
+    alloc: Global,
+    flags: u32,
+    bytes: &[u8],
+    out: &mut Rejection<'static>,
+) -> u32
+    ensures done { result ≡ 0 → ExplainsDocument flags bytes.now out.new }
+    // The code is 0 if and only if the bytes are a document that has a text.
+    ensures accepted { result ≡ 0 → out.new.code ≡ 0 → HasDocumentText flags bytes.now }
+    ensures accepts { HasDocumentText flags bytes.now → result ≡ 0 → out.new.code ≡ 0 }
+
+    // When each other status comes, and that nothing is left then.
+    ensures no_mode { result ≡ 1 ↔ 15 < flags }
+    ensures listed { (result ≡ 0) ⊎ (result ≡ 1) ⊎ (result ≡ 5) }
+    ensures kept { 0 < result → out.new ≡ out.old }
+{
+    if flags > ALL {
+        return status::INVALID_ARGUMENT;
+    }
+    match explained(alloc, flags, bytes) {
+        Ok(rejection) => *out = rejection,
+        // (the path has no segment, so it is not too long)
+        Err(_) => return status::OUT_OF_MEMORY,
+    }
+    status::OK
+}
+
+// Explains the bytes, under the flags.
+fn explained(alloc: Global, flags: u32, bytes: &[u8]) -> Result<Rejection<'static>, PathError>
+    ensures said { IfOk result (λ out. ExplainsDocument flags bytes.now out) }
+    ensures accepts { HasDocumentText flags bytes.now → IfOk result (λ out. out.code ≡ 0) }
+{
+    let finding = find(alloc, flags, bytes)?;
+    rejection_of(alloc, finding)
+}
+
+// Finds what is wrong with the bytes, under the flags.
+fn find(alloc: Global, flags: u32, bytes: &[u8]) -> Result<Finding, AllocError>
+    ensures found { IfOk result (λ it. IsFinding flags bytes.now it) }
+    ensures accepts { HasDocumentText flags bytes.now → IfOk result (λ it. it ≡ Nothing) }
+{
+    let options = ReadOptions {
+        depth: DEPTH,
+        duplicate_keys: duplicate_keys_of(flags),
+    };
+    match from_slice_with(alloc, options, bytes) {
+        Ok(document) => find_double(alloc, options_of(flags), document),
+        Err(Error::Malformed { kind, offset }) => Ok(Finding::Malformed { kind, offset }),
+        Err(Error::OutOfMemory) => Err(AllocError),
+    }
+}
+
+// Finds whether the document has a text.
+fn find_double(alloc: Global, options: Options, document: Document) -> Result<Finding, AllocError>
+    ensures found { IfOk result (λ it. IsOfDocument options (document_view document) it) }
+{
+    match Bson::Document(document).into_text_with(alloc, options, Form::Canonical) {
+        Ok(_) => Ok(Finding::Nothing),
+        Err(WriteError::FiniteDouble) => Ok(Finding::FiniteDouble),
+        Err(WriteError::OutOfMemory) => Err(AllocError),
+    }
+}
+
+// The struct for what is wrong.
+fn rejection_of(alloc: Global, finding: Finding) -> Result<Rejection<'static>, PathError>
+    ensures said { IfOk result (λ out. SaysOf finding out) }
+{
+    let message = message_of(alloc, finding)?;
+    let parts = parts_of(alloc, finding)?;
+    Ok(filled(parts, message))
+}
+
+// The parts for what is wrong.
+fn parts_of(alloc: Global, finding: Finding) -> Result<Parts, PathError>
+    ensures said { IfOk result (λ parts. ArePartsFor finding parts) }
+{
+    let path = path_line(alloc, &[])?;
+    let reason = line_of(alloc, reason_of(finding))?;
+    Ok(Parts {
+        code: code_of(finding),
+        line: 0,
+        column: 0,
+        offset: offset_of(finding),
+        path,
+        reason,
+    })
+}
+
+// The status.
+fn code_of(finding: Finding) -> u32
+    ensures { result ≡ code_for finding }
+{
+    match finding {
+        Finding::Nothing => status::OK,
+        Finding::Malformed { .. } => status::NOT_A_DOCUMENT,
+        Finding::FiniteDouble => status::NOT_REPRESENTABLE,
+    }
+}
+
+// The number of bytes before the place, or 0.
+fn offset_of(finding: Finding) -> usize
+    ensures { result ≡ offset_for finding }
+{
+    match finding {
+        Finding::Malformed { offset, .. } => offset,
+        Finding::Nothing | Finding::FiniteDouble => 0,
+    }
+}
+
+// What is wrong, in words for people.
+fn reason_of(finding: Finding) -> &'static str
+    ensures { result.now ≡ reason_for finding }
+{
+    match finding {
+        Finding::Nothing => "",
+        Finding::Malformed { kind, offset } => RunFault::Malformed { kind, offset }.message(),
+        Finding::FiniteDouble => RunFault::FiniteDouble.message(),
+    }
+}
+
+// The message, and a newline.
+fn message_of(alloc: Global, finding: Finding) -> Result<Vec<u8>, AllocError>
+    ensures { IfOk result (λ line. IsUtf8 (message_for finding) × (line.items ≡ message_for finding ++ newline)) }
+{
+    let words = reason_of(finding);
+    match finding {
+        Finding::Nothing => Vec::from_slice(alloc, b"\n"),
+        Finding::Malformed { offset, .. } => line_at(alloc, offset, words),
+        Finding::FiniteDouble => unwritten_line(alloc, words),
+    }
+}
+
+// The words for a fault after so many bytes, and a newline.
+fn line_at(alloc: Global, offset: usize, words: &str) -> Result<Vec<u8>, AllocError>
+    ensures { IfOk result (λ line. IsUtf8 (words_at offset words.now)
+        × (line.items ≡ words_at offset words.now ++ newline)) }
+{
+    let line = format!(in alloc; "not a document at byte {offset} ({words})\n")?;
+    Ok(line.into_bytes())
+}
+
+// The words for a document that has no text, and a newline.
+fn unwritten_line(alloc: Global, words: &str) -> Result<Vec<u8>, AllocError>
+    ensures { IfOk result (λ line. IsUtf8 (unwritten words.now) × (line.items ≡ unwritten words.now ++ newline)) }
+{
+    let line = format!(in alloc; "not representable ({words})\n")?;
+    Ok(line.into_bytes())
+}
