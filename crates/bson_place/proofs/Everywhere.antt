@@ -23,7 +23,8 @@ use Rattle.bson_place.proofs.Agrees.{fault_to}
 use Rattle.bson_place.proofs.FaultLaws.{nothing_read}
 use Rattle.bson_place.proofs.FaultLaws.{Coded}
 use Rattle.bson_place.proofs.Steps.{HasItems, HasPairs, number_value, no_number, array_value, document_value}
-use Rattle.bson_place.proofs.Steps.{value_of, lone_value, lone_fault, shape_fault, not_code, not_text, value_of_code, scope_path, scope_of_map}
+use Rattle.bson_place.proofs.Steps.{value_of, lone_value, lone_fault, shape_fault, not_code, not_text, value_of_code}
+use Rattle.bson_place.proofs.Steps.{scope_path, scope_of_map}
 use Rattle.bson_place.proofs.Steps.{never, HasScopeIn, IsScopeFaultIn, in_scope, no_scope}
 
 abbrev Or : Type 0 → (Fault → List PathSegment → Type 0) → Type 0

@@ -50,8 +50,8 @@ dotted (segment ∷ out ∷ more) = dotted (out ∷ more) ++ codes "." ++ word_o
 
 -- ---- what is wrong with a wrapper of one key
 
--- the tree is right in all but this text, which stands as an object id and is not 24 hexadecimal digits (MongoDB Extended
--- JSON v2: `$oid`, and the `$id` of a `$dbPointer`)
+-- the tree is right in all but this text, which stands as an object id and is not 24 hexadecimal digits (MongoDB
+-- Extended JSON v2: `$oid`, and the `$id` of a `$dbPointer`)
 pub data HasBadId : Data → List ℕ → Type 0 where
   oid : (s : List ℕ) → ((id : List ℕ) → IsOidText s id → ⊥) → HasBadId (object_of_one (codes "$oid") (tree.string s)) s
   db_pointer : (name s : List ℕ) → ((id : List ℕ) → IsOidText s id → ⊥)
@@ -61,7 +61,7 @@ pub data HasBadId : Data → List ℕ → Type 0 where
       (tree.string name)))
       s
 
--- the fault is a bad id; or the shape is wrong, if the tree means nothing for any other cause
+-- the fault is a bad id, or the shape is wrong: the tree means nothing for another cause
 abbrev pub IsWrapperFaultIn : Doubles → Data → Fault → Type 0
 IsWrapperFaultIn D t (wrong_id s) = HasBadId t s
 IsWrapperFaultIn D t wrong_shape = MeansNothingIn D t × ((s : List ℕ) → HasBadId t s → ⊥)

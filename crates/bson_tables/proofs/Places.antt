@@ -32,8 +32,9 @@ pointer_shape : FaultAt wrong_shape
     (key (codes "$dbPointer") ∷ [])
 pointer_shape = lone_fault Special _ _ _ refl refl
 
--- of a wrapper that is no object id no text is a bad id
-long_text : FaultAt wrong_shape (object_of_one (codes "$numberLong") (tree.string (codes "zz"))) (key (codes "$numberLong") ∷ [])
+-- the text of another wrapper is never a bad id
+long_text : FaultAt wrong_shape (object_of_one (codes "$numberLong") (tree.string (codes "zz")))
+    (key (codes "$numberLong") ∷ [])
 unfolding Rattle.bson_scalar.specs.Reading.int_of
 long_text = lone_fault Special _ _ _ refl refl
 
@@ -41,7 +42,7 @@ long_text = lone_fault Special _ _ _ refl refl
 wrapper_after : FaultAt wrong_shape (object_of_two (codes "$a") bad_id (codes "$oid") (whole 1)) []
 wrapper_after = not_code Special _ _ _ _ refl refl
 
--- a key that is no wrapper's: its value's fault is first
+-- with no wrapper's key in the object, the fault is that of the value
 ordinary_key : FaultAt (wrong_id (codes "zz")) (object_of_two (codes "$a") bad_id (codes "b") (whole 1))
     (key (codes "$oid") ∷ key (codes "$a") ∷ [])
 ordinary_key = document _ refl (at_key _ _ _ oid_short)
