@@ -1,6 +1,6 @@
 -- Reading finds a bad id where the productions of `HasBadId` have one, and nowhere else.
-use Rattle.std.proofs.Common.{◌≡◌, ℕ, ℤ, List, [], ◌∷◌, Bool, true, false, cond, Option, Some, None, Result, Ok, Err}
-use Rattle.std.proofs.Common.{◌&&◌, ◌++◌, inl, arith, refl, sym, ap, subst, ◌∙◌}
+use Rattle.std.proofs.Common.{◌≡◌, ℕ, List, [], ◌∷◌, Bool, true, false, cond, Option, Some, None, Result, Ok, Err}
+use Rattle.std.proofs.Common.{◌++◌, inl, arith, refl, sym, ap, subst, ◌∙◌}
 use Rattle.std.specs.Prelude.{codes}
 use Rattle.std.specs.Str.{bytes_eq}
 use Rattle.std.proofs.lemmas.Bool.{and_parts}
@@ -11,33 +11,28 @@ use Rattle.serde_json.specs.Data as tree
 use Rattle.serde_json.specs.Find.{as_i64, as_str}
 use Rattle.bson_types.specs.HexText.{IsHexText, nothing, pair}
 use Rattle.bson_types.specs.Orders.{parsed_hyphenated}
-use Rattle.bson_scalar.specs.Doubles.{double_in, finite_number}
+use Rattle.bson_scalar.specs.Doubles.{double_in}
 use Rattle.bson_scalar.specs.Faults.{Fault, wrong_shape, wrong_id, ◌>>=◌, or_wrong_shape}
-use Rattle.bson_scalar.specs.Ints.{narrowest}
 use Rattle.bson_scalar.specs.Means.{MeansScalar, IsOidText}
 use Rattle.bson_scalar.specs.Means as means
-use Rattle.bson_scalar.specs.Reading.{number_read_in, or_double_read, single_in, single_at_in, on_text}
+use Rattle.bson_scalar.specs.Reading.{single_in, single_at_in, on_text}
 use Rattle.bson_scalar.specs.Reading.{id_of, id_or, oid_read, pointer_read, two_members, lone_member, on_lone, int_of}
 use Rattle.bson_scalar.specs.Reading.{millis_of, undefined_read, decimal_of, bytes_of, byte_of}
 use Rattle.bson_scalar.specs.Scalar.{Scalar}
 use Rattle.bson_scalar.specs.Scalar as kind
 use Rattle.bson_scalar.specs.Shapes.{object_of_one, object_of_two, u32_at}
-use Rattle.bson_scalar.specs.Table.{wrapper_of, has_wrapper}
+use Rattle.bson_scalar.specs.Table.{wrapper_of}
 use Rattle.bson_scalar.specs.declared.wrapper.Wrapper.{Wrapper}
 use Rattle.bson_scalar.specs.declared.wrapper.Wrapper.TheVariants.{Oid, Symbol, RegularExpression, NumberInt}
 use Rattle.bson_scalar.specs.declared.wrapper.Wrapper.TheVariants.{NumberLong, NumberDouble, NumberDecimal, Binary}
 use Rattle.bson_scalar.specs.declared.wrapper.Wrapper.TheVariants.{Uuid, Code, Timestamp, Date, MinKey, MaxKey}
 use Rattle.bson_scalar.specs.declared.wrapper.Wrapper.TheVariants.{DbPointer, Undefined}
 use Rattle.bson_scalar.specs.declared.form.Doubles.{Doubles}
-use Rattle.bson_scalar.specs.declared.form.Doubles.TheVariants.{Special, Finite}
+use Rattle.bson_scalar.specs.declared.form.Doubles.TheVariants.{Special}
 use Rattle.bson_scalar.proofs.Offered.{scalar_from, scalar_to}
-use Rattle.bson_model.specs.Fault.{MeansNothingIn}
-use Rattle.bson_model.specs.Reading.{reads_in, reads_members_in, reads_wrapper_in, reads_scope_in}
-use Rattle.bson_model.specs.Reading.{scalar_value, code_at, scope_value}
-use Rattle.bson_model.specs.Value.{Value, Pairs}
-use Rattle.bson_model.specs.Value as model
-use Rattle.bson_model.proofs.Offered.{means_from_in, means_to_in}
-use Rattle.bson_place.specs.Place.{HasBadId, oid, db_pointer, IsWrapperFaultIn, IsOpen, lone, code_with_scope}
+use Rattle.bson_model.specs.Reading.{reads_in}
+use Rattle.bson_model.specs.Reading.{scalar_value}
+use Rattle.bson_place.specs.Place.{HasBadId, oid, db_pointer}
 
 -- ---- readings that never find a bad id
 

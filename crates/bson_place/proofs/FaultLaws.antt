@@ -1,43 +1,29 @@
 -- What the productions of faults say is what reading gives.
-use Rattle.std.proofs.Common.{◌≡◌, ℕ, ℤ, List, [], ◌∷◌, Bool, true, false, cond, Option, Some, None, Result, Ok, Err}
-use Rattle.std.proofs.Common.{◌&&◌, ◌++◌, inl, arith, refl, sym, ap, subst, ◌∙◌}
+use Rattle.std.proofs.Common.{◌≡◌, ℕ, ℤ, List, Bool, true, false, cond, Option, Some, None, Result, Ok, Err}
+use Rattle.std.proofs.Common.{◌&&◌, refl, sym, ap, ◌∙◌}
 use Rattle.std.specs.Prelude.{codes}
 use Rattle.std.specs.Str.{bytes_eq}
 use Rattle.std.proofs.lemmas.Bool.{and_parts}
-use Rattle.std.proofs.lemmas.Option.{same_Some}
-use Rattle.std.proofs.lemmas.Slice.Eq.{bytes_eq-Decides}
 use Rattle.serde_json.specs.Data.{Data, Num, Members, no_members, member}
 use Rattle.serde_json.specs.Data as tree
-use Rattle.serde_json.specs.Find.{as_i64, as_str}
-use Rattle.bson_types.specs.HexText.{IsHexText, nothing, pair}
-use Rattle.bson_types.specs.Orders.{parsed_hyphenated}
-use Rattle.bson_scalar.specs.Doubles.{double_in, finite_number}
+use Rattle.serde_json.specs.Find.{as_i64}
+use Rattle.bson_scalar.specs.Doubles.{finite_number}
 use Rattle.bson_scalar.specs.Faults.{Fault, wrong_shape, wrong_id, ◌>>=◌, or_wrong_shape}
 use Rattle.bson_scalar.specs.Ints.{narrowest}
-use Rattle.bson_scalar.specs.Means.{MeansScalar, IsOidText}
-use Rattle.bson_scalar.specs.Means as means
-use Rattle.bson_scalar.specs.Reading.{number_read_in, or_double_read, single_in, single_at_in, on_text}
-use Rattle.bson_scalar.specs.Reading.{id_of, id_or, oid_read, pointer_read, two_members, lone_member, on_lone, int_of}
-use Rattle.bson_scalar.specs.Reading.{millis_of, undefined_read, decimal_of, bytes_of, byte_of}
+use Rattle.bson_scalar.specs.Reading.{number_read_in, or_double_read, single_at_in, on_text}
 use Rattle.bson_scalar.specs.Scalar.{Scalar}
 use Rattle.bson_scalar.specs.Scalar as kind
-use Rattle.bson_scalar.specs.Shapes.{object_of_one, object_of_two, u32_at}
+use Rattle.bson_scalar.specs.Shapes.{object_of_one, object_of_two}
 use Rattle.bson_scalar.specs.Table.{wrapper_of, has_wrapper}
-use Rattle.bson_scalar.specs.declared.wrapper.Wrapper.{Wrapper}
-use Rattle.bson_scalar.specs.declared.wrapper.Wrapper.TheVariants.{Oid, Symbol, RegularExpression, NumberInt}
-use Rattle.bson_scalar.specs.declared.wrapper.Wrapper.TheVariants.{NumberLong, NumberDouble, NumberDecimal, Binary}
-use Rattle.bson_scalar.specs.declared.wrapper.Wrapper.TheVariants.{Uuid, Code, Timestamp, Date, MinKey, MaxKey}
-use Rattle.bson_scalar.specs.declared.wrapper.Wrapper.TheVariants.{DbPointer, Undefined}
 use Rattle.bson_scalar.specs.declared.form.Doubles.{Doubles}
 use Rattle.bson_scalar.specs.declared.form.Doubles.TheVariants.{Special, Finite}
-use Rattle.bson_scalar.proofs.Offered.{scalar_from, scalar_to}
 use Rattle.bson_model.specs.Fault.{MeansNothingIn}
 use Rattle.bson_model.specs.Reading.{reads_in, reads_members_in, reads_wrapper_in, reads_scope_in}
 use Rattle.bson_model.specs.Reading.{scalar_value, code_at, scope_value}
 use Rattle.bson_model.specs.Value.{Value, Pairs}
 use Rattle.bson_model.specs.Value as model
 use Rattle.bson_model.proofs.Offered.{means_from_in, means_to_in}
-use Rattle.bson_place.specs.Place.{HasBadId, oid, db_pointer, IsWrapperFaultIn, IsOpen, lone, code_with_scope}
+use Rattle.bson_place.specs.Place.{IsWrapperFaultIn, IsOpen, lone, code_with_scope}
 use Rattle.bson_place.proofs.BadIds.{bad_read, key_is, single_at_bad}
 
 -- ---- numbers
@@ -84,21 +70,21 @@ module _ (D : Doubles) where
 
   pub wrapper_fault : (k : List ℕ) (d : Data) (f : Fault) → has_wrapper (member k d no_members) ≡ true
       → single_at_in D (wrapper_of k) d ≡ Err f → IsWrapperFaultIn D (object_of_one k d) f
-  wrapper_fault k d (wrong_id s) w h = single_at_bad k d s (wrapper_of k) refl h
+  wrapper_fault k d (wrong_id s) w h = single_at_bad D k d s (wrapper_of k) refl h
   wrapper_fault k d wrong_shape w h =
       let read = lone_read k d (Err wrong_shape) w h in
-      (nothing_read read, λ s bad. let clash = sym (bad_read bad) ∙ read in cc)
+      (nothing_read read, λ s bad. let clash = sym (bad_read D bad) ∙ read in cc)
 
   shape_at : (k : List ℕ) (d : Data) (r : Result Scalar Fault) → has_wrapper (member k d no_members) ≡ true
       → single_at_in D (wrapper_of k) d ≡ r → IsWrapperFaultIn D (object_of_one k d) wrong_shape
       → reads_in D (object_of_one k d) ≡ Err wrong_shape
   shape_at k d (Ok x) w h is = absurd (is.0 (model.scalar x) (means_from_in D _ _ (lone_read k d (Ok x) w h)))
   shape_at k d (Err wrong_shape) w h is = lone_read k d (Err wrong_shape) w h
-  shape_at k d (Err (wrong_id s)) w h is = absurd (is.1 s (single_at_bad k d s (wrapper_of k) refl h))
+  shape_at k d (Err (wrong_id s)) w h is = absurd (is.1 s (single_at_bad D k d s (wrapper_of k) refl h))
 
   pub wrapper_read : (k : List ℕ) (d : Data) (f : Fault) → has_wrapper (member k d no_members) ≡ true
       → IsWrapperFaultIn D (object_of_one k d) f → reads_in D (object_of_one k d) ≡ Err f
-  wrapper_read k d (wrong_id s) w is = bad_read is
+  wrapper_read k d (wrong_id s) w is = bad_read D is
   wrapper_read k d wrong_shape w is = shape_at k d _ w refl is
 
   -- ---- numbers
