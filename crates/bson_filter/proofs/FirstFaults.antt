@@ -11,7 +11,6 @@ use Rattle.serde_json.specs.Data.{Data, null, boolean, number, string, array, ob
 use Rattle.serde_json.specs.Data.{no_members, put}
 use Rattle.serde_json.specs.Read.{of_json, of_items, of_members, read}
 use Rattle.bson_scalar.specs.declared.form.Doubles.{Doubles}
-use Rattle.bson_model.proofs.Offered.{means_to_in}
 use Rattle.bson_model.specs.Sorted.{sorted}
 use Rattle.bson_model.specs.Value.{Value}
 use Rattle.bson_order.specs.Texts.{HasMeaningInOrder}
@@ -61,7 +60,7 @@ module _ (D : Doubles) (text written : List ℕ) (is : IsArrangedText Ascending 
   pub none_in_text : (v : Value) → HasMeaningInOrder D written v → IsTextPlaceIn D text None
   none_in_text v m =
       let (t, tree, means) = m.by_default in
-      (t, sym (text_read Ascending text written is) ∙ tree, (sorted v, means_to_in D means.means))
+      (t, sym (text_read Ascending text written is) ∙ tree, (sorted v, means.means))
 
   -- it has its first fault at the place
   pub first_in_text : (e : Stop) (place : Box Place Global) → e ≡ Fault place → TextPlaced D e written

@@ -1,6 +1,6 @@
 -- Each tree has a value, or a fault and the path to it.
 use Rattle.std.proofs.Common.{◌≡◌, ℕ, ◌+◌, List, [], ◌∷◌, ◌++◌, Bool, true, false, None, Ok, Err}
-use Rattle.std.proofs.Common.{Result, refl, ◌&&◌, ◌⊎◌, inl, inr}
+use Rattle.std.proofs.Common.{Result, refl, sym, subst, ◌∙◌, ◌&&◌, ◌⊎◌, inl, inr}
 use Rattle.std.specs.Prelude.{codes}
 use Rattle.std.specs.Str.{bytes_eq}
 use Rattle.std.proofs.lemmas.Bool.{and_parts}
@@ -14,12 +14,17 @@ use Rattle.bson_scalar.specs.Scalar as kind
 use Rattle.bson_scalar.specs.Table.{wrapper_of, has_wrapper}
 use Rattle.bson_scalar.specs.declared.form.Doubles.{Doubles}
 use Rattle.bson_model.specs.Fault.{MeansNothingIn}
+use Rattle.bson_model.specs.Reading.{reads_in}
 use Rattle.bson_model.specs.Value as model
-use Rattle.bson_model.proofs.Offered.{means_from_in}
+use Rattle.bson_model.proofs.Offered.{means_to_in}
 use Rattle.bson_place.specs.Place.{PathSegment, key, element, FaultAtIn, FaultAmongIn, FaultWithinIn, HasValueIn}
-use Rattle.bson_place.specs.Place.{array, document, wrapper, shape, here, later, at_key, behind}
-use Rattle.bson_place.proofs.Steps.{HasItems, HasPairs, Coded, number_value, no_number, array_value, document_value}
-use Rattle.bson_place.proofs.Steps.{wrapped, lone_value, not_code, not_text, value_of_code, scope_path, scope_of_map}
+use Rattle.bson_place.specs.Place.{array, document, here, later, at_key, behind}
+use Rattle.bson_place.proofs.Agrees.{fault_to}
+use Rattle.bson_place.proofs.FaultLaws.{nothing_read}
+use Rattle.bson_place.proofs.FaultLaws.{Coded}
+use Rattle.bson_place.proofs.Steps.{HasItems, HasPairs, number_value, no_number, array_value, document_value}
+use Rattle.bson_place.proofs.Steps.{value_of, lone_value, lone_fault, shape_fault, not_code, not_text, value_of_code}
+use Rattle.bson_place.proofs.Steps.{scope_path, scope_of_map}
 use Rattle.bson_place.proofs.Steps.{never, HasScopeIn, IsScopeFaultIn, in_scope, no_scope}
 
 abbrev Or : Type 0 → (Fault → List PathSegment → Type 0) → Type 0
@@ -46,12 +51,12 @@ module _ (D : Doubles) where
   items_are : (n : ℕ) (d : Data) (ds : Items) → ValueOr d
       → Or (HasItems D ds) (λ f path. FaultAmongIn D f (n + 1) ds path)
       → Or (HasItems D (item d ds)) (λ f path. FaultAmongIn D f n (item d ds) path)
-  items_are n d ds (inl a) (inl b) = inl (model.value a.0 b.0, rw (a.1, b.1) refl)
+  items_are n d ds (inl a) (inl b) = inl (model.value a.0 b.0, rw (means_to_in D a.1, b.1) refl)
   items_are n d ds (inl a) (inr b) = inr (b.0, b.1, later n d a.0 ds a.1 b.2)
   items_are n d ds (inr a) b = inr (a.0, a.1 ++ element n ∷ [], here n d ds a.2)
 
   members_are : (k : List ℕ) (d : Data) (ms : Members) → ValueOr d → PairsOr ms → PairsOr (member k d ms)
-  members_are k d ms (inl a) (inl b) = inl (model.pair k a.0 b.0, rw (a.1, b.1) refl)
+  members_are k d ms (inl a) (inl b) = inl (model.pair k a.0 b.0, rw (means_to_in D a.1, b.1) refl)
   members_are k d ms (inl a) (inr b) = inr (b.0, b.1, behind k d a.0 ms a.1 b.2)
   members_are k d ms (inr a) b = inr (a.0, a.1 ++ key k ∷ [], at_key k d ms a.2)
 
@@ -67,7 +72,7 @@ module _ (D : Doubles) where
   lone_is : (k : List ℕ) (d : Data) (r : Result Scalar Fault) → has_wrapper (member k d no_members) ≡ true
       → single_at_in D (wrapper_of k) d ≡ r → ValueOr (tree.object (member k d no_members))
   lone_is k d (Ok x) w h = inl (lone_value D k d x w h)
-  lone_is k d (Err f) w h = inr (f, key k ∷ [], wrapper k d w h)
+  lone_is k d (Err f) w h = inr (f, key k ∷ [], lone_fault D k d f w h)
 
   no_text : (d e : Data) → ((s : List ℕ) → d ≡ tree.string s → ⊥) → ValueOr (tree.object (Coded d e))
   no_text d e none = inr (wrong_shape, [], not_text D d e none)
@@ -101,10 +106,10 @@ module _ (D : Doubles) where
 
   mutual
     pub value_or_fault : (t : Data) → ValueOr t
-    value_or_fault tree.null = inl (model.scalar kind.null, refl)
-    value_or_fault (tree.boolean b) = inl (model.scalar (kind.boolean b), refl)
+    value_or_fault tree.null = inl (value_of D tree.null (model.scalar kind.null) refl)
+    value_or_fault (tree.boolean b) = inl (value_of D (tree.boolean b) (model.scalar (kind.boolean b)) refl)
     value_or_fault (tree.number n) = number_is n (number_read_in D n) refl
-    value_or_fault (tree.string s) = inl (model.scalar (kind.text s), refl)
+    value_or_fault (tree.string s) = inl (value_of D (tree.string s) (model.scalar (kind.text s)) refl)
     value_or_fault (tree.array ds) = array_is ds (items_or_fault 0 ds)
     value_or_fault (tree.object ms) = object_is ms (has_wrapper ms) refl (pairs_or_fault ms) (wrapper_or_fault ms)
 
@@ -121,8 +126,7 @@ module _ (D : Doubles) where
     wrapper_or_fault (member k d no_members) w = lone_is k d (single_at_in D (wrapper_of k) d) w refl
     wrapper_or_fault (member k d (member l e no_members)) w = two_are k d l e _ w refl (scope_or_fault e)
     wrapper_or_fault (member k d (member l e (member m f ms))) w =
-        let all = member k d (member l e (member m f ms)) in
-        inr (wrong_shape, [], shape all w (λ is. never is) (wrapped D all w))
+        inr (wrong_shape, [], shape_fault D (member k d (member l e (member m f ms))) w (λ is. never is) refl)
 
     scope_or_fault : (e : Data) → ScopeOr e
     scope_or_fault tree.null = inl (None, refl)
@@ -133,8 +137,20 @@ module _ (D : Doubles) where
     scope_or_fault (tree.object ms) = scope_map_is ms (pairs_or_fault ms)
 
   fault_left : (t : Data) → ValueOr t → MeansNothingIn D t → (f : Fault) × (path : List PathSegment) × FaultAtIn D f t path
-  fault_left t (inl a) nothing = absurd (nothing a.0 (means_from_in D t a.0 a.1))
+  fault_left t (inl a) nothing = absurd (nothing a.0 a.1)
   fault_left t (inr a) nothing = a
 
   pub has_fault : (t : Data) → MeansNothingIn D t → (f : Fault) × (path : List PathSegment) × FaultAtIn D f t path
   has_fault t nothing = fault_left t (value_or_fault t) nothing
+
+  -- the fault that reading gives has a path
+  same_fault : {f g : Fault} (t : Data) (path : List PathSegment) → reads_in D t ≡ Err f → FaultAtIn D g t path
+      → FaultAtIn D f t path
+  same_fault {f} {g} t path h m =
+      let same : g ≡ f = (let reads = sym (fault_to D m) ∙ h in cc) in
+      subst (λ x. FaultAtIn D x t path) same m
+
+  pub read_fault : (t : Data) (f : Fault) → reads_in D t ≡ Err f → (path : List PathSegment) × FaultAtIn D f t path
+  read_fault t f h =
+      let a = has_fault t (nothing_read D h) in
+      (a.1, same_fault t a.1 h a.2)

@@ -22,6 +22,7 @@ use Rattle.bson_place.specs.Built.{then_value, then_pair, Builds}
 use Rattle.bson_place.specs.Place.{PathSegment, key, element, FaultAtIn, FaultAmongIn, FaultWithinIn, here, later}
 use Rattle.bson_place.specs.Place.{at_key}
 use Rattle.bson_place.specs.Place.{behind, IsPlace, path_of}
+use Rattle.bson_model.proofs.Offered.{means_from_in}
 use Rattle.bson_place.proofs.Steps.{Member, built_in, carried, placed_in}
 
 -- ---- the elements of an array
@@ -131,7 +132,7 @@ module _ {X Z : Type 0} (D : Doubles) (built : Z → Value → Type 0) (listed :
         whole = onto_values-then was.done v.0 (reads_items_in D ds)
             ∙ ap (λ q. onto_values was.done (q >>= λ w. reads_items_in D ds >>= λ ws. Ok (value w ws))) (sym v.1)
             ∙ was.whole;
-        fault = λ f path m. was.fault f path (later n (view x) v.0 ds v.1 m);
+        fault = λ f path m. was.fault f path (later n (view x) v.0 ds (means_from_in D (view x) v.0 v.1) m);
       }
 
   -- a fault of the next one is the fault of the whole
@@ -188,7 +189,7 @@ module _ {X Z : Type 0} (D : Doubles) (built : Z → Value → Type 0) (paired :
         whole = onto_pairs-then was.done k v.0 (reads_members_in D ms)
             ∙ ap (λ q. onto_pairs was.done (q >>= λ w. reads_members_in D ms >>= λ qs. Ok (pair k w qs))) (sym v.1)
             ∙ was.whole;
-        fault = λ f path m. was.fault f path (behind k d v.0 ms v.1 m);
+        fault = λ f path m. was.fault f path (behind k d v.0 ms (means_from_in D d v.0 v.1) m);
       }
 
   pub pairs_stopped : (read : X) (es rest : List Member) (x : Member) (r : Result Z Place) (p q : Place)

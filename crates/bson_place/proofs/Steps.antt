@@ -1,6 +1,6 @@
 -- Places of what a tree holds are places of the tree.
 use Rattle.std.proofs.Common.{◌≡◌, ℕ, List, [], ◌∷◌, ◌++◌, Bool, true, false, cond, Option, Some, None}
-use Rattle.std.proofs.Common.{ℤ, Result, Ok, Err, ◌&&◌, refl, sym, ap, subst, ◌∙◌, rules, length, string_bytes}
+use Rattle.std.proofs.Common.{Result, Ok, Err, ◌&&◌, refl, sym, ap, subst, ◌∙◌, rules, length, string_bytes}
 use Rattle.std.proofs.Common.{String, Global}
 use Rattle.std.specs.Prelude.{codes}
 use Rattle.std.specs.Str.{bytes_eq}
@@ -9,23 +9,19 @@ use Rattle.std.proofs.lemmas.List.{nil_from_length}
 use Rattle.std.proofs.lemmas.Slice.Eq.{bytes_eq-Decides}
 use Rattle.serde_json.specs.Data.{Data, Num, Items, Members, no_members, member}
 use Rattle.serde_json.specs.Data as tree
-use Rattle.bson_scalar.specs.Faults.{Fault, wrong_shape, ◌>>=◌, or_wrong_shape}
+use Rattle.bson_scalar.specs.Faults.{Fault, wrong_shape, ◌>>=◌}
 use Rattle.serde_json.specs.View.{view, number_view, members_view}
 use Rattle.serde_json.specs.declared.number.Number.{Number}
 use Rattle.serde_json.specs.declared.value.Value.{Value as Tree, the_lemmas}
 use Rattle.serde_json.specs.declared.value.Value.TheVariants as declared
-use Rattle.serde_json.specs.Find.{as_i64, as_str, as_object}
-use Rattle.bson_scalar.specs.Ints.{narrowest}
-use Rattle.bson_scalar.specs.Doubles.{finite_number}
-use Rattle.bson_scalar.specs.Reading.{number_read_in, or_double_read, single_at_in, on_text}
+use Rattle.serde_json.specs.Find.{as_str, as_object}
+use Rattle.bson_scalar.specs.Reading.{number_read_in, single_at_in}
 use Rattle.bson_scalar.specs.Scalar.{Scalar}
-use Rattle.bson_scalar.specs.Scalar as kind
 use Rattle.bson_scalar.specs.Table.{wrapper_of, has_wrapper}
 use Rattle.bson_scalar.specs.declared.form.Doubles.{Doubles}
-use Rattle.bson_scalar.specs.declared.form.Doubles.TheVariants.{Special, Finite}
 use Rattle.bson_model.specs.Reading.{reads_in, reads_items_in, reads_members_in, reads_wrapper_in, reads_scope_in}
 use Rattle.bson_model.specs.Reading.{scalar_value, code_at, code_value, scope_value}
-use Rattle.bson_model.specs.Value.{Values, Pairs}
+use Rattle.bson_model.specs.Value.{Value, Values, Pairs}
 use Rattle.bson_model.specs.Value as model
 use Rattle.bson_place.specs.declared.place.Place.{Place}
 use Rattle.bson_place.specs.declared.place.Reason.{Reason}
@@ -33,6 +29,8 @@ use Rattle.bson_place.specs.Place.{PathSegment, key, path_of, FaultAtIn, FaultAm
 use Rattle.bson_place.specs.Place.{array, document, wrapper, scope, shape, HasValueIn, IsReason, IsPlace, IsOpen}
 use Rattle.bson_place.specs.Place.{code_with_scope}
 use Rattle.bson_place.specs.Built.{Builds}
+use Rattle.bson_model.proofs.Offered.{means_from_in}
+use Rattle.bson_place.proofs.FaultLaws.{Coded, nothing_read, number_fault, other_keys, wrapped, wrapper_fault}
 
 -- what a map has
 abbrev pub Member : Type 0
@@ -42,22 +40,6 @@ Member = String Global × Tree
 
 pub view_number : (n : Number) → view (declared.Number n) ≡ tree.number (number_view n)
 view_number n = search (rules, the_lemmas)
-
--- ---- numbers
-
-no_scalar : {X : Type 0} (o : Option X) (g : X → Scalar) (f : Fault) → (or_wrong_shape o >>= λ x. Ok (g x)) ≡ Err f
-    → f ≡ wrong_shape
-no_scalar None g f h = cc
-no_scalar (Some x) g f h = cc
-
-no_double : (o : Option ℤ) (n : Num) (f : Fault) → or_double_read o n ≡ Err f → f ≡ wrong_shape
-no_double (Some z) n f h = cc
-no_double None n f h = no_scalar (finite_number n) kind.double f h
-
--- a number that is refused has no other fault
-number_fault : (D : Doubles) (n : Num) (f : Fault) → number_read_in D n ≡ Err f → f ≡ wrong_shape
-number_fault Special n f h = no_scalar (as_i64 n) narrowest f h
-number_fault Finite n f h = no_double (as_i64 n) n f h
 
 -- ---- places
 
@@ -117,13 +99,6 @@ not_open_by_keys : (k : List ℕ) (d : Data) (l : List ℕ) (e : Data)
     → ⊥
 not_open_by_keys k d l e h (code_with_scope s ms) = cc
 
-other_keys : (k : List ℕ) (d : Data) (l : List ℕ) (r : Result (Option Pairs) Fault)
-    → (bytes_eq k (codes "$code") && bytes_eq l (codes "$scope")) ≡ false → code_at k d l r ≡ Err wrong_shape
-other_keys k d l r h = ap (λ b. cond b (on_text d (λ s. scope_value s r)) (Err wrong_shape)) h
-
-abbrev pub Coded : Data → Data → Members
-Coded d e = member (codes "$code") d (member (codes "$scope") e no_members)
-
 not_open_by_code : (d e : Data) → ((s : List ℕ) → d ≡ tree.string s → ⊥) → IsOpen (Coded d e) → ⊥
 not_open_by_code d e h (code_with_scope s ms) = h s refl
 
@@ -159,13 +134,17 @@ coded es mid rest x y is next none keys =
 module _ (D : Doubles) where
   -- ---- values
 
+  -- what is read is the meaning
+  pub value_of : (t : Data) (v : Value) → reads_in D t ≡ Ok v → HasValueIn D t
+  value_of t v h = (v, means_from_in D t v h)
+
   pub number_value : (n : Num) (x : Scalar) → number_read_in D n ≡ Ok x → HasValueIn D (tree.number n)
-  number_value n x h = (model.scalar x, ap scalar_value h)
+  number_value n x h = value_of (tree.number n) (model.scalar x) (ap scalar_value h)
 
   pub no_number : (n : Num) (f : Fault) → number_read_in D n ≡ Err f → FaultAtIn D f (tree.number n) []
   no_number n f h =
       let is = number_fault D n f h in
-      subst (λ g. FaultAtIn D g (tree.number n) []) (sym is) (number n (subst (λ g. number_read_in D n ≡ Err g) is h))
+      subst (λ g. FaultAtIn D g (tree.number n) []) (sym is) (number n (nothing_read D (ap scalar_value h)))
 
   -- the reason of a number
   pub number_place : (n : Num) (f : Fault) (e : Reason) (p : Place) → number_read_in D n ≡ Err f → IsReason f e
@@ -179,7 +158,7 @@ module _ (D : Doubles) where
   -- ---- arrays and documents
 
   pub array_value : (ds : Items) → HasItems D ds → HasValueIn D (tree.array ds)
-  array_value ds vs = (model.array vs.0, ap (λ r. r >>= λ ws. Ok (model.array ws)) vs.1)
+  array_value ds vs = value_of (tree.array ds) (model.array vs.0) (ap (λ r. r >>= λ ws. Ok (model.array ws)) vs.1)
 
   -- the place of a fault in a list is that of the list's tree
   pub array_place : {X : Type 0} (listed : X → Values → Type 0) (ds : Items) (r : Result X Place) (p : Place)
@@ -189,11 +168,10 @@ module _ (D : Doubles) where
       with_place p (λ f path m. array ds m) (placed_in listed (reads_items_in D ds) (λ f. FaultAmongIn D f 0 ds) r p is h)
 
   pub document_value : (ms : Members) → has_wrapper ms ≡ false → HasPairs D ms → HasValueIn D (tree.object ms)
-  document_value ms none ps = (
-    model.document ps.0,
-    ap (λ b. cond b (reads_wrapper_in D ms) (reads_members_in D ms >>= λ qs. Ok (model.document qs))) none
-        ∙ ap (λ r. r >>= λ qs. Ok (model.document qs)) ps.1,
-  )
+  document_value ms none ps =
+      value_of (tree.object ms) (model.document ps.0)
+      (ap (λ b. cond b (reads_wrapper_in D ms) (reads_members_in D ms >>= λ qs. Ok (model.document qs))) none
+      ∙ ap (λ r. r >>= λ qs. Ok (model.document qs)) ps.1)
 
   pub document_place : {X : Type 0} (paired : X → Pairs → Type 0) (ms : Members) (r : Result X Place) (p : Place)
       → has_wrapper ms ≡ false → r ≡ Err p → Builds paired (reads_members_in D ms) (λ f. FaultWithinIn D f ms) r
@@ -204,13 +182,21 @@ module _ (D : Doubles) where
 
   -- ---- wrappers
 
-  -- the value of a map with a wrapper key
-  pub wrapped : (ms : Members) → has_wrapper ms ≡ true → reads_in D (tree.object ms) ≡ reads_wrapper_in D ms
-  wrapped ms h = ap (λ b. cond b (reads_wrapper_in D ms) (reads_members_in D ms >>= λ qs. Ok (model.document qs))) h
-
   pub lone_value : (k : List ℕ) (d : Data) (x : Scalar) → has_wrapper (member k d no_members) ≡ true
       → single_at_in D (wrapper_of k) d ≡ Ok x → HasValueIn D (tree.object (member k d no_members))
-  lone_value k d x h e = (model.scalar x, wrapped (member k d no_members) h ∙ ap scalar_value e)
+  lone_value k d x h e =
+      value_of (tree.object (member k d no_members)) (model.scalar x)
+      (wrapped D (member k d no_members) h ∙ ap scalar_value e)
+
+  -- what reading finds at the key of a wrapper
+  pub lone_fault : (k : List ℕ) (d : Data) (f : Fault) → has_wrapper (member k d no_members) ≡ true
+      → single_at_in D (wrapper_of k) d ≡ Err f → FaultAtIn D f (tree.object (member k d no_members)) (key k ∷ [])
+  lone_fault k d f w h = wrapper k d w (wrapper_fault D k d f w h)
+
+  -- an object that is read as one of the wrong shape
+  pub shape_fault : (ms : Members) → has_wrapper ms ≡ true → (IsOpen ms → ⊥)
+      → reads_wrapper_in D ms ≡ Err wrong_shape → FaultAtIn D wrong_shape (tree.object ms) []
+  shape_fault ms w o h = shape ms w o (nothing_read D (wrapped D ms w ∙ h))
 
   -- the reason at a wrapper's key
   pub lone_place : (k : List ℕ) (d : Data) (f : Fault) (e : Reason) (p : Place)
@@ -218,7 +204,7 @@ module _ (D : Doubles) where
       → path_of p ≡ key k ∷ [] → p.reason ≡ e → IsPlace (λ g. FaultAtIn D g (tree.object (member k d no_members))) p
   lone_place k d f e p w h is path reason = record {
     fault = f;
-    path = subst (λ x. FaultAtIn D f (tree.object (member k d no_members)) x) (sym path) (wrapper k d w h);
+    path = subst (λ x. FaultAtIn D f (tree.object (member k d no_members)) x) (sym path) (lone_fault k d f w h);
     reason = subst (IsReason f) (sym reason) is;
   }
 
@@ -228,7 +214,7 @@ module _ (D : Doubles) where
       → FaultAtIn D wrong_shape (tree.object (member k d (member l e no_members))) []
   not_code k d l e w h =
       let ms = member k d (member l e no_members) in
-      shape ms w (not_open_by_keys k d l e h) (wrapped ms w ∙ other_keys k d l (reads_scope_in D e) h)
+      shape_fault ms w (not_open_by_keys k d l e h) (other_keys k d l (reads_scope_in D e) h)
 
   no_code_text : (d e : Data) → ((s : List ℕ) → d ≡ tree.string s → ⊥)
       → code_at (codes "$code") d (codes "$scope") (reads_scope_in D e) ≡ Err wrong_shape
@@ -241,7 +227,7 @@ module _ (D : Doubles) where
 
   pub not_text : (d e : Data) → ((s : List ℕ) → d ≡ tree.string s → ⊥)
       → FaultAtIn D wrong_shape (tree.object (Coded d e)) []
-  not_text d e h = shape (Coded d e) refl (not_open_by_code d e h) (no_code_text d e h)
+  not_text d e h = shape_fault (Coded d e) refl (not_open_by_code d e h) (no_code_text d e h)
 
   code_read : (d e : Data) (s : List ℕ) → d ≡ tree.string s
       → reads_in D (tree.object (Coded d e)) ≡ scope_value s (reads_scope_in D e)
@@ -249,14 +235,15 @@ module _ (D : Doubles) where
 
   pub value_of_code : (d e : Data) (s : List ℕ) → d ≡ tree.string s → HasScopeIn D e
       → HasValueIn D (tree.object (Coded d e))
-  value_of_code d e s is ps = (code_value s ps.0, code_read d e s is ∙ ap (scope_value s) ps.1)
+  value_of_code d e s is ps =
+      value_of (tree.object (Coded d e)) (code_value s ps.0) (code_read d e s is ∙ ap (scope_value s) ps.1)
 
   pub scope_path : (d e : Data) (s : List ℕ) → d ≡ tree.string s → (f : Fault) (path : List PathSegment)
       → IsScopeFaultIn D e f path
       → FaultAtIn D f (tree.object (Coded d e)) path
   scope_path d e s is f path (in_scope ms h) = rw is (scope s ms h)
   scope_path d e s is f path (no_scope x none bad) =
-      shape (Coded d e) refl (not_open_by_scope d e none) (code_read d e s is ∙ ap (scope_value s) bad)
+      shape_fault (Coded d e) refl (not_open_by_scope d e none) (code_read d e s is ∙ ap (scope_value s) bad)
 
   -- what is no text, where code is to stand
   pub no_text_place : (d e : Data) (p : Place) → as_str d ≡ None → IsReason wrong_shape p.reason → path_of p ≡ []
@@ -290,8 +277,7 @@ module _ (D : Doubles) where
       → FaultAtIn D wrong_shape (tree.object (members_view (x ∷ y ∷ rest))) []
   more_cases x y [] some w = absurd (some refl)
   more_cases x y (z ∷ rest) some w =
-      let ms = members_view (x ∷ y ∷ z ∷ rest) in
-      shape ms w (λ o. never o) (wrapped ms w)
+      shape_fault (members_view (x ∷ y ∷ z ∷ rest)) w (λ o. never o) refl
 
   pub more_place : (es mid rest : List Member) (x y : Member) (p : Place) → es ≡ x ∷ mid → mid ≡ y ∷ rest
       → (length rest ≡ 0 → ⊥) → has_wrapper (members_view es) ≡ true → IsReason wrong_shape p.reason → path_of p ≡ []

@@ -1,5 +1,5 @@
 //! Laws of the definitions.
-ghost use Rattle.std.specs.Prelude.{◌≡◌, List, Err};
+ghost use Rattle.std.specs.Prelude.{◌≡◌, ◌↔◌, List, Err};
 ghost use Rattle.serde_json.specs.Data.{Data};
 ghost use Rattle.bson_scalar.specs.Faults.{Fault};
 ghost use Rattle.bson_scalar.specs.declared.form.Doubles.{Doubles};
@@ -25,15 +25,16 @@ pub fn faults_have_places()
     ensures { (t : Data) → MeansNothing t → (f : Fault) × (path : List PathSegment) × FaultAt f t path }
 {}
 
-/// The laws of places hold in each mode of doubles.
+/// The laws of places hold in each mode of doubles: a tree means nothing if and only if it has a
+/// fault at the end of a path. There is one such fault and one such path, and the fault is the one
+/// that reading the tree gives.
 pub fn places_in_each_mode()
-    ensures read { (D : Doubles) (f : Fault) (t : Data) (path : List PathSegment) → FaultAtIn D f t path → reads_in D t ≡ Err f }
-    ensures nothing { (D : Doubles) (f : Fault) (t : Data) (path : List PathSegment) → FaultAtIn D f t path
-        → MeansNothingIn D t }
+    ensures nothing { (D : Doubles) (t : Data) → MeansNothingIn D t
+        ↔ ((f : Fault) × (path : List PathSegment) × FaultAtIn D f t path) }
+    ensures read { (D : Doubles) (f : Fault) (t : Data) → (reads_in D t ≡ Err f)
+        ↔ ((path : List PathSegment) × FaultAtIn D f t path) }
     ensures fault { (D : Doubles) (f g : Fault) (t : Data) (path other : List PathSegment) → FaultAtIn D f t path
         → FaultAtIn D g t other → f ≡ g }
     ensures path { (D : Doubles) (f g : Fault) (t : Data) (path other : List PathSegment) → FaultAtIn D f t path
         → FaultAtIn D g t other → path ≡ other }
-    ensures place { (D : Doubles) (t : Data) → MeansNothingIn D t
-        → (f : Fault) × (path : List PathSegment) × FaultAtIn D f t path }
 {}

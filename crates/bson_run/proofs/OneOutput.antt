@@ -6,7 +6,6 @@ use Rattle.bson.proofs.Offered.{tree_one}
 use Rattle.bson.specs.TextMeaning.{HasTextMeaningIn, IsNoText}
 use Rattle.bson.specs.declared.extjson.options.Options.{Options}
 use Rattle.bson_codec.specs.Canonical.{Cause, zero_in_key, zero_in_regex, too_long, DocumentFails, FitsDocument}
-use Rattle.bson_model.specs.Fault.{fault_of_in}
 use Rattle.bson_model.specs.Means.{MeansIn}
 use Rattle.bson_model.specs.Sorted.{sorted}
 use Rattle.bson_model.specs.Value.{Pairs, Value, document}
@@ -144,8 +143,7 @@ module _ (o : Options) where
       → IsRefusedIn o (NotExtendedJson other) text → path_of place ≡ path_of other
   same_path text place other (t, is, x) (u, also, y) =
       let trees : u ≡ t = tree_one text u t also is in
-      one_path o.doubles x.path
-      (subst (λ d. FaultAtIn o.doubles (fault_of_in o.doubles d) d (path_of other)) trees y.path)
+      one_path o.doubles x.path (subst (λ d. FaultAtIn o.doubles y.fault d (path_of other)) trees y.path)
 
   -- ---- what is written
 

@@ -1,6 +1,7 @@
 pub mod Shapes
 pub mod Meanings
 pub mod Faults
+pub mod Places
 pub mod Trees
 pub mod Standards
 pub mod Dates

@@ -13,14 +13,15 @@ use Rattle.bson_scalar.specs.Scalar.{Scalar}
 use Rattle.bson_scalar.specs.Scalar as kind
 use Rattle.bson_scalar.specs.Table.{wrapper_of, has_wrapper}
 use Rattle.bson_scalar.specs.declared.form.Doubles.{Doubles}
+use Rattle.bson_model.proofs.Offered.{means_to_in}
 use Rattle.bson_model.specs.Value as model
 use Rattle.bson_place.specs.Place.{PathSegment, key, element, FaultAtIn, FaultAmongIn, FaultWithinIn, HasValueIn}
 use Rattle.bson_place.specs.Place.{array, document}
-use Rattle.bson_place.specs.Place.{wrapper, shape, here as at_element, later, at_key, behind}
+use Rattle.bson_place.specs.Place.{here as at_element, later, at_key, behind}
 use Rattle.bson_place.proofs.Offered.{HasScopeIn, IsScopeFaultIn, in_scope, no_scope}
 use Rattle.bson_place.proofs.Offered.{HasItems, HasPairs, Coded, number_value, no_number, array_value, document_value}
-use Rattle.bson_place.proofs.Offered.{wrapped, lone_value, not_code, not_text, value_of_code, scope_path, scope_of_map}
-use Rattle.bson_place.proofs.Offered.{never}
+use Rattle.bson_place.proofs.Offered.{lone_fault, lone_value, not_code, not_text, value_of_code, scope_path}
+use Rattle.bson_place.proofs.Offered.{scope_of_map, never, shape_fault, value_of}
 use Rattle.bson_tokens.specs.Found.{Verdict, found, found_items, found_members, found_wrapper, found_scope, or, within}
 use Rattle.bson_tokens.specs.Found.{here, of_scalar, of_code}
 
@@ -43,7 +44,7 @@ module _ (D : Doubles) where
   items_are : (n : ℕ) (d : Data) (ds : Items) (v w : Verdict) → Is (HasValueIn D d) (λ f path. FaultAtIn D f d path) v
       → Is (HasItems D ds) (λ f path. FaultAmongIn D f (n + 1) ds path) w
       → Is (HasItems D (item d ds)) (λ f path. FaultAmongIn D f n (item d ds) path) (or (within (element n) v) w)
-  items_are n d ds None None a b = (model.value a.0 b.0, rw (a.1, b.1) refl)
+  items_are n d ds None None a b = (model.value a.0 b.0, rw (means_to_in D a.1, b.1) refl)
   items_are n d ds None (Some f) a b = later n d a.0 ds a.1 b
   items_are n d ds (Some f) w a b = at_element n d ds a
 
@@ -51,7 +52,7 @@ module _ (D : Doubles) where
       → Is (HasValueIn D d) (λ f path. FaultAtIn D f d path) v
       → Is (HasPairs D ms) (λ f path. FaultWithinIn D f ms path) w
       → Is (HasPairs D (member k d ms)) (λ f path. FaultWithinIn D f (member k d ms) path) (or (within (key k) v) w)
-  members_are k d ms None None a b = (model.pair k a.0 b.0, rw (a.1, b.1) refl)
+  members_are k d ms None None a b = (model.pair k a.0 b.0, rw (means_to_in D a.1, b.1) refl)
   members_are k d ms None (Some f) a b = behind k d a.0 ms a.1 b
   members_are k d ms (Some f) w a b = at_key k d ms a
 
@@ -74,7 +75,7 @@ module _ (D : Doubles) where
   lone_is : (k : List ℕ) (d : Data) (r : Result Scalar Fault) → has_wrapper (member k d no_members) ≡ true
       → single_at_in D (wrapper_of k) d ≡ r → ObjectIs (member k d no_members) (within (key k) (of_scalar r))
   lone_is k d (Ok x) w h = lone_value D k d x w h
-  lone_is k d (Err f) w h = wrapper k d w h
+  lone_is k d (Err f) w h = lone_fault D k d f w h
 
   -- what stands as a scope at this key
   abbrev ScopeIs : Data → Verdict → Type 0
@@ -110,10 +111,10 @@ module _ (D : Doubles) where
 
   mutual
     pub is_found : (t : Data) → Is (HasValueIn D t) (λ f path. FaultAtIn D f t path) (found D t)
-    is_found tree.null = (model.scalar kind.null, refl)
-    is_found (tree.boolean b) = (model.scalar (kind.boolean b), refl)
+    is_found tree.null = value_of D tree.null (model.scalar kind.null) refl
+    is_found (tree.boolean b) = value_of D (tree.boolean b) (model.scalar (kind.boolean b)) refl
     is_found (tree.number n) = number_is n (number_read_in D n) refl
-    is_found (tree.string s) = (model.scalar (kind.text s), refl)
+    is_found (tree.string s) = value_of D (tree.string s) (model.scalar (kind.text s)) refl
     is_found (tree.array ds) = array_is ds (found_items D 0 ds) (are_found 0 ds)
     is_found (tree.object ms) = object_is ms (has_wrapper ms) refl (in_found ms) (wrapper_found ms)
 
@@ -131,8 +132,7 @@ module _ (D : Doubles) where
     wrapper_found (member k d no_members) w = lone_is k d (single_at_in D (wrapper_of k) d) w refl
     wrapper_found (member k d (member l e no_members)) w = two_are k d l e _ w refl (scope_found e)
     wrapper_found (member k d (member l e (member m f ms))) w =
-        shape (member k d (member l e (member m f ms))) w (λ is. never is)
-        (wrapped D (member k d (member l e (member m f ms))) w)
+        shape_fault D (member k d (member l e (member m f ms))) w (λ is. never is) refl
 
     scope_found : (e : Data) → ScopeIs e (found_scope D e)
     scope_found tree.null = (None, refl)

@@ -1,10 +1,10 @@
 -- What the status of a fault says of the bytes that have it.
-use Rattle.std.proofs.Common.{◌≡◌, ◌≤◌, inl, inr, ℕ, List, arith}
+use Rattle.std.proofs.Common.{◌≡◌, ◌≤◌, inl, inr, ℕ, List, arith, subst}
 use Rattle.serde_json.specs.Data.{Data}
 use Rattle.bson.specs.TextMeaning.{IsTextOf}
 use Rattle.bson_place.specs.Faults.{Fault as TreeFault}
 use Rattle.bson.specs.declared.extjson.options.Options.{Options}
-use Rattle.bson_model.specs.Fault.{fault_of_in}
+use Rattle.bson_place.proofs.Offered.{first_fault}
 use Rattle.bson_place.specs.Place.{IsFirstFaultIn, IsReason}
 use Rattle.bson_place.specs.declared.place.Reason.{Reason}
 use Rattle.bson_place.specs.declared.place.Reason.TheVariants.{BadObjectId, WrongShape}
@@ -35,10 +35,14 @@ not_two (BadObjectId e) is = absurd (omega arith)
 not_two (WrongShape message) is = absurd (omega arith)
 
 of_place : (o : Options) (why : TreeFault → Type 0) (place : Place) (bytes : List ℕ)
-    → (h : (t : Data) × IsTextOf bytes t × IsFirstFaultIn o.doubles t place) → why (fault_of_in o.doubles h.0)
+    → (h : (t : Data) × IsTextOf bytes t × IsFirstFaultIn o.doubles t place) → why h.2.fault
     → HasNoMeaningIn o why bytes
-of_place o why place bytes h reason =
-    record { tree = h.0; text = h.1; refused = h.2.nothing; reason = reason }
+of_place o why place bytes h reason = record {
+  tree = h.0;
+  text = h.1;
+  refused = h.2.nothing;
+  reason = subst why (first_fault o.doubles h.2.path) reason;
+}
 
 pub causes : (o : Options) (fault : Error) (bytes : List ℕ) → IsRefusedIn o fault bytes
     → IsCauseIn o (status_of fault) bytes

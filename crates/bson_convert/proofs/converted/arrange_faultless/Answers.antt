@@ -3,7 +3,6 @@ use Rattle.std.proofs.lemmas.Str.{IsUtf8-string_bytes}
 use Rattle.std.specs.Prelude.{IsUtf8, string_bytes}
 use Rattle.bson_distinct.specs.Arranged.{IsArrangedText}
 use Rattle.bson_distinct.specs.declared.arrangement.Arrangement.TheVariants.{Ascending}
-use Rattle.bson_model.proofs.Offered.{means_from_in}
 use Rattle.bson_tokens.specs.Told.{IsTextPlaceIn}
 use Rattle.bson_convert.proofs.converted.arrange_faultless.Goals as goal
 
@@ -19,7 +18,7 @@ returns-in-Ok-None-clause-ok c =
       found.0,
       found.2.0,
       record { utf8 = IsUtf8-string_bytes arranged; tree_read = read },
-      means_from_in D found.0 found.2.0 found.2.1,
+      found.2.1,
     )
 
 pub returns-in-Ok-Some-clause-fault : goal.returns-in-Ok-Some-clause-fault

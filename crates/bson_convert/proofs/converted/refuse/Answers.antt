@@ -1,6 +1,5 @@
 use Rattle.std.proofs.Common.{arith, subst}
 use Rattle.std.specs.Prelude.{IsUtf8}
-use Rattle.bson_model.proofs.Offered.{means_from_in}
 use Rattle.bson_tokens.specs.Told.{IsTextPlaceIn}
 use Rattle.bson_convert.proofs.converted.refuse.Goals as goal
 
@@ -10,5 +9,4 @@ returns-in-Ok-None-clause-ok c =
     let text = c.args.text.now in
     let utf8 : IsUtf8 text = grind arith in
     let found = subst (IsTextPlaceIn D text) c.in-Ok-None.field-0-is c.in-Ok-None.ensures.place in
-    let read = means_from_in D found.0 found.2.0 found.2.1 in
-    (found.0, found.2.0, record { utf8 = utf8; tree_read = found.1 }, read)
+    (found.0, found.2.0, record { utf8 = utf8; tree_read = found.1 }, found.2.1)

@@ -1,7 +1,12 @@
 use Rattle.serde_json.specs.View.{view}
 use Rattle.bson_place.proofs.Agrees.{first_at}
-use Rattle.bson_place.proofs.Steps.{placed_in}
+use Rattle.bson_place.proofs.Steps.{built_in, placed_in, value_of}
 use Rattle.bson_place.proofs.walk.first_place.Goals as goal
+
+pub returns-in-Ok : goal.returns-in-Ok
+returns-in-Ok c =
+    let read = built_in _ _ _ c.in_ok-read_tree.field-0 _ c.in-Ok.is c.in_ok-read_tree.ensures in
+    value_of c.args.doubles (view c.args.tree) read.0 read.1
 
 pub returns-in-Err : goal.returns-in-Err
 returns-in-Err c =
