@@ -1,7 +1,8 @@
 -- What the text of a value's tree in its own order is.
-use Rattle.std.proofs.Common.{◌≡◌, true, false, Result, Ok, Err, String, Global, string_bytes, refl, sym, ap, ◌∙◌, subst}
-use Rattle.std.specs.Prelude.{is_ok, IfOk, OnOk}
+use Rattle.std.proofs.Common.{◌≡◌, ◌++◌, ℕ, List, true, false, Result, Ok, Err, String, Global, string_bytes, refl, sym, ap, ◌∙◌, subst}
+use Rattle.std.specs.Prelude.{is_ok, IfOk, OnOk, OnErr}
 use Rattle.serde_json.specs.Data.{Data}
+use Rattle.bson_scalar.specs.TreeText.{text_of}
 use Rattle.bson_scalar.specs.Written.{Refusal}
 use Rattle.bson_scalar.specs.declared.form.Doubles.{Doubles}
 use Rattle.bson_scalar.specs.declared.form.Form.{Form}
@@ -19,7 +20,7 @@ use Rattle.bson_order.specs.Written.{WrittenInOrder}
 use Rattle.bson_order.proofs.Offered.{default_written, has_no_float, one_written, ordered_text, written_from}
 use Rattle.bson_order.proofs.Offered.{writable_is}
 use Rattle.bson.specs.KeyOrders.{writes_by}
-use Rattle.bson.specs.Texts.{GivesText, IsTextInOrder}
+use Rattle.bson.specs.Texts.{GivesText, Appends, IsTextInOrder}
 use Rattle.bson.specs.declared.extjson.key_order.KeyOrder.TheVariants.{AsGiven}
 use Rattle.bson.proofs.KeyOrders.{as_given_is}
 
@@ -40,18 +41,23 @@ module _ (D : Doubles) (f : Form) (v : Value) where
       let is = tree_is_in D f v it.0 it.1 ranged in
       subst (IsTreeOfIn D f v) (sym (is.one (unordered t) (default_written D f v t h ranged))) is
 
+  -- the text of a tree that writing gives
+  text_of_tree : (t : Data) (s : List ℕ) → writes_by AsGiven D f v ≡ Ok t → s ≡ text_of t → InRange v → AllDistinct v
+      → IsTextInOrder D f v s
+  text_of_tree t s w is ranged distinct =
+      let h = written_from D f v t (sym (as_given_is D f v) ∙ w) in
+      record {
+        tree = t;
+        written = h;
+        one = λ u other. one_written D f v t u h other;
+        ordered = λ plain. ordered_text D f v t h plain ranged distinct;
+        by_default = default_tree t h (is_writable t w) ranged;
+        compact = is ∙ sym (text_is D f t (has_no_float D f v t h));
+      }
+
   pub ordered_is : (r : Result (String Global) WriteError) → GivesText r (writes_by AsGiven D f v) → OnOk r (InRange v)
       → OnOk r (AllDistinct v) → IfOk r (λ s. IsTextInOrder D f v (string_bytes s))
-  ordered_is (Ok s) g ranged distinct =
-      let h = written_from D f v g.0 (sym (as_given_is D f v) ∙ g.1) in
-      record {
-        tree = g.0;
-        written = h;
-        one = λ u other. one_written D f v g.0 u h other;
-        ordered = λ plain. ordered_text D f v g.0 h plain ranged distinct;
-        by_default = default_tree g.0 h (is_writable g.0 g.1) ranged;
-        compact = g.2 ∙ sym (text_is D f g.0 (has_no_float D f v g.0 h));
-      }
+  ordered_is (Ok s) g ranged distinct = text_of_tree g.0 (string_bytes s) g.1 g.2 ranged distinct
   ordered_is (Err e) g ranged distinct = tt
 
   pub ordered_writable : (r : Result (String Global) WriteError) → GivesText r (writes_by AsGiven D f v)
@@ -64,3 +70,28 @@ module _ (D : Doubles) (f : Form) (v : Value) where
   ordered_finite (Ok s) g e = cc
   ordered_finite (Err OutOfMemory) g e = cc
   ordered_finite (Err FiniteDouble) g e = sym (writable_is D f v) ∙ ap is_ok (sym (as_given_is D f v) ∙ g)
+
+  -- ---- after other bytes
+
+  module _ (old new : List ℕ) where
+    pub appended_is : (r : Result (Unit {0}) WriteError) → Appends r (writes_by AsGiven D f v) old new → OnOk r (InRange v)
+        → OnOk r (AllDistinct v) → IfOk r (λ _. (s : List ℕ) × IsTextInOrder D f v s × (new ≡ old ++ s))
+    appended_is (Ok done) g ranged distinct =
+        (text_of g.0, text_of_tree g.0 (text_of g.0) g.1 refl ranged distinct, g.2)
+    appended_is (Err e) g ranged distinct = tt
+
+    pub nothing_appended : (r : Result (Unit {0}) WriteError) → Appends r (writes_by AsGiven D f v) old new
+        → OnErr r (new ≡ old)
+    nothing_appended (Ok done) g = tt
+    nothing_appended (Err e) g = g.1
+
+    pub appended_writable : (r : Result (Unit {0}) WriteError) → Appends r (writes_by AsGiven D f v) old new
+        → OnOk r (writable_in D v ≡ true)
+    appended_writable (Ok done) g = is_writable g.0 g.1
+    appended_writable (Err e) g = tt
+
+    pub appended_finite : (r : Result (Unit {0}) WriteError) → Appends r (writes_by AsGiven D f v) old new
+        → r ≡ Err FiniteDouble → writable_in D v ≡ false
+    appended_finite (Ok done) g e = cc
+    appended_finite (Err OutOfMemory) g e = cc
+    appended_finite (Err FiniteDouble) g e = sym (writable_is D f v) ∙ ap is_ok (sym (as_given_is D f v) ∙ g.0)

@@ -8,6 +8,7 @@
 //! text is read).
 mod builder;
 pub mod de;
+mod direct;
 mod key_order;
 mod options;
 mod ordered;

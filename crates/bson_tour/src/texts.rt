@@ -17,6 +17,7 @@ pub(crate) fn print(rt: &impl Print, alloc: Global) -> anyhow::Result<()> {
     doubles(rt, alloc)?;
     to_text_with_call(rt, alloc)?;
     to_text_in_order_call(rt, alloc)?;
+    write_text_into_call(rt, alloc)?;
     try_from_text_call(rt, alloc)?;
     try_from_text_with_call(rt, alloc)?;
     try_from_text_in_order_call(rt, alloc)?;
@@ -96,6 +97,15 @@ fn to_text_in_order_call(rt: &impl Print, alloc: Global) -> anyhow::Result<()> {
     let text = command.to_text_in_order(alloc, Options::default(), Form::Relaxed)?;
     println!(rt; "{text}")?; // {"find":"orders","batchSize":10}
     println!(rt; "{}", command.to_relaxed_text(alloc)?)?; // {"batchSize":10,"find":"orders"}
+    Ok(())
+}
+
+fn write_text_into_call(rt: &impl Print, alloc: Global) -> anyhow::Result<()> {
+    let mut line = Vec::with_capacity(alloc, 64)?;
+    let count = Bson::Int32(5);
+    count.write_text_into(alloc, Options::default(), Form::Relaxed, &mut line)?;
+    line.push(b'\n')?;
+    println!(rt; "{line:?}")?; // [53, 10]
     Ok(())
 }
 

@@ -1,5 +1,6 @@
 //! Equality and hashing by a real hasher, whatever the order of keys.
 use crate::given::filled;
+use bson::extjson::{Form, Options};
 use bson::{Bson, Document};
 use std::alloc::{AllocError, Global};
 use std::collections::HashMap;
@@ -48,6 +49,18 @@ fn refused_nowhere_in_comparing_documents(rt: HostRuntime) -> Result<(), Fail> {
     assert!(rt; one == other);
     assert!(rt; one.eq_in_order(&one));
     assert!(rt; !one.eq_in_order(&other));
+    Ok(())
+}
+
+/// Writing into a vector with room takes no memory.
+#[test]
+fn refused_nowhere_in_writing_into_a_vector(rt: HostRuntime) -> Result<(), Fail> {
+    let value = listed(rt.alloc(), false)?;
+    let mut out = Vec::with_capacity(rt.alloc(), 256)?;
+    let options = Options::default();
+    let written = value.write_text_into(rt.alloc(), options, Form::Relaxed, &mut out);
+    assert!(rt; written.is_ok());
+    assert!(rt; out.as_slice() == b"[{\"x\":1,\"y\":2}]");
     Ok(())
 }
 

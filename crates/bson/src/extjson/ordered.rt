@@ -1,16 +1,18 @@
 //! Texts in the order that each document has its keys in.
-ghost use Rattle.std.specs.Prelude.{◌≡◌, IfOk, OnOk, Err, true, false, string_bytes};
+ghost use Rattle.std.specs.Prelude.{◌≡◌, ◌-◌, ◌<◌, ◌++◌, ℕ, List, IfOk, OnOk, OnErr, Err, true, false, string_bytes};
+ghost use Rattle.std.specs.Prelude.{vec_capacity, vec_len};
 ghost use Rattle.bson_scalar.specs.declared.form.Doubles.TheVariants.{Finite};
 ghost use Rattle.bson_scalar.specs.declared.write_error.WriteError.{WriteError};
 ghost use Rattle.bson_model.specs.Normal.{InRange, writable_in};
 ghost use Rattle.bson_order.specs.Distinct.{AllDistinct};
+ghost use Rattle.bson.specs.Room.{IsDirect, value_room};
 ghost use Rattle.bson.specs.Texts.{IsTextInOrder};
 ghost use Rattle.bson.specs.View.{bson_view};
 
 use crate::bson::Bson;
 use crate::extjson::key_order::KeyOrder;
 use crate::extjson::options::Options;
-use crate::extjson::text::text_of;
+use crate::extjson::text::{append_text, text_of};
 use bson_scalar::form::Form;
 use bson_scalar::write_error::WriteError;
 use std::alloc::Global;
@@ -54,6 +56,57 @@ impl Bson {
         ensures every { options.doubles ≡ Finite → result ≡ Err WriteError.FiniteDouble → ⊥ }
     {
         text_of(alloc, options.doubles, KeyOrder::AsGiven, form, self)
+    }
+
+    /// Appends the text of [`Bson::to_text_in_order`] to `out`. On an error `out` has the bytes that
+    /// it had.
+    ///
+    /// If the value is direct, it fails for want of memory only if `out` has too little room. The
+    /// room of a vector is its capacity without its length. Too little is less than one byte for
+    /// each byte of the text's tokens and one for each token, so twice the length of the text is
+    /// enough. The texts of four kinds are first made in memory of their own. A value is direct if
+    /// it contains none of them:
+    ///
+    /// - a binary;
+    /// - a decimal;
+    /// - a regular expression;
+    /// - in the relaxed form, a date.
+    ///
+    /// # Errors
+    ///
+    /// - `FiniteDouble`: the value contains a finite double other than zero, with
+    ///   `Doubles::Special`.
+    /// - `OutOfMemory`: a request for memory was refused.
+    ///
+    /// ```
+    /// let mut line = Vec::with_capacity(alloc, 64)?;
+    /// let count = Bson::Int32(5);
+    /// count.write_text_into(alloc, Options::default(), Form::Relaxed, &mut line)?;
+    /// line.push(b'\n')?;
+    /// println!(rt; "{line:?}")?; // [53, 10]
+    /// ```
+    pub fn write_text_into(
+        &self,
+        alloc: Global,
+        options: Options,
+        form: Form,
+        out: &mut Vec<u8>,
+    ) -> Result<(), WriteError>
+        ensures text { IfOk result (λ _. (s : List ℕ) × IsTextInOrder options.doubles form (bson_view self.now) s
+            × (out.new.items ≡ out.old.items ++ s)) }
+        ensures unchanged { OnErr result (out.new.items ≡ out.old.items) }
+
+        // With enough room memory is never wanting.
+        ensures room { IsDirect form (bson_view self.now) → result ≡ Err WriteError.OutOfMemory
+            → vec_capacity out.old - vec_len out.old < value_room options.doubles form (bson_view self.now) }
+        ensures ranged { OnOk result (InRange (bson_view self.now)) }
+        ensures distinct { OnOk result (AllDistinct (bson_view self.now)) }
+        ensures writable { OnOk result (writable_in options.doubles (bson_view self.now) ≡ true) }
+        ensures finite { result ≡ Err WriteError.FiniteDouble
+            → writable_in options.doubles (bson_view self.now) ≡ false }
+        ensures every { options.doubles ≡ Finite → result ≡ Err WriteError.FiniteDouble → ⊥ }
+    {
+        append_text(alloc, options.doubles, form, self, out)
     }
 
     /// Writes the text of [`Bson::to_text_in_order`], and drops the value.

@@ -1,7 +1,7 @@
 //! Scalars as values and values as scalars.
 ghost use Rattle.std.specs.Prelude.{◌≡◌, ◌<◌, true, IfOk};
 ghost use Rattle.bson_scalar.specs.Normal.{writable_scalar_in};
-ghost use Rattle.bson_scalar.specs.View.{scalar_view};
+ghost use Rattle.bson_scalar.specs.View.{scalar_of, scalar_view};
 ghost use Rattle.bson_scalar.specs.declared.form.Doubles.TheVariants.{Finite};
 ghost use Rattle.bson_model.specs.Normal.{InRange};
 ghost use Rattle.bson_types.specs.DbPointer.{id_of};
@@ -14,6 +14,7 @@ ghost use Rattle.bson.specs.View.{bson_view};
 use crate::bson::Bson;
 use crate::scalar::scalar_ref;
 use bson_scalar::scalar::Scalar;
+use bson_scalar::scalar_ref::ScalarRef;
 use bson_types::binary::Binary;
 use bson_types::db_pointer::DbPointer;
 use bson_types::oid::ObjectId;
@@ -65,6 +66,15 @@ pub(crate) fn can_be_written(value: &Scalar)
 {
     if let Scalar::Double(pattern) = value {
         let _pattern = *pattern;
+    }
+}
+
+// The same by reference.
+pub(crate) fn has_text(value: &ScalarRef<'_>)
+    ensures { writable_scalar_in Finite (scalar_of value.now) ≡ true }
+{
+    if let ScalarRef::Double(pattern) = *value {
+        let _pattern = pattern;
     }
 }
 

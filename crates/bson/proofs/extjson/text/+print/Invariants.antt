@@ -1,4 +1,4 @@
-use Rattle.std.proofs.Common.{◌≡◌, List, drop}
+use Rattle.std.proofs.Common.{◌≡◌, ℕ, List, Result, drop}
 use Rattle.json.specs.Token.{Token}
 use Rattle.bson_scalar.specs.Written.{Stops}
 use Rattle.bson_scalar.specs.declared.write_error.WriteError.{WriteError}
@@ -8,6 +8,7 @@ use Rattle.bson.specs.KeyOrders.{writes_by, writes_items_by, writes_pairs_by, Ea
 use Rattle.bson.specs.Texts.{writes_in_turn}
 use Rattle.bson.specs.View.{values_view, pairs_view}
 use Rattle.bson.proofs.Printed.{EndsItems, EndsMembers}
+use Rattle.bson.proofs.Room.{ValuesCost, PairsCost}
 use Rattle.bson.proofs.Sizes.{NoLarger}
 use Rattle.bson.proofs.extjson.text.+print.Given as goal
 
@@ -22,6 +23,8 @@ invariant-print_items-loop-item l =
           → EndsItems (writes_items_by l.fn.order l.fn.doubles l.fn.form all) l.initial.out.tokens end;
       stops : (e : WriteError) → Stops e (writes_items_by l.fn.order l.fn.doubles l.fn.form left)
           → Stops e (writes_items_by l.fn.order l.fn.doubles l.fn.form all);
+      room : (r : Result (Unit {0}) WriteError) (end : ℕ) → ValuesCost l.fn.doubles l.fn.form left r l.out.spare end
+          → ValuesCost l.fn.doubles l.fn.form all r l.initial.out.spare end;
       ranged : ItemsInRange left → ItemsInRange all;
       distinct : ItemsDistinct left → ItemsDistinct all;
     }
@@ -36,6 +39,8 @@ invariant-print_document-pairs l =
       ends : (end : List Token) → EndsMembers (writes_in_turn w left) l.out.tokens end
           → EndsMembers whole l.initial.out.tokens end;
       stops : (e : WriteError) → Stops e (writes_in_turn w left) → Stops e whole;
+      room : (r : Result (Unit {0}) WriteError) (end : ℕ) → PairsCost l.fn.doubles l.fn.form left r l.out.spare end
+          → PairsCost l.fn.doubles l.fn.form (pairs_view l.document.pairs) r l.initial.out.spare end;
       ranged : PairsInRange left → PairsInRange (pairs_view l.document.pairs);
       distinct : EachValue AllDistinct left → PairsDistinct (pairs_view l.document.pairs);
       larger : NoLarger l.key-iterator l.document;
