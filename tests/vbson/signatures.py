@@ -1,6 +1,7 @@
 """Holds languages/c/vbson.h and the wrappers to the sources of crates/vbson: the calls with their types, the statuses
 with their numbers, which statuses each call answers, the modes, the flags, the greatest lengths, the buffer's fields, and the version."""
 import re
+import subprocess
 from pathlib import Path
 
 ROOT = Path(__file__).resolve().parents[2]
@@ -240,25 +241,12 @@ def type_faults():
 
 
 def version():
-    """That of ./bson, where it stands."""
-    words = (ROOT / "crates/bson_lines/src/words.rt").read_text()
-    return re.search(r'(?m)^pub const VERSION: &str = "bson (.*)";$', words)[1]
+    """That of all places, or nothing where they differ."""
+    return subprocess.run([ROOT / "tools/version"], capture_output=True, text=True).stdout.strip()
 
 
 def version_faults():
-    words = version()
-    major, minor, patch = map(int, words.split("."))
-    number = 10000 * major + 100 * minor + patch
-    text = HEADER.read_text()
-    places = {
-        "VBSON_VERSION": f"#define VBSON_VERSION {number} " in text,
-        "VBSON_VERSION_TEXT": f'#define VBSON_VERSION_TEXT "{words}"\n' in text,
-        "vbson_version": f"ensures {{ result ≡ {number} }}" in (SOURCES / "version.rt").read_text(),
-        "Cargo.toml": f'\nversion = "{words}"\n' in (LANGUAGES / "rust/Cargo.toml").read_text(),
-        "pyproject.toml": f'\nversion = "{words}"\n' in (LANGUAGES / "python/pyproject.toml").read_text(),
-    }
-    for name, is_right in places.items():
-        yield f"the version of {name}", None if is_right else f"it is not that of ./bson, {words}"
+    yield "the version", None if version() else "tools/version finds different ones"
 
 
 def faults():
