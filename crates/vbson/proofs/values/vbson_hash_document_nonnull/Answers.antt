@@ -1,6 +1,6 @@
 use Rattle.std.proofs.Common.{◌∙◌, ap, inl, inr, refl, sym}
 use Rattle.vbson.specs.Values.{hash_of}
-use Rattle.vbson.proofs.values.vbson_hash_document.Goals as goal
+use Rattle.vbson.proofs.values.vbson_hash_document_nonnull.Goals as goal
 
 pub returns-in-Ok-clause-accepts : goal.returns-in-Ok-clause-accepts
 returns-in-Ok-clause-accepts c v x =

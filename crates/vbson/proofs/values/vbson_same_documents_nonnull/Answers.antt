@@ -2,7 +2,7 @@ use Rattle.std.proofs.Common.{◌≡◌, ◌∙◌, ap₂, inl, inr, sym}
 use Rattle.bson.specs.View.{bson_view}
 use Rattle.bson_model.specs.Same.{same}
 use Rattle.vbson.specs.Values.{verdict}
-use Rattle.vbson.proofs.values.vbson_same_documents.Goals as goal
+use Rattle.vbson.proofs.values.vbson_same_documents_nonnull.Goals as goal
 
 pub returns-in-Err-clause-accepts : goal.returns-in-Err-clause-accepts
 returns-in-Err-clause-accepts c v w x y = inr (inr (c.in-Err.ensures.rejected.accepts v x))

@@ -1,6 +1,6 @@
 use Rattle.std.proofs.Common.{rules}
 use Rattle.vbson.proofs.Dumps.{gives_utf8, of_line}
-use Rattle.vbson.proofs.dump.vbson_decode_documents.Goals as goal
+use Rattle.vbson.proofs.dump.vbson_decode_documents_nonnull.Goals as goal
 
 pub returns-clause-done : goal.returns-clause-done
 returns-clause-done c = λ done.
