@@ -82,11 +82,11 @@ fn find(alloc: Global, options: CallOptions, bytes: &[u8]) -> Result<Finding, Al
     ensures found { IfOk result (λ it. IsFinding options bytes.now it) }
     ensures accepts { HasDocumentText options bytes.now → IfOk result (λ it. it ≡ Nothing) }
 {
-    let options = ReadOptions {
+    let reading = ReadOptions {
         depth: DEPTH,
         duplicate_keys: duplicate_keys_of(options),
     };
-    match from_slice_with(alloc, options, bytes) {
+    match from_slice_with(alloc, reading, bytes) {
         Ok(document) => find_double(alloc, options_of(options), document),
         Err(Error::Malformed { kind, offset }) => Ok(Finding::Malformed { kind, offset }),
         Err(Error::OutOfMemory) => Err(AllocError),

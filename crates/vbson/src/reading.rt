@@ -91,11 +91,11 @@ pub fn value_of_document(alloc: Global, options: CallOptions, bytes: &[u8]) -> R
         → IfOk result (λ v. value ≡ bson_view v) }
     ensures rejected { IfErr result (λ status. IsWithoutDocument options status bytes.now) }
 {
-    let options = ReadOptions {
+    let reading = ReadOptions {
         depth: DEPTH,
         duplicate_keys: duplicate_keys_of(options),
     };
-    match from_slice_with(alloc, options, bytes) {
+    match from_slice_with(alloc, reading, bytes) {
         Ok(document) => Ok(Bson::Document(document)),
         Err(de::Error::Malformed { .. }) => Err(status::NOT_A_DOCUMENT),
         Err(de::Error::OutOfMemory) => Err(status::OUT_OF_MEMORY),
