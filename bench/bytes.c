@@ -36,14 +36,15 @@ static int check(const uint8_t *bytes, size_t size) { return vbson_is_document(b
 
 static int text(const uint8_t *bytes, size_t size) {
     vbson_buffer out = VBSON_BUFFER_INIT;
-    uint32_t status = vbson_decode(VBSON_CANONICAL, VBSON_DOUBLES | VBSON_KEEP_ORDER, bytes, size, &out);
+    vbson_options options = vbson_options_mongodb();
+    uint32_t status = vbson_decode(VBSON_CANONICAL, &options, bytes, size, &out);
     vbson_buffer_free(&out);
     return status == VBSON_OK;
 }
 
 static int hash(const uint8_t *bytes, size_t size) {
     uint64_t out = 0;
-    return vbson_hash_document(VBSON_DOUBLES, bytes, size, &out) == VBSON_OK;
+    return vbson_hash_document(NULL, bytes, size, &out) == VBSON_OK;
 }
 #endif
 

@@ -35,7 +35,7 @@ static void convert(const char *text, size_t len) {
     bson_destroy(value);
 #else
     vbson_buffer out = VBSON_BUFFER_INIT;
-    if (vbson_convert(VBSON_CANONICAL, (const uint8_t *)text, len, &out) != VBSON_OK) exit(1);
+    if (vbson_convert(VBSON_CANONICAL, NULL, (const uint8_t *)text, len, &out) != VBSON_OK) exit(1);
     vbson_buffer_free(&out);
 #endif
 }

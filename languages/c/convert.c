@@ -37,7 +37,7 @@ int main(int count, char **words) {
     uint8_t *bytes = read_all(&len);
     if (bytes == NULL) return 1;
     vbson_buffer out = VBSON_BUFFER_INIT;
-    uint32_t status = vbson_convert((uint32_t)mode, bytes, len, &out);
+    uint32_t status = vbson_convert((uint32_t)mode, NULL, bytes, len, &out);
     free(bytes);
     if (status != VBSON_OK) {
         fprintf(stderr, "convert: %s\n", vbson_status_text(status));

@@ -12,13 +12,13 @@
 int main(void) {
     const char *text = "{\"n\": 5, \"at\": {\"$date\": \"1970-01-01T00:00:00Z\"}}";
     vbson_buffer canonical = VBSON_BUFFER_INIT;
-    uint32_t status = vbson_convert(VBSON_CANONICAL, vbson_bytes(text), strlen(text), &canonical);
+    uint32_t status = vbson_convert(VBSON_CANONICAL, NULL, vbson_bytes(text), strlen(text), &canonical);
     if (status != VBSON_OK) {
         fprintf(stderr, "%s\n", vbson_status_text(status));
         return 1;
     }
     printf("%s\n", vbson_chars(&canonical));
-    status = vbson_same(0, vbson_bytes(text), strlen(text), canonical.bytes, canonical.len);
+    status = vbson_same(NULL, vbson_bytes(text), strlen(text), canonical.bytes, canonical.len);
     printf("%s\n", status == VBSON_OK ? "the same" : vbson_status_text(status));
     vbson_buffer_free(&canonical);
     return 0;

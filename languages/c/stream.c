@@ -16,10 +16,10 @@ static size_t whole(const uint8_t *block, size_t len) {
 int main(void) {
     size_t size = 1 << 20, len = 0, done, got, before = 0;
     uint8_t *block = malloc(size), *larger;
+    const vbson_options options = vbson_options_mongodb();
     while (block != NULL && (got = fread(block + len, 1, size - len, stdin)) > 0) {
         vbson_documents out = VBSON_DOCUMENTS_INIT;
-        done = whole(block, len += got);
-        if (vbson_decode_documents(VBSON_RELAXED, VBSON_DOUBLES | VBSON_KEEP_ORDER, block, done, &out) != VBSON_OK) return 1;
+        if (vbson_decode_documents(VBSON_RELAXED, &options, block, done = whole(block, len += got), &out) != VBSON_OK) return 1;
         fwrite(out.text.bytes, 1, out.text.len, stdout);
         if (out.diagnostics.len > 0) fprintf(stderr, "after byte %zu: %s", before, vbson_chars(&out.diagnostics));
         vbson_buffer_free(&out.text), vbson_buffer_free(&out.diagnostics);

@@ -4,12 +4,13 @@
 #include <vbson.h>
 
 int main(void) {
+    const vbson_options options = vbson_options_mongodb();
     char *line = NULL;
     size_t size = 0, number = 0, rejected = 0;
     for (ssize_t len; (len = getline(&line, &size, stdin)) >= 0;) {
         vbson_error why = VBSON_ERROR_INIT;
         number++;
-        if (vbson_explain(VBSON_DOUBLES, vbson_bytes(line), (size_t)len, &why) != VBSON_OK) return 2;
+        if (vbson_explain(&options, vbson_bytes(line), (size_t)len, &why) != VBSON_OK) return 2;
         if (why.code != VBSON_OK && ++rejected) printf("line %zu: %s\n", number, vbson_chars(&why.message));
         vbson_error_free(&why);
     }

@@ -7,12 +7,12 @@
  * What the caller must guarantee on every call (nothing checks it):
  *   - A pointer with a length points to that many readable bytes (writable, if not const) for the whole call. The length
  *     is at most PTRDIFF_MAX. The pointer is not null, even if the length is 0.
- *   - Any other pointer is not null, is aligned for its type, and points to a valid value of that type, even if the call
- *     only writes it. Start with VBSON_BUFFER_INIT, VBSON_LINES_INIT, a number, or a filled array.
+ *   - Any other pointer is aligned for its type, and points to a valid value of that type, even if the call only writes it.
+ *     Start with VBSON_BUFFER_INIT, VBSON_LINES_INIT, a number, or a filled array. Only a pointer to options may be null.
  *   - Memory that a call may write does not overlap any other argument.
  *   - malloc, realloc and free belong to one allocator, whose blocks are aligned to 16 bytes.
  *   - No call is made from a signal handler, or from the child of fork() in a process with several threads.
- *   - 448 KiB of stack are free: the deepest input (127 levels) needs them. With VBSON_KEEP_ORDER, input with deeply
+ *   - 448 KiB of stack are free: the deepest input (127 levels) needs them. With VBSON_KEYS_AS_GIVEN, input with deeply
  *     nested objects that begin with the key "$scope" needs 5 MiB.
  *
  * The library keeps no state between calls, so any number of threads may call it at once.
@@ -43,7 +43,7 @@ uint32_t vbson_version(void);
 
 enum vbson_status {
     VBSON_OK = 0,
-    VBSON_INVALID_ARGUMENT = 1,  /* the mode is not one of vbson_mode, a bit of the flags is not a flag, or as its call says */
+    VBSON_INVALID_ARGUMENT = 1,  /* the mode is not one of vbson_mode, the options are not accepted, or as its call says */
     VBSON_NOT_JSON = 2,          /* the input is not UTF-8, is not one JSON text, or nests deeper than 127 */
     VBSON_BAD_OBJECT_ID = 3,     /* the first error is an invalid object id */
     VBSON_NOT_EXTENDED_JSON = 4, /* the first error is any other: the JSON is not valid Extended JSON v2 */
@@ -91,14 +91,59 @@ enum vbson_mode {
     VBSON_SHOW = 2       /* a form for people to read; it is not JSON */
 };
 
-/* Flags are combined with |; 0 sets none. Only vbson_same, vbson_hash, vbson_same_documents, vbson_hash_document,
- * vbson_explain and vbson_explain_document accept the last two. */
-enum vbson_flag {
-    VBSON_DOUBLES = 1,               /* accept and write finite doubles */
-    VBSON_KEEP_ORDER = 2,            /* preserve the order of keys; without it keys are sorted */
-    VBSON_REJECT_DUPLICATE_KEYS = 4, /* reject input in which an object or a document has a duplicate key */
-    VBSON_LEGACY = 8                 /* accept Extended JSON v1 too */
+enum vbson_doubles {
+    VBSON_DOUBLES_SPECIAL = 0, /* the only doubles are zero, NaN and the infinities */
+    VBSON_DOUBLES_FINITE = 1   /* accept and write finite doubles too */
 };
+
+enum vbson_key_order {
+    VBSON_KEYS_ASCENDING = 0, /* sort keys by their bytes */
+    VBSON_KEYS_AS_GIVEN = 1   /* preserve the order of keys */
+};
+
+enum vbson_duplicate_keys {
+    VBSON_DUPLICATE_KEYS_LAST_WINS = 0, /* the last value of a duplicate key wins */
+    VBSON_DUPLICATE_KEYS_REJECT = 1     /* reject input in which an object or a document has a duplicate key */
+};
+
+enum vbson_v1 {
+    VBSON_V1_REJECT = 0, /* accept Extended JSON v2 only */
+    VBSON_V1_ACCEPT = 1  /* accept Extended JSON v1 too */
+};
+
+/* The options of a call. Start with VBSON_OPTIONS_INIT or with vbson_options_mongodb(), and set the fields that differ. A
+ * null pointer to options stands for VBSON_OPTIONS_INIT, which is the behaviour that the specification describes. A call
+ * returns VBSON_INVALID_ARGUMENT if the size is not sizeof(vbson_options), if a field is not a value of its enum, or for
+ * an option that the call does not accept:
+ *   - The calls that convert, encode or decode do not accept VBSON_DUPLICATE_KEYS_REJECT and VBSON_V1_ACCEPT.
+ *   - The calls that compare or hash do not accept VBSON_KEYS_AS_GIVEN.
+ *   - The calls that explain accept every option. */
+typedef struct vbson_options {
+    size_t size;             /* sizeof(vbson_options): a later version can have more fields */
+    uint32_t doubles;        /* one of vbson_doubles */
+    uint32_t key_order;      /* one of vbson_key_order */
+    uint32_t duplicate_keys; /* one of vbson_duplicate_keys */
+    uint32_t v1;             /* one of vbson_v1 */
+} vbson_options;
+
+#define VBSON_OPTIONS_INIT { sizeof(vbson_options), VBSON_DOUBLES_SPECIAL, VBSON_KEYS_ASCENDING, \
+    VBSON_DUPLICATE_KEYS_LAST_WINS, VBSON_V1_REJECT }
+
+/* Returns the options for MongoDB's documents: finite doubles, and keys as given. */
+static inline vbson_options vbson_options_mongodb(void) {
+    vbson_options options = VBSON_OPTIONS_INIT;
+    options.doubles = VBSON_DOUBLES_FINITE;
+    options.key_order = VBSON_KEYS_AS_GIVEN;
+    return options;
+}
+
+/* Each call with options is an inline function, which replaces a null pointer. It calls the function of the library, whose
+ * name ends in _nonnull. A language that does not read this header calls that function, with options that are not null. */
+
+static inline const vbson_options *vbson_options_or_init(const vbson_options *options) {
+    static const vbson_options specified = VBSON_OPTIONS_INIT;
+    return options != NULL ? options : &specified;
+}
 
 /* An output buffer of its own: len bytes, followed by a NUL, so that JSON output is a C string too. (A C string ends early
  * at U+0000, which only VBSON_SHOW can write.) vbson_encode writes BSON bytes into it. Free it with vbson_buffer_free. */
@@ -129,22 +174,25 @@ static inline void vbson_buffer_free(vbson_buffer *text) {
     text->len = 0;
 }
 
-/* Reads the len bytes as one Extended JSON text (canonical, relaxed or mixed), and writes its value in the mode.
- * Keys are written in ascending order of their bytes, at every depth. The last value of a duplicate key wins. A finite
- * double is rejected, and so is a number such as 0.0 (write a zero as {"$numberDouble": "0.0"}). The output can denote
- * another value in two cases: a NaN of Decimal128 loses its sign and its payload, and in the relaxed form an Int64 that
- * fits is read again as an Int32. *out is overwritten: its old block is not freed.
- * VBSON_INVALID_ARGUMENT, VBSON_NOT_JSON, VBSON_BAD_OBJECT_ID, VBSON_NOT_EXTENDED_JSON, VBSON_OUT_OF_MEMORY. */
-uint32_t vbson_convert(uint32_t mode, const uint8_t *text, size_t len, vbson_buffer *out);
+uint32_t vbson_convert_nonnull(uint32_t mode, const vbson_options *options, const uint8_t *text, size_t len,
+    vbson_buffer *out);
 
-/* vbson_convert with flags; vbson_convert is this call with the flags 0.
- * VBSON_DOUBLES: a number that is not an integer of 64 bits (1.5, 1e2, -0), and any decimal number under $numberDouble, is
- * read as the nearest double, and rejected if that is not finite. A finite double is written as its shortest decimal:
- * {"$numberDouble":"12.5"} in the canonical form, and 12.5 in the relaxed form, in which a zero is a number too.
- * VBSON_KEEP_ORDER: keys are written in the order of the input, at every depth and in every mode; the last value of a
- * duplicate key wins, at the position of the first. The same inputs are rejected with and without it, for the same error.
+/* Reads the len bytes as one Extended JSON text (canonical, relaxed or mixed), and writes its value in the mode.
+ * VBSON_KEYS_ASCENDING: keys are written in ascending order of their bytes, at every depth. VBSON_KEYS_AS_GIVEN: keys are
+ * written in the order of the input, at every depth and in every mode. The last value of a duplicate key wins, as given at
+ * the position of the first. The same inputs are rejected in both orders, for the same error.
+ * VBSON_DOUBLES_SPECIAL: a finite double is rejected, and so is a number such as 0.0 (write a zero as
+ * {"$numberDouble": "0.0"}). VBSON_DOUBLES_FINITE: a number that is not an integer of 64 bits (1.5, 1e2, -0), and any
+ * decimal number under $numberDouble, is read as the nearest double, and rejected if that is not finite. A finite double is
+ * written as its shortest decimal: {"$numberDouble":"12.5"} in the canonical form, and 12.5 in the relaxed form, in which a
+ * zero is a number too.
+ * The output can denote another value in two cases: a NaN of Decimal128 loses its sign and its payload, and in the relaxed
+ * form an Int64 that fits is read again as an Int32. *out is overwritten: its old block is not freed.
  * VBSON_INVALID_ARGUMENT, VBSON_NOT_JSON, VBSON_BAD_OBJECT_ID, VBSON_NOT_EXTENDED_JSON, VBSON_OUT_OF_MEMORY. */
-uint32_t vbson_convert_with(uint32_t mode, uint32_t flags, const uint8_t *text, size_t len, vbson_buffer *out);
+static inline uint32_t vbson_convert(uint32_t mode, const vbson_options *options, const uint8_t *text, size_t len,
+        vbson_buffer *out) {
+    return vbson_convert_nonnull(mode, vbson_options_or_init(options), text, len, out);
+}
 
 /* Why input is rejected, and where. Free path, reason and message with vbson_buffer_free. */
 typedef struct vbson_error {
@@ -171,8 +219,10 @@ static inline void vbson_error_free(vbson_error *error) {
     error->line = error->column = error->offset = 0;
 }
 
-/* Finds why, and where, vbson_convert_with, vbson_same and vbson_hash reject the input under these flags. The code is
- * VBSON_OK if and only if they accept it; then the path is an empty array, and the strings are empty. VBSON_KEEP_ORDER
+uint32_t vbson_explain_nonnull(const vbson_options *options, const uint8_t *text, size_t len, vbson_error *out);
+
+/* Finds why, and where, vbson_convert, vbson_same and vbson_hash reject the input under these options. The code is
+ * VBSON_OK if and only if they accept it; then the path is an empty array, and the strings are empty. The order of keys
  * changes nothing here, and neither does the mode. The message is that of the status, followed by
  *     " at column N (RULE)"     if the input is not JSON. RULE is the broken rule, for example "expected a comma or a
  *                               closing bracket". It is "number out of range" if the grammar holds, and a number is too
@@ -183,11 +233,13 @@ static inline void vbson_error_free(vbson_error *error) {
  *     " (MESSAGE)"              if the error is that of the whole value
  * In PATH and MESSAGE control characters, U+2028 and U+2029 are escaped as in JSON, for example \u001b. After 300
  * characters they are cut off with "..". PATH is ambiguous if a key contains a point or a backslash, or has only digits;
- * the array path is exact. With VBSON_LEGACY, all positions are those in the Extended JSON v2 that is read instead.
- * The call reads the input as vbson_convert_with does, so use it only after a rejection. *out is overwritten: its old
+ * the array path is exact. With VBSON_V1_ACCEPT, all positions are those in the Extended JSON v2 that is read instead.
+ * The call reads the input as vbson_convert does, so use it only after a rejection. *out is overwritten: its old
  * blocks are not freed. VBSON_TOO_LONG if the array path has 2^31 bytes or more.
  * VBSON_INVALID_ARGUMENT, VBSON_OUT_OF_MEMORY. */
-uint32_t vbson_explain(uint32_t flags, const uint8_t *text, size_t len, vbson_error *out);
+static inline uint32_t vbson_explain(const vbson_options *options, const uint8_t *text, size_t len, vbson_error *out) {
+    return vbson_explain_nonnull(vbson_options_or_init(options), text, len, out);
+}
 
 /* The result for a block of lines. Free text and diagnostics with vbson_buffer_free. */
 typedef struct vbson_lines {
@@ -199,27 +251,42 @@ typedef struct vbson_lines {
 
 #define VBSON_LINES_INIT { VBSON_BUFFER_INIT, VBSON_BUFFER_INIT, 0, 0 }
 
-/* Converts each line of the block as vbson_convert_with does. A newline ends a line; bytes after the last newline are a
+uint32_t vbson_convert_lines_nonnull(uint32_t mode, const vbson_options *options, const uint8_t *block, size_t len,
+    vbson_lines *out);
+
+/* Converts each line of the block as vbson_convert does. A newline ends a line; bytes after the last newline are a
  * line too. A line of spaces, tabs and carriage returns has no output, and a byte order mark at the start of the block is
  * skipped. A rejected line adds a diagnostic and no output; the status is VBSON_OK, however many lines are rejected.
  * *out is overwritten: its old blocks are not freed.
  * VBSON_INVALID_ARGUMENT, VBSON_OUT_OF_MEMORY. */
-uint32_t vbson_convert_lines(uint32_t mode, uint32_t flags, const uint8_t *block, size_t len, vbson_lines *out);
+static inline uint32_t vbson_convert_lines(uint32_t mode, const vbson_options *options, const uint8_t *block,
+        size_t len, vbson_lines *out) {
+    return vbson_convert_lines_nonnull(mode, vbson_options_or_init(options), block, len, out);
+}
+
+uint32_t vbson_same_nonnull(const vbson_options *options, const uint8_t *a, size_t a_len, const uint8_t *b, size_t b_len);
 
 /* Compares the values of two inputs. Arrays are compared element by element; documents are the same if they have the same
  * keys with the same values, in any order. VBSON_OK if the values are the same, VBSON_DIFFERENT if not; otherwise the error
- * of a, or that of b if a has none. VBSON_DOUBLES: finite doubles are accepted, as by vbson_convert_with.
- * VBSON_REJECT_DUPLICATE_KEYS: an input is VBSON_NOT_EXTENDED_JSON if one of its objects has a duplicate key, at any depth.
- * VBSON_LEGACY: the objects {"$binary": .., "$type": ..} and {"$regex": .., "$options": ..}, and a $date with an offset
- * such as +0100, have their value of Extended JSON v1. VBSON_INVALID_ARGUMENT if the flags have VBSON_KEEP_ORDER, since
- * the order of keys changes nothing here, or a bit that is not a flag.
+ * of a, or that of b if a has none. VBSON_DOUBLES_FINITE: finite doubles are accepted, as by vbson_convert.
+ * VBSON_DUPLICATE_KEYS_REJECT: an input is VBSON_NOT_EXTENDED_JSON if one of its objects has a duplicate key, at any depth.
+ * VBSON_V1_ACCEPT: the objects {"$binary": .., "$type": ..} and {"$regex": .., "$options": ..}, and a $date with an offset
+ * such as +0100, have their value of Extended JSON v1. VBSON_INVALID_ARGUMENT for VBSON_KEYS_AS_GIVEN, since the order of
+ * keys changes nothing here.
  * VBSON_INVALID_ARGUMENT, VBSON_NOT_JSON, VBSON_BAD_OBJECT_ID, VBSON_NOT_EXTENDED_JSON, VBSON_OUT_OF_MEMORY. */
-uint32_t vbson_same(uint32_t flags, const uint8_t *a, size_t a_len, const uint8_t *b, size_t b_len);
+static inline uint32_t vbson_same(const vbson_options *options, const uint8_t *a, size_t a_len, const uint8_t *b,
+        size_t b_len) {
+    return vbson_same_nonnull(vbson_options_or_init(options), a, a_len, b, b_len);
+}
 
-/* Writes the hash of the input's value, with the flags of vbson_same. Inputs that vbson_same finds the same have the same
+uint32_t vbson_hash_nonnull(const vbson_options *options, const uint8_t *text, size_t len, uint64_t *out);
+
+/* Writes the hash of the input's value, with the options of vbson_same. Inputs that vbson_same finds the same have the same
  * hash, on every run and machine. It is SipHash-1-3 with the key 0, so an attacker can choose inputs with one hash.
  * VBSON_INVALID_ARGUMENT, VBSON_NOT_JSON, VBSON_BAD_OBJECT_ID, VBSON_NOT_EXTENDED_JSON, VBSON_OUT_OF_MEMORY. */
-uint32_t vbson_hash(uint32_t flags, const uint8_t *text, size_t len, uint64_t *out);
+static inline uint32_t vbson_hash(const vbson_options *options, const uint8_t *text, size_t len, uint64_t *out) {
+    return vbson_hash_nonnull(vbson_options_or_init(options), text, len, out);
+}
 
 /* ---- BSON documents (BSON 1.1, bsonspec.org)
  *
@@ -229,51 +296,81 @@ uint32_t vbson_hash(uint32_t flags, const uint8_t *text, size_t len, uint64_t *o
 /* Checks that the bytes are exactly one document. Allocates no memory. VBSON_NOT_A_DOCUMENT. */
 uint32_t vbson_is_document(const uint8_t *bytes, size_t len);
 
-/* Finds why, and where, vbson_decode rejects the bytes under these flags, in the canonical and relaxed forms. The code is
+uint32_t vbson_explain_document_nonnull(const vbson_options *options, const uint8_t *bytes, size_t len, vbson_error *out);
+
+/* Finds why, and where, vbson_decode rejects the bytes under these options, in the canonical and relaxed forms. The code is
  * VBSON_OK if and only if it accepts them; then the path is an empty array, and the strings are empty. Otherwise the code is
  * the status of vbson_decode, and the message is one of
  *     "not a document at byte N (REASON)"     N is the offset of the first error in the bytes. REASON is "nested too deep",
  *                                             "ends too early", "invalid length", "unknown element type", "missing NUL after a
  *                                             string", "invalid UTF-8", "a boolean is neither 0 nor 1", "trailing bytes after
  *                                             the document" or "duplicate key"
- *     "not representable (a finite double)"   the document has one other than 0.0, and the flags lack VBSON_DOUBLES
- * The path is an empty array in both cases. With VBSON_REJECT_DUPLICATE_KEYS, bytes with a duplicate key in a document, at
- * any depth, are not a document; the offset is that of the second key. With VBSON_DOUBLES the call also explains
- * vbson_same_documents and vbson_hash_document under these flags, and without other flags vbson_is_document.
- * VBSON_KEEP_ORDER and VBSON_LEGACY change nothing. The call reads the bytes again, so use it only after a rejection. *out is
- * overwritten: its old blocks are not freed. VBSON_INVALID_ARGUMENT, VBSON_OUT_OF_MEMORY. */
-uint32_t vbson_explain_document(uint32_t flags, const uint8_t *bytes, size_t len, vbson_error *out);
+ *     "not representable (a finite double)"   the document has one other than 0.0, without VBSON_DOUBLES_FINITE
+ * The path is an empty array in both cases. With VBSON_DUPLICATE_KEYS_REJECT, bytes with a duplicate key in a document, at
+ * any depth, are not a document; the offset is that of the second key. With VBSON_DOUBLES_FINITE the call also explains
+ * vbson_same_documents and vbson_hash_document under these options, and with VBSON_DUPLICATE_KEYS_LAST_WINS too
+ * vbson_is_document. The order of keys and VBSON_V1_ACCEPT change nothing. The call reads the bytes again, so use it only
+ * after a rejection. *out is overwritten: its old blocks are not freed. VBSON_INVALID_ARGUMENT, VBSON_OUT_OF_MEMORY. */
+static inline uint32_t vbson_explain_document(const vbson_options *options, const uint8_t *bytes, size_t len,
+        vbson_error *out) {
+    return vbson_explain_document_nonnull(vbson_options_or_init(options), bytes, len, out);
+}
 
-/* Compares two documents, as vbson_same compares values, with the same flags. BSON bytes have their doubles and no v1, so
- * VBSON_DOUBLES and VBSON_LEGACY change nothing here. VBSON_REJECT_DUPLICATE_KEYS: bytes with a duplicate key in a document,
- * at any depth, are VBSON_NOT_A_DOCUMENT; without it the last value of a duplicate key wins. VBSON_DIFFERENT if they are
- * not the same. VBSON_INVALID_ARGUMENT, VBSON_NOT_A_DOCUMENT, VBSON_OUT_OF_MEMORY. */
-uint32_t vbson_same_documents(uint32_t flags, const uint8_t *a, size_t a_len, const uint8_t *b, size_t b_len);
+uint32_t vbson_same_documents_nonnull(const vbson_options *options, const uint8_t *a, size_t a_len, const uint8_t *b,
+    size_t b_len);
 
-/* Writes the hash of a document, with the flags of vbson_same_documents. It is the hash that vbson_hash returns for JSON
+/* Compares two documents, as vbson_same compares values, with the same options. BSON bytes have their doubles and no v1, so
+ * VBSON_DOUBLES_FINITE and VBSON_V1_ACCEPT change nothing here. VBSON_DUPLICATE_KEYS_REJECT: bytes with a duplicate key in a
+ * document, at any depth, are VBSON_NOT_A_DOCUMENT. VBSON_DIFFERENT if they are not the same.
+ * VBSON_INVALID_ARGUMENT, VBSON_NOT_A_DOCUMENT, VBSON_OUT_OF_MEMORY. */
+static inline uint32_t vbson_same_documents(const vbson_options *options, const uint8_t *a, size_t a_len,
+        const uint8_t *b, size_t b_len) {
+    return vbson_same_documents_nonnull(vbson_options_or_init(options), a, a_len, b, b_len);
+}
+
+uint32_t vbson_hash_document_nonnull(const vbson_options *options, const uint8_t *bytes, size_t len, uint64_t *out);
+
+/* Writes the hash of a document, with the options of vbson_same_documents. It is the hash that vbson_hash returns for JSON
  * input with the same value. VBSON_INVALID_ARGUMENT, VBSON_NOT_A_DOCUMENT, VBSON_OUT_OF_MEMORY. */
-uint32_t vbson_hash_document(uint32_t flags, const uint8_t *bytes, size_t len, uint64_t *out);
+static inline uint32_t vbson_hash_document(const vbson_options *options, const uint8_t *bytes, size_t len, uint64_t *out) {
+    return vbson_hash_document_nonnull(vbson_options_or_init(options), bytes, len, out);
+}
 
-/* Reads the bytes as one document, and writes it in the mode, with the flags of vbson_convert_with. In the canonical and
- * relaxed forms keys are in ascending order, at every depth, and with VBSON_KEEP_ORDER in the document's own order, which
+uint32_t vbson_decode_nonnull(uint32_t mode, const vbson_options *options, const uint8_t *bytes, size_t len,
+    vbson_buffer *out);
+
+/* Reads the bytes as one document, and writes it in the mode, with the options of vbson_convert. In the canonical and
+ * relaxed forms keys are in ascending order, at every depth, and with VBSON_KEYS_AS_GIVEN in the document's own order, which
  * VBSON_SHOW always has. The last value of a duplicate key wins, at the position of the first; the keys of an array are
- * dropped. VBSON_NOT_REPRESENTABLE in both forms if the document has a finite double other than 0.0, and the flags lack
- * VBSON_DOUBLES. The output can nest deeper than input may. *out is overwritten: its old block is not freed.
+ * dropped. VBSON_NOT_REPRESENTABLE in both forms if the document has a finite double other than 0.0, without
+ * VBSON_DOUBLES_FINITE. The output can nest deeper than input may. *out is overwritten: its old block is not freed.
  * VBSON_INVALID_ARGUMENT, VBSON_NOT_A_DOCUMENT, VBSON_NOT_REPRESENTABLE, VBSON_OUT_OF_MEMORY. */
-uint32_t vbson_decode(uint32_t mode, uint32_t flags, const uint8_t *bytes, size_t len, vbson_buffer *out);
+static inline uint32_t vbson_decode(uint32_t mode, const vbson_options *options, const uint8_t *bytes, size_t len,
+        vbson_buffer *out) {
+    return vbson_decode_nonnull(mode, vbson_options_or_init(options), bytes, len, out);
+}
 
-/* Reads the len bytes as one Extended JSON text, with the flags of vbson_convert_with, and writes the canonical bytes of
- * its document: out->len bytes, followed by a NUL. Keys are in ascending order, or with VBSON_KEEP_ORDER in that of the
+uint32_t vbson_encode_nonnull(const vbson_options *options, const uint8_t *text, size_t len, vbson_buffer *out);
+
+/* Reads the len bytes as one Extended JSON text, with the options of vbson_convert, and writes the canonical bytes of its
+ * document: out->len bytes, followed by a NUL. Keys are in ascending order, or with VBSON_KEYS_AS_GIVEN in that of the
  * input. *out is overwritten: its old block is not freed. vbson_explain reports where input is not Extended JSON.
  * VBSON_INVALID_ARGUMENT, VBSON_NOT_JSON, VBSON_BAD_OBJECT_ID, VBSON_NOT_EXTENDED_JSON, VBSON_NOT_A_DOCUMENT,
  * VBSON_ZERO_IN_KEY, VBSON_ZERO_IN_REGEX, VBSON_TOO_LONG, VBSON_OUT_OF_MEMORY. */
-uint32_t vbson_encode(uint32_t flags, const uint8_t *text, size_t len, vbson_buffer *out);
+static inline uint32_t vbson_encode(const vbson_options *options, const uint8_t *text, size_t len, vbson_buffer *out) {
+    return vbson_encode_nonnull(vbson_options_or_init(options), text, len, out);
+}
+
+uint32_t vbson_encode_lines_nonnull(const vbson_options *options, const uint8_t *block, size_t len, vbson_lines *out);
 
 /* Encodes each line of the block as vbson_encode does: out->text has the concatenated documents, followed by a NUL. Lines
  * and diagnostics are those of vbson_convert_lines; the diagnostic of a value that has no bytes is the message of
  * vbson_status_text alone. *out is overwritten: its old blocks are not freed.
  * VBSON_INVALID_ARGUMENT, VBSON_OUT_OF_MEMORY. */
-uint32_t vbson_encode_lines(uint32_t flags, const uint8_t *block, size_t len, vbson_lines *out);
+static inline uint32_t vbson_encode_lines(const vbson_options *options, const uint8_t *block, size_t len,
+        vbson_lines *out) {
+    return vbson_encode_lines_nonnull(vbson_options_or_init(options), block, len, out);
+}
 
 /* The result for a block of documents. Free text and diagnostics with vbson_buffer_free. */
 typedef struct vbson_documents {
@@ -285,13 +382,19 @@ typedef struct vbson_documents {
 
 #define VBSON_DOCUMENTS_INIT { VBSON_BUFFER_INIT, VBSON_BUFFER_INIT, 0, 0 }
 
+uint32_t vbson_decode_documents_nonnull(uint32_t mode, const vbson_options *options, const uint8_t *block, size_t len,
+    vbson_documents *out);
+
 /* Decodes the concatenated documents of the block, each as vbson_decode does. A rejected document adds a diagnostic and no
  * output: its number from 1, its byte offset in the block, and the message of vbson_explain_document with an offset in the
  * document, or "a finite double" if it is not representable. The next document begins where the length of the rejected one
  * ends. If the block has no valid length there, or fewer bytes, that document is the last, and the rest is not read.
  * The status is VBSON_OK in each case. *out is overwritten: its old blocks are not freed.
  * VBSON_INVALID_ARGUMENT, VBSON_OUT_OF_MEMORY. */
-uint32_t vbson_decode_documents(uint32_t mode, uint32_t flags, const uint8_t *block, size_t len, vbson_documents *out);
+static inline uint32_t vbson_decode_documents(uint32_t mode, const vbson_options *options, const uint8_t *block,
+        size_t len, vbson_documents *out) {
+    return vbson_decode_documents_nonnull(mode, vbson_options_or_init(options), block, len, out);
+}
 
 /* ---- values of documents that remain bytes
  *

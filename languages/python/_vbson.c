@@ -13,9 +13,9 @@ typedef struct {
     size_t size, len;
 } text;
 
-typedef uint32_t flags_call(uint32_t flags, const uint8_t *given, size_t len, text *out);
+typedef uint32_t options_call(const void *options, const uint8_t *given, size_t len, text *out);
 typedef uint32_t check_call(const uint8_t *bytes, size_t len);
-typedef uint32_t mode_call(uint32_t mode, uint32_t flags, const uint8_t *given, size_t len, text *out);
+typedef uint32_t mode_call(uint32_t mode, const void *options, const uint8_t *given, size_t len, text *out);
 
 /* ---- values */
 
@@ -300,52 +300,50 @@ static PyObject *printed(PyObject *self, PyObject *arguments) {
 /* The answer to a status that is not 0: the error of Python, if there is one. */
 static PyObject *refused(uint32_t status) { return PyErr_Occurred() ? NULL : PyLong_FromUnsignedLong(status); }
 
-static uint32_t left_by(PyObject *call, unsigned mode, unsigned flags, int has_mode, PyObject *given, text *out) {
-    void *address = PyLong_AsVoidPtr(call);
+static uint32_t left_by(PyObject *call, unsigned mode, PyObject *options, int has_mode, PyObject *given, text *out) {
+    void *address = PyLong_AsVoidPtr(call), *chosen = PyLong_AsVoidPtr(options);
     char *bytes;
     Py_ssize_t len;
     uint32_t status = UINT32_MAX;
-    if (address == NULL || PyBytes_AsStringAndSize(given, &bytes, &len) != 0) return status;
+    if (address == NULL || chosen == NULL || PyBytes_AsStringAndSize(given, &bytes, &len) != 0) return status;
     Py_BEGIN_ALLOW_THREADS
-    status = has_mode ? ((mode_call *)address)(mode, flags, (uint8_t *)bytes, (size_t)len, out)
-                      : ((flags_call *)address)(flags, (uint8_t *)bytes, (size_t)len, out);
+    status = has_mode ? ((mode_call *)address)(mode, chosen, (uint8_t *)bytes, (size_t)len, out)
+                      : ((options_call *)address)(chosen, (uint8_t *)bytes, (size_t)len, out);
     Py_END_ALLOW_THREADS
     return status;
 }
 
-/* text_by(address, mode, flags, given): the text that a call of a mode leaves, or its status. */
+/* text_by(address, mode, options, given): the text that a call of a mode leaves, or its status. The options are an address too. */
 static PyObject *text_by(PyObject *self, PyObject *arguments) {
-    PyObject *call, *given;
-    unsigned mode, flags;
+    PyObject *call, *options, *given;
+    unsigned mode;
     text out = {(uint8_t *)"", 0, 0};
-    if (!PyArg_ParseTuple(arguments, "OIIO", &call, &mode, &flags, &given)) return NULL;
-    uint32_t status = left_by(call, mode, flags, 1, given, &out);
+    if (!PyArg_ParseTuple(arguments, "OIOO", &call, &mode, &options, &given)) return NULL;
+    uint32_t status = left_by(call, mode, options, 1, given, &out);
     if (status != 0) return refused(status);
     PyObject *made = PyUnicode_DecodeUTF8((const char *)out.bytes, (Py_ssize_t)out.len, NULL);
     free(out.bytes);
     return made;
 }
 
-/* bytes_by(address, flags, given): the bytes that a call leaves, or its status. */
+/* bytes_by(address, options, given): the bytes that a call leaves, or its status. */
 static PyObject *bytes_by(PyObject *self, PyObject *arguments) {
-    PyObject *call, *given;
-    unsigned flags;
+    PyObject *call, *options, *given;
     text out = {(uint8_t *)"", 0, 0};
-    if (!PyArg_ParseTuple(arguments, "OIO", &call, &flags, &given)) return NULL;
-    uint32_t status = left_by(call, 0, flags, 0, given, &out);
+    if (!PyArg_ParseTuple(arguments, "OOO", &call, &options, &given)) return NULL;
+    uint32_t status = left_by(call, 0, options, 0, given, &out);
     if (status != 0) return refused(status);
     PyObject *made = bytes_of(out.bytes, out.len);
     free(out.bytes);
     return made;
 }
 
-/* value_by(address, flags, given, types): the value of the bytes that a call leaves, as value_of has it, or its status. */
+/* value_by(address, options, given, types): the value of the bytes that a call leaves, as value_of has it, or its status. */
 static PyObject *value_by(PyObject *self, PyObject *arguments) {
-    PyObject *call, *given, *types;
-    unsigned flags;
+    PyObject *call, *options, *given, *types;
     text out = {(uint8_t *)"", 0, 0};
-    if (!PyArg_ParseTuple(arguments, "OIOO!", &call, &flags, &given, &PyTuple_Type, &types)) return NULL;
-    uint32_t status = left_by(call, 0, flags, 0, given, &out);
+    if (!PyArg_ParseTuple(arguments, "OOOO!", &call, &options, &given, &PyTuple_Type, &types)) return NULL;
+    uint32_t status = left_by(call, 0, options, 0, given, &out);
     if (status != 0) return refused(status);
     PyObject *made = only_value(out.bytes, out.len, types);
     free(out.bytes);

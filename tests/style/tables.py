@@ -58,7 +58,7 @@ def calls():
                 for name in re.findall(r'extern "C" fn (vbson_\w+)', sources.read(file))}
     listed = codes(table("languages/README.md", "Call | What its contract says"), 0)
     yield "the calls of languages/README.md", {it for it in listed if it.startswith("vbson_")}, \
-        {it for it in exported if not re.search(r"_(?:print|free|version)$", it)}
+        {it.removesuffix("_nonnull") for it in exported if not re.search(r"_(?:print|free|version)$", it)}
 
 
 def memory():

@@ -7,9 +7,9 @@ static int is_text(const vbson_buffer *text, const char *wanted) {
     return text->len == strlen(wanted) && text->size == text->len + 1 && memcmp(text->bytes, wanted, text->size) == 0;
 }
 
-static int gives(uint32_t mode, uint32_t flags, const char *block, const char *text, const char *told, uint64_t lines, uint64_t refused) {
+static int gives(uint32_t mode, uint32_t fields, const char *block, const char *text, const char *told, uint64_t lines, uint64_t refused) {
     vbson_lines out = VBSON_LINES_INIT;
-    int is_right = vbson_convert_lines(mode, flags, TEXT(block), &out) == VBSON_OK && is_text(&out.text, text)
+    int is_right = vbson_convert_lines(mode, with(fields), TEXT(block), &out) == VBSON_OK && is_text(&out.text, text)
         && is_text(&out.diagnostics, told) && out.lines == lines && out.refused == refused;
     if (!is_right) printf("%s%s", vbson_chars(&out.text), vbson_chars(&out.diagnostics));
     vbson_buffer_free(&out.text);
@@ -26,14 +26,14 @@ static void convert_lines(void) {
         "bson: line 1: not JSON at column 2 (unexpected end of input)\n"
         "bson: line 3: not Extended JSON at 0 (not a 64-bit integer; found 1.5)\n"
         "bson: line 4: bad object id at $oid (an object id has 24 digits, but \"5\" has 1)\n", 4, 3));
-    CHECK(gives(VBSON_RELAXED, VBSON_DOUBLES, "[1.5]\n", "[1.5]\n", "", 1, 0));
-    CHECK(gives(VBSON_RELAXED, VBSON_KEEP_ORDER, "{\"b\":1,\"a\":2}\n[1.5]\n", "{\"b\":1,\"a\":2}\n",
+    CHECK(gives(VBSON_RELAXED, FINITE, "[1.5]\n", "[1.5]\n", "", 1, 0));
+    CHECK(gives(VBSON_RELAXED, AS_GIVEN, "{\"b\":1,\"a\":2}\n[1.5]\n", "{\"b\":1,\"a\":2}\n",
         "bson: line 2: not Extended JSON at 0 (not a 64-bit integer; found 1.5)\n", 2, 1));
-    CHECK(gives(VBSON_RELAXED, VBSON_DOUBLES | VBSON_KEEP_ORDER, "{\"b\":1.5,\"a\":2}", "{\"b\":1.5,\"a\":2}\n", "", 1, 0));
+    CHECK(gives(VBSON_RELAXED, FINITE | AS_GIVEN, "{\"b\":1.5,\"a\":2}", "{\"b\":1.5,\"a\":2}\n", "", 1, 0));
     static const uint8_t before[] = "before";
     vbson_lines out = {{before, 7, 6}, {before, 7, 5}, 3, 4};
-    CHECK(vbson_convert_lines(3, 0, TEXT("1"), &out) == VBSON_INVALID_ARGUMENT);
-    CHECK(vbson_convert_lines(VBSON_RELAXED, 4, TEXT("1"), &out) == VBSON_INVALID_ARGUMENT);
+    CHECK(vbson_convert_lines(3, NULL, TEXT("1"), &out) == VBSON_INVALID_ARGUMENT);
+    CHECK(vbson_convert_lines(VBSON_RELAXED, with(4), TEXT("1"), &out) == VBSON_INVALID_ARGUMENT);
     CHECK(out.text.bytes == before && out.text.size == 7 && out.text.len == 6 && out.diagnostics.bytes == before && out.diagnostics.len == 5);
     CHECK(out.lines == 3 && out.refused == 4);
 
@@ -42,7 +42,7 @@ static void convert_lines(void) {
     char *many = malloc(4 * LINES + 1);
     for (int i = 0; i < LINES; i++) memcpy(many + 4 * i, i % 7 == 3 ? "[!]\n" : "[1]\n", 5);
     vbson_lines all = VBSON_LINES_INIT;
-    CHECK(vbson_convert_lines(VBSON_RELAXED, 0, TEXT(many), &all) == VBSON_OK && all.lines == LINES && all.refused == 7143);
+    CHECK(vbson_convert_lines(VBSON_RELAXED, NULL, TEXT(many), &all) == VBSON_OK && all.lines == LINES && all.refused == 7143);
     CHECK(all.text.len == 4 * (LINES - 7143) && strncmp(vbson_chars(&all.diagnostics), "bson: line 4: not JSON at column 2 (expected a value)\n", 54) == 0);
     vbson_buffer_free(&all.text);
     vbson_buffer_free(&all.diagnostics);
@@ -53,11 +53,11 @@ static void convert_lines(void) {
 
 static const char block[] = "\x0c\0\0\0\x10n\0\5\0\0\0\0" "\x09\0\0\0\x08" "a\0\2\0" "\x05\0\0\0\0";
 
-static int decodes_all(uint32_t mode, uint32_t flags, const char *bytes, size_t len, const char *text, const char *told, uint64_t documents, uint64_t done) {
+static int decodes_all(uint32_t mode, uint32_t fields, const char *bytes, size_t len, const char *text, const char *told, uint64_t documents, uint64_t done) {
     vbson_documents out = VBSON_DOCUMENTS_INIT;
     uint8_t *exact = malloc(len > 0 ? len : 1);
     memcpy(exact, bytes, len);
-    int is_right = vbson_decode_documents(mode, flags, exact, len, &out) == VBSON_OK && is_text(&out.text, text)
+    int is_right = vbson_decode_documents(mode, with(fields), exact, len, &out) == VBSON_OK && is_text(&out.text, text)
         && is_text(&out.diagnostics, told) && out.documents == documents && out.consumed == done;
     if (!is_right) printf("%s%s%d %d\n", vbson_chars(&out.text), vbson_chars(&out.diagnostics), (int)out.documents, (int)out.consumed);
     vbson_buffer_free(&out.text);
@@ -71,11 +71,11 @@ static void decode_documents(void) {
     CHECK(decodes_all(VBSON_RELAXED, 0, "", 0, "", "", 0, 0));
     CHECK(decodes_all(VBSON_RELAXED, 0, block, 12, "{\"n\":5}\n", "", 1, 12));
     CHECK(decodes_all(VBSON_CANONICAL, 0, block, 26, "{\"n\":{\"$numberInt\":\"5\"}}\n{}\n", boolean, 3, 26));
-    CHECK(decodes_all(VBSON_SHOW, VBSON_KEEP_ORDER, block, 26, "{ \"n\": 5 }\n{}\n", boolean, 3, 26));
+    CHECK(decodes_all(VBSON_SHOW, AS_GIVEN, block, 26, "{ \"n\": 5 }\n{}\n", boolean, 3, 26));
     for (size_t len = 13; len < 21; len++) {
         const char *told = len < 16 ? "document 2 at byte 12: ends too early at its byte 0\n" : NULL;
         vbson_documents out = VBSON_DOCUMENTS_INIT;
-        CHECK(vbson_decode_documents(VBSON_RELAXED, 0, (const uint8_t *)block, len, &out) == VBSON_OK);
+        CHECK(vbson_decode_documents(VBSON_RELAXED, NULL, (const uint8_t *)block, len, &out) == VBSON_OK);
         CHECK(is_text(&out.text, "{\"n\":5}\n") && out.documents == 2 && out.consumed == 12);
         CHECK(told ? is_text(&out.diagnostics, told) : strncmp(vbson_chars(&out.diagnostics), "document 2 at byte 12: ", 23) == 0);
         vbson_buffer_free(&out.text);
@@ -83,17 +83,17 @@ static void decode_documents(void) {
     }
     CHECK(decodes_all(VBSON_RELAXED, 0, "\xff\xff\xff\xff{}", 6, "", "document 1 at byte 0: invalid length at its byte 0\n", 1, 0));
     vbson_buffer one = VBSON_BUFFER_INIT;
-    CHECK(vbson_encode(VBSON_DOUBLES | VBSON_KEEP_ORDER, TEXT("{\"b\":1.5,\"a\":2}"), &one) == VBSON_OK && one.len == 23);
+    CHECK(vbson_encode(with(FINITE | AS_GIVEN), TEXT("{\"b\":1.5,\"a\":2}"), &one) == VBSON_OK && one.len == 23);
     const char *two = (const char *)one.bytes;
-    CHECK(decodes_all(VBSON_RELAXED, VBSON_DOUBLES, two, 23, "{\"a\":2,\"b\":1.5}\n", "", 1, 23));
-    CHECK(decodes_all(VBSON_RELAXED, VBSON_DOUBLES | VBSON_KEEP_ORDER, two, 23, "{\"b\":1.5,\"a\":2}\n", "", 1, 23));
+    CHECK(decodes_all(VBSON_RELAXED, FINITE, two, 23, "{\"a\":2,\"b\":1.5}\n", "", 1, 23));
+    CHECK(decodes_all(VBSON_RELAXED, FINITE | AS_GIVEN, two, 23, "{\"b\":1.5,\"a\":2}\n", "", 1, 23));
     CHECK(decodes_all(VBSON_RELAXED, 0, two, 23, "", "document 1 at byte 0: a finite double\n", 1, 23));
     CHECK(decodes_all(VBSON_SHOW, 0, two, 23, "{ \"b\": Double(0x3ff8000000000000), \"a\": 2 }\n", "", 1, 23));
     vbson_buffer_free(&one);
     static const uint8_t before[] = "before";
     vbson_documents out = {{before, 7, 6}, {before, 7, 5}, 3, 4};
-    CHECK(vbson_decode_documents(3, 0, (const uint8_t *)block, 12, &out) == VBSON_INVALID_ARGUMENT);
-    CHECK(vbson_decode_documents(VBSON_RELAXED, 4, (const uint8_t *)block, 12, &out) == VBSON_INVALID_ARGUMENT);
+    CHECK(vbson_decode_documents(3, NULL, (const uint8_t *)block, 12, &out) == VBSON_INVALID_ARGUMENT);
+    CHECK(vbson_decode_documents(VBSON_RELAXED, with(4), (const uint8_t *)block, 12, &out) == VBSON_INVALID_ARGUMENT);
     CHECK(out.text.bytes == before && out.text.size == 7 && out.text.len == 6 && out.diagnostics.bytes == before && out.diagnostics.len == 5);
     CHECK(out.documents == 3 && out.consumed == 4);
 }
@@ -101,16 +101,16 @@ static void decode_documents(void) {
 static void encode_lines(void) {
     static const uint8_t bytes[] = "\x0c\0\0\0\x10n\0\5\0\0\0\0" "\x05\0\0\0";
     vbson_lines out = VBSON_LINES_INIT;
-    CHECK(vbson_encode_lines(0, TEXT("{\"n\": 5}\n\n[1]\n{\"a\\u0000\":1}\n[1.5\n{}"), &out) == VBSON_OK);
+    CHECK(vbson_encode_lines(NULL, TEXT("{\"n\": 5}\n\n[1]\n{\"a\\u0000\":1}\n[1.5\n{}"), &out) == VBSON_OK);
     CHECK(out.text.len == 17 && out.text.size == 18 && memcmp(out.text.bytes, bytes, 17) == 0 && out.text.bytes[17] == 0);
     CHECK(is_text(&out.diagnostics, "bson: line 3: not a document\nbson: line 4: a key has a 0 byte in it\n"
         "bson: line 5: not JSON at column 4 (unexpected end of input)\n") && out.lines == 6 && out.refused == 3);
     vbson_buffer_free(&out.text);
     vbson_buffer_free(&out.diagnostics);
     const char *text = "{\"b\":1.5,\"a\":2}";
-    for (uint32_t flags = 1; flags < 4; flags += 2) {
+    for (uint32_t fields = 1; fields < 4; fields += 2) {
         vbson_buffer one = VBSON_BUFFER_INIT;
-        CHECK(vbson_encode(flags, TEXT(text), &one) == VBSON_OK && vbson_encode_lines(flags, TEXT(text), &out) == VBSON_OK);
+        CHECK(vbson_encode(with(fields), TEXT(text), &one) == VBSON_OK && vbson_encode_lines(with(fields), TEXT(text), &out) == VBSON_OK);
         CHECK(one.len == out.text.len && memcmp(one.bytes, out.text.bytes, one.size) == 0 && out.lines == 1 && out.refused == 0);
         vbson_buffer_free(&one);
         vbson_buffer_free(&out.text);
@@ -118,7 +118,7 @@ static void encode_lines(void) {
     }
     static const uint8_t before[] = "before";
     vbson_lines kept = {{before, 7, 6}, {before, 7, 5}, 3, 4};
-    CHECK(vbson_encode_lines(4, TEXT("{}"), &kept) == VBSON_INVALID_ARGUMENT && kept.text.bytes == before && kept.diagnostics.len == 5 && kept.lines == 3);
+    CHECK(vbson_encode_lines(with(4), TEXT("{}"), &kept) == VBSON_INVALID_ARGUMENT && kept.text.bytes == before && kept.diagnostics.len == 5 && kept.lines == 3);
 }
 
 int main(void) {

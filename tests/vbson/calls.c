@@ -5,7 +5,7 @@
 
 static int converts(uint32_t mode, const char *text, const char *wanted) {
     vbson_buffer out = VBSON_BUFFER_INIT;
-    int is_right = vbson_convert(mode, TEXT(text), &out) == VBSON_OK && out.len == strlen(wanted)
+    int is_right = vbson_convert(mode, NULL, TEXT(text), &out) == VBSON_OK && out.len == strlen(wanted)
         && out.size == out.len + 1 && memcmp(out.bytes, wanted, out.size) == 0;
     vbson_buffer_free(&out);
     return is_right && out.size == 0 && out.len == 0;
@@ -15,7 +15,7 @@ static int converts(uint32_t mode, const char *text, const char *wanted) {
 static int refuses(uint32_t mode, const char *text, size_t len, uint32_t status) {
     static const uint8_t before[] = "before";
     vbson_buffer out = {before, 7, 6};
-    uint32_t found = vbson_convert(mode, (const uint8_t *)text, len, &out);
+    uint32_t found = vbson_convert(mode, NULL, (const uint8_t *)text, len, &out);
     return found == status && out.bytes == before && out.size == 7 && out.len == 6;
 }
 
@@ -33,13 +33,13 @@ static void convert(void) {
 
     /* a text with U+0000 in it, which ends the C string early */
     vbson_buffer out = VBSON_BUFFER_INIT;
-    CHECK(vbson_convert(VBSON_SHOW, TEXT("\"a\\u0000b\""), &out) == VBSON_OK);
+    CHECK(vbson_convert(VBSON_SHOW, NULL, TEXT("\"a\\u0000b\""), &out) == VBSON_OK);
     CHECK(out.len == 5 && memcmp(out.bytes, "\"a\0b\"", 6) == 0);
     vbson_buffer_free(&out);
     vbson_buffer_free(&out);
 
     /* only the bytes that are told are read */
-    CHECK(vbson_convert(VBSON_RELAXED, (const uint8_t *)"[1]]]", 3, &out) == VBSON_OK && out.len == 3);
+    CHECK(vbson_convert(VBSON_RELAXED, NULL, (const uint8_t *)"[1]]]", 3, &out) == VBSON_OK && out.len == 3);
     vbson_buffer_free(&out);
 }
 
@@ -56,38 +56,38 @@ static void convert_refused(void) {
     CHECK(refuses(VBSON_RELAXED, "[{\"$oid\":5},1]", 14, VBSON_NOT_EXTENDED_JSON));
 }
 
-static int converts_with(uint32_t mode, uint32_t flags, const char *text, const char *wanted) {
+static int converts_with(uint32_t mode, uint32_t fields, const char *text, const char *wanted) {
     vbson_buffer out = VBSON_BUFFER_INIT;
-    int is_right = vbson_convert_with(mode, flags, TEXT(text), &out) == VBSON_OK && out.len == strlen(wanted)
+    int is_right = vbson_convert(mode, with(fields), TEXT(text), &out) == VBSON_OK && out.len == strlen(wanted)
         && out.size == out.len + 1 && memcmp(out.bytes, wanted, out.size) == 0;
     vbson_buffer_free(&out);
     return is_right;
 }
 
-static int refuses_with(uint32_t mode, uint32_t flags, const char *text, uint32_t status) {
+static int refuses_with(uint32_t mode, uint32_t fields, const char *text, uint32_t status) {
     static const uint8_t before[] = "before";
     vbson_buffer out = {before, 7, 6};
-    uint32_t found = vbson_convert_with(mode, flags, TEXT(text), &out);
+    uint32_t found = vbson_convert(mode, with(fields), TEXT(text), &out);
     return found == status && out.bytes == before && out.size == 7 && out.len == 6;
 }
 
-static void convert_with(void) {
+static void convert_options(void) {
     const char *doubles = "{\"b\":1.5,\"a\":[1e2,-0]}";
     const char *written = "{\"a\":[{\"$numberDouble\":\"100.0\"},{\"$numberDouble\":\"-0.0\"}],\"b\":{\"$numberDouble\":\"1.5\"}}";
-    CHECK(converts_with(VBSON_CANONICAL, VBSON_DOUBLES, doubles, written));
-    CHECK(converts_with(VBSON_RELAXED, VBSON_DOUBLES, doubles, "{\"a\":[100.0,-0.0],\"b\":1.5}"));
-    CHECK(converts_with(VBSON_RELAXED, VBSON_DOUBLES, "[1e16,{\"$numberDouble\":\"NaN\"}]", "[1e16,{\"$numberDouble\":\"NaN\"}]"));
-    CHECK(converts_with(VBSON_RELAXED, VBSON_DOUBLES, "{\"$numberDouble\":\"0.0\"}", "0.0"));
+    CHECK(converts_with(VBSON_CANONICAL, FINITE, doubles, written));
+    CHECK(converts_with(VBSON_RELAXED, FINITE, doubles, "{\"a\":[100.0,-0.0],\"b\":1.5}"));
+    CHECK(converts_with(VBSON_RELAXED, FINITE, "[1e16,{\"$numberDouble\":\"NaN\"}]", "[1e16,{\"$numberDouble\":\"NaN\"}]"));
+    CHECK(converts_with(VBSON_RELAXED, FINITE, "{\"$numberDouble\":\"0.0\"}", "0.0"));
     CHECK(converts_with(VBSON_RELAXED, 0, "{\"$numberDouble\":\"0.0\"}", "{\"$numberDouble\":\"0.0\"}"));
-    CHECK(converts_with(VBSON_RELAXED, VBSON_DOUBLES, "[5]", "[5]"));
-    CHECK(converts_with(VBSON_SHOW, VBSON_DOUBLES, "{\"$code\":\"\"}", ""));
+    CHECK(converts_with(VBSON_RELAXED, FINITE, "[5]", "[5]"));
+    CHECK(converts_with(VBSON_SHOW, FINITE, "{\"$code\":\"\"}", ""));
     CHECK(converts_with(VBSON_CANONICAL, 0, "[5]", "[{\"$numberInt\":\"5\"}]"));
     CHECK(refuses_with(VBSON_CANONICAL, 0, doubles, VBSON_NOT_EXTENDED_JSON));
-    CHECK(refuses_with(VBSON_CANONICAL, VBSON_DOUBLES, "{\"$numberDouble\":\"1e400\"}", VBSON_NOT_EXTENDED_JSON));
-    CHECK(refuses_with(VBSON_RELAXED, VBSON_DOUBLES, "1e400", VBSON_NOT_JSON));
-    CHECK(refuses_with(VBSON_RELAXED, VBSON_DOUBLES, "[1.5,{\"$oid\":\"5\"}]", VBSON_BAD_OBJECT_ID));
+    CHECK(refuses_with(VBSON_CANONICAL, FINITE, "{\"$numberDouble\":\"1e400\"}", VBSON_NOT_EXTENDED_JSON));
+    CHECK(refuses_with(VBSON_RELAXED, FINITE, "1e400", VBSON_NOT_JSON));
+    CHECK(refuses_with(VBSON_RELAXED, FINITE, "[1.5,{\"$oid\":\"5\"}]", VBSON_BAD_OBJECT_ID));
     CHECK(refuses_with(3, 0, "{}", VBSON_INVALID_ARGUMENT));
-    CHECK(refuses_with(3, VBSON_DOUBLES, "{}", VBSON_INVALID_ARGUMENT));
+    CHECK(refuses_with(3, FINITE, "{}", VBSON_INVALID_ARGUMENT));
     CHECK(refuses_with(VBSON_CANONICAL, 4, "{}", VBSON_INVALID_ARGUMENT));
     CHECK(refuses_with(VBSON_CANONICAL, 7, "{}", VBSON_INVALID_ARGUMENT));
     CHECK(refuses_with(VBSON_SHOW, UINT32_MAX, "not JSON", VBSON_INVALID_ARGUMENT));
@@ -96,18 +96,18 @@ static void convert_with(void) {
 static void keep_order(void) {
     const char *text = "{\"b\":{\"d\":1,\"c\":[{\"f\":2,\"e\":3}]},\"a\":4}";
     const char *twice = "{\"b\":1,\"a\":1.5,\"b\":2}";
-    CHECK(converts_with(VBSON_RELAXED, VBSON_KEEP_ORDER, text, text));
+    CHECK(converts_with(VBSON_RELAXED, AS_GIVEN, text, text));
     CHECK(converts_with(VBSON_RELAXED, 0, text, "{\"a\":4,\"b\":{\"c\":[{\"e\":3,\"f\":2}],\"d\":1}}"));
-    CHECK(converts_with(VBSON_RELAXED, VBSON_DOUBLES, text, "{\"a\":4,\"b\":{\"c\":[{\"e\":3,\"f\":2}],\"d\":1}}"));
-    CHECK(converts_with(VBSON_CANONICAL, VBSON_KEEP_ORDER, "{\"b\":1,\"a\":2}", "{\"b\":{\"$numberInt\":\"1\"},\"a\":{\"$numberInt\":\"2\"}}"));
-    CHECK(converts_with(VBSON_SHOW, VBSON_KEEP_ORDER, "{\"b\":1,\"a\":2}", "{ \"b\": 1, \"a\": 2 }"));
+    CHECK(converts_with(VBSON_RELAXED, FINITE, text, "{\"a\":4,\"b\":{\"c\":[{\"e\":3,\"f\":2}],\"d\":1}}"));
+    CHECK(converts_with(VBSON_CANONICAL, AS_GIVEN, "{\"b\":1,\"a\":2}", "{\"b\":{\"$numberInt\":\"1\"},\"a\":{\"$numberInt\":\"2\"}}"));
+    CHECK(converts_with(VBSON_SHOW, AS_GIVEN, "{\"b\":1,\"a\":2}", "{ \"b\": 1, \"a\": 2 }"));
     CHECK(converts_with(VBSON_SHOW, 0, "{\"b\":1,\"a\":2}", "{ \"a\": 2, \"b\": 1 }"));
-    CHECK(converts_with(VBSON_RELAXED, VBSON_DOUBLES | VBSON_KEEP_ORDER, twice, "{\"b\":2,\"a\":1.5}"));
-    CHECK(converts_with(VBSON_RELAXED, VBSON_DOUBLES, twice, "{\"a\":1.5,\"b\":2}"));
-    CHECK(refuses_with(VBSON_RELAXED, VBSON_KEEP_ORDER, twice, VBSON_NOT_EXTENDED_JSON));
-    CHECK(refuses_with(VBSON_RELAXED, VBSON_KEEP_ORDER, "{\"b\":", VBSON_NOT_JSON));
-    CHECK(refuses_with(VBSON_RELAXED, VBSON_KEEP_ORDER, "{\"$oid\":\"5\"}", VBSON_BAD_OBJECT_ID));
-    CHECK(refuses_with(3, VBSON_KEEP_ORDER, "{}", VBSON_INVALID_ARGUMENT));
+    CHECK(converts_with(VBSON_RELAXED, FINITE | AS_GIVEN, twice, "{\"b\":2,\"a\":1.5}"));
+    CHECK(converts_with(VBSON_RELAXED, FINITE, twice, "{\"a\":1.5,\"b\":2}"));
+    CHECK(refuses_with(VBSON_RELAXED, AS_GIVEN, twice, VBSON_NOT_EXTENDED_JSON));
+    CHECK(refuses_with(VBSON_RELAXED, AS_GIVEN, "{\"b\":", VBSON_NOT_JSON));
+    CHECK(refuses_with(VBSON_RELAXED, AS_GIVEN, "{\"$oid\":\"5\"}", VBSON_BAD_OBJECT_ID));
+    CHECK(refuses_with(3, AS_GIVEN, "{}", VBSON_INVALID_ARGUMENT));
 }
 
 /* The path of an error as its keys and indexes, each behind a '/'. */
@@ -145,19 +145,19 @@ static int is_whole(const vbson_error *it) {
     return message[-1] == '(' && strncmp(message, reason, it->reason.len) == 0 && strcmp(message + it->reason.len, ")") == 0;
 }
 
-static int explains(uint32_t flags, const char *text, const char *wanted) {
+static int explains(uint32_t fields, const char *text, const char *wanted) {
     vbson_error out = VBSON_ERROR_INIT;
-    int is_right = vbson_explain(flags, TEXT(text), &out) == VBSON_OK && is_string(&out.message, wanted) && is_whole(&out);
+    int is_right = vbson_explain(with(fields), TEXT(text), &out) == VBSON_OK && is_string(&out.message, wanted) && is_whole(&out);
     if (!is_right) printf("%s\n", vbson_chars(&out.message));
     vbson_error_free(&out);
     return is_right && out.message.size == 0 && out.code == VBSON_OK;
 }
 
 /* The code and the path. */
-static int finds(uint32_t flags, const char *text, uint32_t code, const char *path) {
+static int finds(uint32_t fields, const char *text, uint32_t code, const char *path) {
     vbson_error out = VBSON_ERROR_INIT;
     char words[2000];
-    int is_right = vbson_explain(flags, TEXT(text), &out) == VBSON_OK && out.code == code && is_whole(&out);
+    int is_right = vbson_explain(with(fields), TEXT(text), &out) == VBSON_OK && out.code == code && is_whole(&out);
     print_path(&out, words, sizeof words);
     if (!is_right || strcmp(words, path) != 0) printf("%u %s\n", out.code, words);
     vbson_error_free(&out);
@@ -167,7 +167,7 @@ static int finds(uint32_t flags, const char *text, uint32_t code, const char *pa
 /* Where a text stops to be JSON, and the reason. */
 static int stops(const char *text, size_t line, size_t column, size_t offset, const char *reason) {
     vbson_error out = VBSON_ERROR_INIT;
-    int is_right = vbson_explain(0, TEXT(text), &out) == VBSON_OK && out.code == VBSON_NOT_JSON && out.line == line && out.column == column
+    int is_right = vbson_explain(NULL, TEXT(text), &out) == VBSON_OK && out.code == VBSON_NOT_JSON && out.line == line && out.column == column
         && out.offset == offset && is_string(&out.reason, reason) && is_whole(&out);
     if (!is_right) printf("%zu %zu %zu %s\n", out.line, out.column, out.offset, vbson_chars(&out.reason));
     vbson_error_free(&out);
@@ -183,8 +183,8 @@ static void errors(void) {
     CHECK(finds(0, "{\"a\":{\"b\":1},\"a.b\":1.5}", VBSON_NOT_EXTENDED_JSON, "/a.b"));
     CHECK(finds(0, "{\"\xc3\xa9\":{\"\\u001b\":1.5}}", VBSON_NOT_EXTENDED_JSON, "/\xc3\xa9/\x1b"));
     CHECK(finds(0, "{\"f\":{\"$code\":\"\",\"$scope\":{\"x\":[0,1,2,3,4,5,6,7,8,9,10,1.5]}}}", VBSON_NOT_EXTENDED_JSON, "/f/$scope/x/11"));
-    CHECK(finds(VBSON_REJECT_DUPLICATE_KEYS, "{\"a\":[{\"b\":1,\"b\":2}]}", VBSON_NOT_EXTENDED_JSON, "/a/0/b"));
-    CHECK(finds(VBSON_LEGACY, "{\"a\":{\"$binary\":\"AQI=\",\"$type\":\"0\"}}", VBSON_NOT_EXTENDED_JSON, "/a/$binary"));
+    CHECK(finds(DISTINCT, "{\"a\":[{\"b\":1,\"b\":2}]}", VBSON_NOT_EXTENDED_JSON, "/a/0/b"));
+    CHECK(finds(V1, "{\"a\":{\"$binary\":\"AQI=\",\"$type\":\"0\"}}", VBSON_NOT_EXTENDED_JSON, "/a/$binary"));
     memset(nested, '[', 127), strcpy(nested + 127, "1.5"), memset(nested + 130, ']', 127), nested[257] = '\0';
     for (int i = 0; i < 127; i++) strcat(path, "/0");
     CHECK(finds(0, nested, VBSON_NOT_EXTENDED_JSON, path));
@@ -208,74 +208,74 @@ static void explain(void) {
     vbson_error out = was;
     const char *number = "not Extended JSON at orders.1.price (not a 64-bit integer; found 1.5)";
     CHECK(explains(0, "{\"orders\":[1,{\"price\":1.5}]}", number));
-    CHECK(explains(VBSON_DOUBLES, "{\"orders\":[1,{\"price\":1.5}]}", ""));
+    CHECK(explains(FINITE, "{\"orders\":[1,{\"price\":1.5}]}", ""));
     CHECK(explains(0, "1.5", "not Extended JSON (not a 64-bit integer; found 1.5)"));
     CHECK(explains(0, "{\"a\":{\"$oid\":\"53e3\"}}", "bad object id at a.$oid (an object id has 24 digits, but \"53e3\" has 4)"));
     CHECK(explains(0, "[1,]", "not JSON at column 4 (expected an element after the comma)"));
     CHECK(explains(0, "{\"a\" 1}", "not JSON at column 6 (expected a colon and a value after the key)"));
-    CHECK(explains(VBSON_DOUBLES, "\"\xff\"", "not JSON at column 2 (invalid UTF-8)"));
-    CHECK(explains(VBSON_DOUBLES, "[1e400]", "not JSON at column 2 (number out of range)"));
+    CHECK(explains(FINITE, "\"\xff\"", "not JSON at column 2 (invalid UTF-8)"));
+    CHECK(explains(FINITE, "[1e400]", "not JSON at column 2 (number out of range)"));
     CHECK(explains(0, "{\"a\\u001b\":1.5}", "not Extended JSON at a\\u001b (not a 64-bit integer; found 1.5)"));
     CHECK(explains(0, "{\"$oid\":\"5\\u2028\"}", "bad object id at $oid (the character '\xc3\xa2' at 1 in \"5\\u2028\" is no hexadecimal digit)"));
     CHECK(explains(0, "{\"a\":1}", ""));
-    CHECK(explains(VBSON_KEEP_ORDER, "{\"b\":{\"$oid\":\"5\"},\"a\":[1.5]}", "not Extended JSON at a.0 (not a 64-bit integer; found 1.5)"));
-    CHECK(explains(VBSON_DOUBLES | VBSON_KEEP_ORDER, "[1.5]", ""));
-    CHECK(vbson_explain(16, TEXT("{}"), &out) == VBSON_INVALID_ARGUMENT && memcmp(&out, &was, sizeof out) == 0);
-    CHECK(explains(VBSON_REJECT_DUPLICATE_KEYS, "{\"a\":[{\"b\":1,\"b\":2}]}", "not Extended JSON at a.0.b (duplicate key)"));
-    CHECK(explains(0, "{\"a\":[{\"b\":1,\"b\":2}]}", "") && explains(VBSON_REJECT_DUPLICATE_KEYS, "{\"a\":[{\"b\":1},{\"b\":2}]}", ""));
-    CHECK(explains(VBSON_REJECT_DUPLICATE_KEYS | VBSON_LEGACY, "[1.5,", "not JSON at column 5 (unexpected end of input)"));
-    CHECK(explains(VBSON_LEGACY, "{\"$binary\":\"AQI=\",\"$type\":\"00\"}", ""));
+    CHECK(explains(AS_GIVEN, "{\"b\":{\"$oid\":\"5\"},\"a\":[1.5]}", "not Extended JSON at a.0 (not a 64-bit integer; found 1.5)"));
+    CHECK(explains(FINITE | AS_GIVEN, "[1.5]", ""));
+    CHECK(vbson_explain(with(16), TEXT("{}"), &out) == VBSON_INVALID_ARGUMENT && memcmp(&out, &was, sizeof out) == 0);
+    CHECK(explains(DISTINCT, "{\"a\":[{\"b\":1,\"b\":2}]}", "not Extended JSON at a.0.b (duplicate key)"));
+    CHECK(explains(0, "{\"a\":[{\"b\":1,\"b\":2}]}", "") && explains(DISTINCT, "{\"a\":[{\"b\":1},{\"b\":2}]}", ""));
+    CHECK(explains(DISTINCT | V1, "[1.5,", "not JSON at column 5 (unexpected end of input)"));
+    CHECK(explains(V1, "{\"$binary\":\"AQI=\",\"$type\":\"00\"}", ""));
     CHECK(explains(0, "{\"$binary\":\"AQI=\",\"$type\":\"00\"}",
         "not Extended JSON (`$binary` must be the only key of its object; found {\"$binary\":\"AQI=\",\"$type\":\"00\"})"));
-    CHECK(explains(VBSON_LEGACY, "{\"a\":{\"$binary\":\"AQI=\",\"$type\":\"0\"}}",
+    CHECK(explains(V1, "{\"a\":{\"$binary\":\"AQI=\",\"$type\":\"0\"}}",
         "not Extended JSON at a.$binary (`subType` must be two hexadecimal digits; found {\"base64\":\"AQI=\",\"subType\":\"0\"})"));
-    CHECK(vbson_explain(UINT32_MAX, TEXT("!"), &out) == VBSON_INVALID_ARGUMENT && memcmp(&out, &was, sizeof out) == 0);
+    CHECK(vbson_explain(with(UINT32_MAX), TEXT("!"), &out) == VBSON_INVALID_ARGUMENT && memcmp(&out, &was, sizeof out) == 0);
 }
 
 /* ---- values */
 
 static void same(void) {
     const char *one = "{\"a\":1,\"b\":[2,3]}";
-    CHECK(vbson_same(0, TEXT(one), TEXT("{ \"b\": [2, {\"$numberInt\":\"3\"}], \"a\": 1 }")) == VBSON_OK);
-    CHECK(vbson_same(0, TEXT(one), TEXT(one)) == VBSON_OK);
-    CHECK(vbson_same(0, TEXT("[1,2]"), TEXT("[2,1]")) == VBSON_DIFFERENT);
-    CHECK(vbson_same(0, TEXT("1"), TEXT("{\"$numberLong\":\"1\"}")) == VBSON_DIFFERENT);
-    CHECK(vbson_same(0, TEXT("{\"a\":1}"), TEXT("{\"a\":1,\"b\":1}")) == VBSON_DIFFERENT);
-    CHECK(vbson_same(0, TEXT("{\"a\":1,\"b\":1}"), TEXT("{\"a\":1}")) == VBSON_DIFFERENT);
-    CHECK(vbson_same(0, TEXT(""), TEXT("1.5")) == VBSON_NOT_JSON);
-    CHECK(vbson_same(0, TEXT("1.5"), TEXT("")) == VBSON_NOT_EXTENDED_JSON);
-    CHECK(vbson_same(0, TEXT("1"), TEXT("{\"$oid\":\"\"}")) == VBSON_BAD_OBJECT_ID);
+    CHECK(vbson_same(NULL, TEXT(one), TEXT("{ \"b\": [2, {\"$numberInt\":\"3\"}], \"a\": 1 }")) == VBSON_OK);
+    CHECK(vbson_same(NULL, TEXT(one), TEXT(one)) == VBSON_OK);
+    CHECK(vbson_same(NULL, TEXT("[1,2]"), TEXT("[2,1]")) == VBSON_DIFFERENT);
+    CHECK(vbson_same(NULL, TEXT("1"), TEXT("{\"$numberLong\":\"1\"}")) == VBSON_DIFFERENT);
+    CHECK(vbson_same(NULL, TEXT("{\"a\":1}"), TEXT("{\"a\":1,\"b\":1}")) == VBSON_DIFFERENT);
+    CHECK(vbson_same(NULL, TEXT("{\"a\":1,\"b\":1}"), TEXT("{\"a\":1}")) == VBSON_DIFFERENT);
+    CHECK(vbson_same(NULL, TEXT(""), TEXT("1.5")) == VBSON_NOT_JSON);
+    CHECK(vbson_same(NULL, TEXT("1.5"), TEXT("")) == VBSON_NOT_EXTENDED_JSON);
+    CHECK(vbson_same(NULL, TEXT("1"), TEXT("{\"$oid\":\"\"}")) == VBSON_BAD_OBJECT_ID);
 }
 
-static void same_by_flags(void) {
+static void same_by_options(void) {
     const char *price = "{\"a\":1,\"price\":12.5}", *other = "{\"price\":{\"$numberDouble\":\"12.50\"},\"a\":1}";
     const char *twice = "{\"a\":1,\"a\":2}", *within = "[{\"b\":{\"\\u0061\":1,\"a\":2}}]";
     const char *v1 = "{\"$type\":\"00\",\"$binary\":\"AQI=\"}", *v2 = "{\"$binary\":{\"base64\":\"AQI=\",\"subType\":\"00\"}}";
-    uint32_t strict = VBSON_REJECT_DUPLICATE_KEYS, all = VBSON_DOUBLES | VBSON_REJECT_DUPLICATE_KEYS | VBSON_LEGACY;
-    CHECK(vbson_same(0, TEXT(price), TEXT(other)) == VBSON_NOT_EXTENDED_JSON);
-    CHECK(vbson_same(VBSON_DOUBLES, TEXT(price), TEXT(other)) == VBSON_OK && vbson_same(all, TEXT(price), TEXT(other)) == VBSON_OK);
-    CHECK(vbson_same(VBSON_DOUBLES, TEXT("0.0"), TEXT("-0.0")) == VBSON_DIFFERENT);
-    CHECK(vbson_same(VBSON_DOUBLES, TEXT("1.0"), TEXT("1")) == VBSON_DIFFERENT);
-    CHECK(vbson_same(0, TEXT(twice), TEXT("{\"a\":2}")) == VBSON_OK && vbson_same(0, TEXT(within), TEXT(within)) == VBSON_OK);
-    CHECK(vbson_same(strict, TEXT(twice), TEXT("{\"a\":2}")) == VBSON_NOT_EXTENDED_JSON);
-    CHECK(vbson_same(strict, TEXT("1"), TEXT(within)) == VBSON_NOT_EXTENDED_JSON);
-    CHECK(vbson_same(strict, TEXT("{\"a\":1,\"b\":{\"a\":2}}"), TEXT("{\"b\":{\"a\":2},\"a\":1}")) == VBSON_OK);
-    CHECK(vbson_same(strict, TEXT("!"), TEXT(twice)) == VBSON_NOT_JSON);
-    CHECK(vbson_same(VBSON_LEGACY, TEXT(v1), TEXT(v2)) == VBSON_OK && vbson_same(0, TEXT(v1), TEXT(v2)) == VBSON_NOT_EXTENDED_JSON);
-    CHECK(vbson_same(VBSON_LEGACY, TEXT("{\"$regex\":\"a\",\"$options\":\"i\"}"),
+    uint32_t strict = DISTINCT, all = FINITE | DISTINCT | V1;
+    CHECK(vbson_same(NULL, TEXT(price), TEXT(other)) == VBSON_NOT_EXTENDED_JSON);
+    CHECK(vbson_same(with(FINITE), TEXT(price), TEXT(other)) == VBSON_OK && vbson_same(with(all), TEXT(price), TEXT(other)) == VBSON_OK);
+    CHECK(vbson_same(with(FINITE), TEXT("0.0"), TEXT("-0.0")) == VBSON_DIFFERENT);
+    CHECK(vbson_same(with(FINITE), TEXT("1.0"), TEXT("1")) == VBSON_DIFFERENT);
+    CHECK(vbson_same(NULL, TEXT(twice), TEXT("{\"a\":2}")) == VBSON_OK && vbson_same(NULL, TEXT(within), TEXT(within)) == VBSON_OK);
+    CHECK(vbson_same(with(strict), TEXT(twice), TEXT("{\"a\":2}")) == VBSON_NOT_EXTENDED_JSON);
+    CHECK(vbson_same(with(strict), TEXT("1"), TEXT(within)) == VBSON_NOT_EXTENDED_JSON);
+    CHECK(vbson_same(with(strict), TEXT("{\"a\":1,\"b\":{\"a\":2}}"), TEXT("{\"b\":{\"a\":2},\"a\":1}")) == VBSON_OK);
+    CHECK(vbson_same(with(strict), TEXT("!"), TEXT(twice)) == VBSON_NOT_JSON);
+    CHECK(vbson_same(with(V1), TEXT(v1), TEXT(v2)) == VBSON_OK && vbson_same(NULL, TEXT(v1), TEXT(v2)) == VBSON_NOT_EXTENDED_JSON);
+    CHECK(vbson_same(with(V1), TEXT("{\"$regex\":\"a\",\"$options\":\"i\"}"),
         TEXT("{\"$regularExpression\":{\"pattern\":\"a\",\"options\":\"i\"}}")) == VBSON_OK);
-    CHECK(vbson_same(all, TEXT(v1), TEXT(v2)) == VBSON_OK && vbson_same(all, TEXT(v1), TEXT(twice)) == VBSON_NOT_EXTENDED_JSON);
-    static const uint32_t none[] = {VBSON_KEEP_ORDER, VBSON_DOUBLES | VBSON_KEEP_ORDER, 16, 15, UINT32_MAX};
+    CHECK(vbson_same(with(all), TEXT(v1), TEXT(v2)) == VBSON_OK && vbson_same(with(all), TEXT(v1), TEXT(twice)) == VBSON_NOT_EXTENDED_JSON);
+    static const uint32_t none[] = {AS_GIVEN, FINITE | AS_GIVEN, 16, 15, UINT32_MAX};
     for (size_t i = 0; i < sizeof none / sizeof *none; i++) {
         uint64_t number = 7;
-        CHECK(vbson_same(none[i], TEXT("1"), TEXT("1")) == VBSON_INVALID_ARGUMENT && vbson_same(none[i], TEXT("!"), TEXT("!")) == VBSON_INVALID_ARGUMENT);
-        CHECK(vbson_hash(none[i], TEXT("1"), &number) == VBSON_INVALID_ARGUMENT && number == 7);
+        CHECK(vbson_same(with(none[i]), TEXT("1"), TEXT("1")) == VBSON_INVALID_ARGUMENT && vbson_same(with(none[i]), TEXT("!"), TEXT("!")) == VBSON_INVALID_ARGUMENT);
+        CHECK(vbson_hash(with(none[i]), TEXT("1"), &number) == VBSON_INVALID_ARGUMENT && number == 7);
     }
 }
 
-static uint64_t hash_by(uint32_t flags, const char *text) {
+static uint64_t hash_by(uint32_t fields, const char *text) {
     uint64_t number = 0;
-    CHECK(vbson_hash(flags, TEXT(text), &number) == VBSON_OK);
+    CHECK(vbson_hash(with(fields), TEXT(text), &number) == VBSON_OK);
     return number;
 }
 
@@ -288,18 +288,18 @@ static void hash(void) {
     CHECK(hash_of("{\"a\":1}") != hash_of("{\"a\":2}"));
     /* SipHash-1-3 under the key 0 of no bytes; python_calls.py has more */
     CHECK(hash_of("null") == UINT64_C(0xd1fba762150c532c));
-    CHECK(vbson_hash(0, TEXT("]"), &number) == VBSON_NOT_JSON && number == 7);
-    CHECK(vbson_hash(0, TEXT("{\"$oid\":\"x\"}"), &number) == VBSON_BAD_OBJECT_ID && number == 7);
-    CHECK(vbson_hash(0, TEXT("1e400"), &number) == VBSON_NOT_JSON && number == 7);
-    CHECK(vbson_hash(0, TEXT("{\"$date\":\"x\"}"), &number) == VBSON_NOT_EXTENDED_JSON && number == 7);
-    CHECK(vbson_hash(0, TEXT("[12.5]"), &number) == VBSON_NOT_EXTENDED_JSON && number == 7);
-    CHECK(hash_by(VBSON_DOUBLES, "[12.5]") == hash_by(VBSON_DOUBLES, "[{\"$numberDouble\":\"1.25e1\"}]"));
-    CHECK(hash_by(VBSON_DOUBLES, "[12.5]") != hash_by(VBSON_DOUBLES, "[-12.5]"));
-    CHECK(hash_by(VBSON_DOUBLES | VBSON_REJECT_DUPLICATE_KEYS | VBSON_LEGACY, "null") == UINT64_C(0xd1fba762150c532c));
+    CHECK(vbson_hash(NULL, TEXT("]"), &number) == VBSON_NOT_JSON && number == 7);
+    CHECK(vbson_hash(NULL, TEXT("{\"$oid\":\"x\"}"), &number) == VBSON_BAD_OBJECT_ID && number == 7);
+    CHECK(vbson_hash(NULL, TEXT("1e400"), &number) == VBSON_NOT_JSON && number == 7);
+    CHECK(vbson_hash(NULL, TEXT("{\"$date\":\"x\"}"), &number) == VBSON_NOT_EXTENDED_JSON && number == 7);
+    CHECK(vbson_hash(NULL, TEXT("[12.5]"), &number) == VBSON_NOT_EXTENDED_JSON && number == 7);
+    CHECK(hash_by(FINITE, "[12.5]") == hash_by(FINITE, "[{\"$numberDouble\":\"1.25e1\"}]"));
+    CHECK(hash_by(FINITE, "[12.5]") != hash_by(FINITE, "[-12.5]"));
+    CHECK(hash_by(FINITE | DISTINCT | V1, "null") == UINT64_C(0xd1fba762150c532c));
     CHECK(hash_of("{\"a\":1,\"a\":2}") == hash_of("{\"a\":2}"));
-    CHECK(vbson_hash(VBSON_REJECT_DUPLICATE_KEYS, TEXT("{\"a\":1,\"a\":2}"), &number) == VBSON_NOT_EXTENDED_JSON && number == 7);
-    CHECK(hash_by(VBSON_LEGACY, "{\"$date\":\"1970-01-01T01:00:00+0100\"}") == hash_of("{\"$date\":{\"$numberLong\":\"0\"}}"));
-    CHECK(vbson_hash(0, TEXT("{\"$date\":\"1970-01-01T01:00:00+0100\"}"), &number) == VBSON_NOT_EXTENDED_JSON && number == 7);
+    CHECK(vbson_hash(with(DISTINCT), TEXT("{\"a\":1,\"a\":2}"), &number) == VBSON_NOT_EXTENDED_JSON && number == 7);
+    CHECK(hash_by(V1, "{\"$date\":\"1970-01-01T01:00:00+0100\"}") == hash_of("{\"$date\":{\"$numberLong\":\"0\"}}"));
+    CHECK(vbson_hash(NULL, TEXT("{\"$date\":\"1970-01-01T01:00:00+0100\"}"), &number) == VBSON_NOT_EXTENDED_JSON && number == 7);
 }
 
 /* ---- documents */
@@ -309,9 +309,9 @@ static const uint8_t pair[] = {0x17, 0, 0, 0, 0x10, 'b', 0, 5, 0, 0, 0, 1, 'a', 
 static const uint8_t five[] = {12, 0, 0, 0, 0x10, 'a', 0, 5, 0, 0, 0, 0};
 static const uint8_t truth_of_two[] = {9, 0, 0, 0, 8, 'a', 0, 2, 0};
 
-static int decodes(uint32_t mode, uint32_t flags, const uint8_t *bytes, size_t len, const char *wanted) {
+static int decodes(uint32_t mode, uint32_t fields, const uint8_t *bytes, size_t len, const char *wanted) {
     vbson_buffer out = VBSON_BUFFER_INIT;
-    int is_right = vbson_decode(mode, flags, bytes, len, &out) == VBSON_OK && out.len == strlen(wanted)
+    int is_right = vbson_decode(mode, with(fields), bytes, len, &out) == VBSON_OK && out.len == strlen(wanted)
         && out.size == out.len + 1 && memcmp(out.bytes, wanted, out.size) == 0;
     vbson_buffer_free(&out);
     return is_right && vbson_is_document(bytes, len) == VBSON_OK;
@@ -323,9 +323,9 @@ static int is_kept(const vbson_buffer *out) {
     return out->bytes == kept && out->size == 7 && out->len == 6;
 }
 
-static int refuses_bytes(uint32_t mode, uint32_t flags, const uint8_t *bytes, size_t len, uint32_t status) {
+static int refuses_bytes(uint32_t mode, uint32_t fields, const uint8_t *bytes, size_t len, uint32_t status) {
     vbson_buffer out = {kept, 7, 6};
-    return vbson_decode(mode, flags, bytes, len, &out) == status && is_kept(&out);
+    return vbson_decode(mode, with(fields), bytes, len, &out) == status && is_kept(&out);
 }
 
 /* Whether the buffer has the text, with a NUL in a block of its own. */
@@ -334,10 +334,10 @@ static int has(const vbson_buffer *it, const char *wanted) {
 }
 
 /* Whether the bytes are explained by the code and the message, and by the parts of which it is made. */
-static int explains_bytes(uint32_t flags, const uint8_t *bytes, size_t len, uint32_t code, const char *wanted) {
+static int explains_bytes(uint32_t fields, const uint8_t *bytes, size_t len, uint32_t code, const char *wanted) {
     vbson_error out = VBSON_ERROR_INIT;
     char message[200] = "";
-    int is_right = vbson_explain_document(flags, bytes, len, &out) == VBSON_OK && out.code == code && has(&out.message, wanted)
+    int is_right = vbson_explain_document(with(fields), bytes, len, &out) == VBSON_OK && out.code == code && has(&out.message, wanted)
         && out.line == 0 && out.column == 0 && out.path.len == 5 && vbson_is_document(out.path.bytes, 5) == VBSON_OK;
     if (code == VBSON_NOT_A_DOCUMENT) snprintf(message, sizeof message, "not a document at byte %zu (%s)", out.offset, vbson_chars(&out.reason));
     if (code == VBSON_NOT_REPRESENTABLE) snprintf(message, sizeof message, "not representable (%s)", vbson_chars(&out.reason));
@@ -351,15 +351,15 @@ static void decode(void) {
     CHECK(decodes(VBSON_CANONICAL, 0, five, sizeof five, "{\"a\":{\"$numberInt\":\"5\"}}"));
     CHECK(decodes(VBSON_RELAXED, 0, five, sizeof five, "{\"a\":5}"));
     CHECK(decodes(VBSON_SHOW, 0, five, sizeof five, "{ \"a\": 5 }"));
-    CHECK(decodes(VBSON_RELAXED, VBSON_DOUBLES, pair, sizeof pair, "{\"a\":1.5,\"b\":5}"));
+    CHECK(decodes(VBSON_RELAXED, FINITE, pair, sizeof pair, "{\"a\":1.5,\"b\":5}"));
     CHECK(decodes(VBSON_SHOW, 0, pair, sizeof pair, "{ \"b\": 5, \"a\": Double(0x3ff8000000000000) }"));
     CHECK(decodes(VBSON_CANONICAL, 0, (const uint8_t *)"\5\0\0\0", 5, "{}"));
     CHECK(refuses_bytes(VBSON_RELAXED, 0, pair, sizeof pair, VBSON_NOT_REPRESENTABLE));
     CHECK(refuses_bytes(VBSON_CANONICAL, 0, pair, sizeof pair, VBSON_NOT_REPRESENTABLE));
     CHECK(refuses_bytes(3, 0, five, sizeof five, VBSON_INVALID_ARGUMENT));
-    CHECK(decodes(VBSON_RELAXED, VBSON_DOUBLES | VBSON_KEEP_ORDER, pair, sizeof pair, "{\"b\":5,\"a\":1.5}"));
-    CHECK(decodes(VBSON_SHOW, VBSON_KEEP_ORDER, pair, sizeof pair, "{ \"b\": 5, \"a\": Double(0x3ff8000000000000) }"));
-    CHECK(refuses_bytes(VBSON_RELAXED, VBSON_KEEP_ORDER, pair, sizeof pair, VBSON_NOT_REPRESENTABLE));
+    CHECK(decodes(VBSON_RELAXED, FINITE | AS_GIVEN, pair, sizeof pair, "{\"b\":5,\"a\":1.5}"));
+    CHECK(decodes(VBSON_SHOW, AS_GIVEN, pair, sizeof pair, "{ \"b\": 5, \"a\": Double(0x3ff8000000000000) }"));
+    CHECK(refuses_bytes(VBSON_RELAXED, AS_GIVEN, pair, sizeof pair, VBSON_NOT_REPRESENTABLE));
     CHECK(refuses_bytes(VBSON_RELAXED, 4, five, sizeof five, VBSON_INVALID_ARGUMENT));
     CHECK(refuses_bytes(UINT32_MAX, UINT32_MAX, five, 0, VBSON_INVALID_ARGUMENT));
     for (size_t len = 0; len < sizeof five; len++) {
@@ -384,41 +384,41 @@ static void explain_document(void) {
     }
     CHECK(explains_bytes(0, truth_of_two, sizeof truth_of_two, VBSON_NOT_A_DOCUMENT, "not a document at byte 7 (a boolean is neither 0 nor 1)"));
     CHECK(explains_bytes(0, five, sizeof five, VBSON_OK, "") && explains_bytes(15, five, sizeof five, VBSON_OK, ""));
-    CHECK(explains_bytes(VBSON_DOUBLES, pair, sizeof pair, VBSON_OK, ""));
-    CHECK(explains_bytes(VBSON_KEEP_ORDER | VBSON_LEGACY, pair, sizeof pair, VBSON_NOT_REPRESENTABLE, "not representable (a finite double)"));
+    CHECK(explains_bytes(FINITE, pair, sizeof pair, VBSON_OK, ""));
+    CHECK(explains_bytes(AS_GIVEN | V1, pair, sizeof pair, VBSON_NOT_REPRESENTABLE, "not representable (a finite double)"));
     static const uint8_t twice[] = {0x13, 0, 0, 0, 0x10, 'b', 0, 5, 0, 0, 0, 0x10, 'b', 0, 6, 0, 0, 0, 0};
-    CHECK(explains_bytes(VBSON_DOUBLES, twice, sizeof twice, VBSON_OK, ""));
-    CHECK(explains_bytes(VBSON_REJECT_DUPLICATE_KEYS, twice, sizeof twice, VBSON_NOT_A_DOCUMENT, "not a document at byte 12 (duplicate key)"));
+    CHECK(explains_bytes(FINITE, twice, sizeof twice, VBSON_OK, ""));
+    CHECK(explains_bytes(DISTINCT, twice, sizeof twice, VBSON_NOT_A_DOCUMENT, "not a document at byte 12 (duplicate key)"));
     const vbson_error was = {77, 7, 8, 9, {kept, 7, 6}, {kept, 6, 5}, {kept, 5, 4}};
     vbson_error out = was;
-    CHECK(vbson_explain_document(16, BYTES(five), &out) == VBSON_INVALID_ARGUMENT && memcmp(&out, &was, sizeof out) == 0);
-    CHECK(vbson_explain_document(UINT32_MAX, five, 0, &out) == VBSON_INVALID_ARGUMENT && memcmp(&out, &was, sizeof out) == 0);
+    CHECK(vbson_explain_document(with(16), BYTES(five), &out) == VBSON_INVALID_ARGUMENT && memcmp(&out, &was, sizeof out) == 0);
+    CHECK(vbson_explain_document(with(UINT32_MAX), five, 0, &out) == VBSON_INVALID_ARGUMENT && memcmp(&out, &was, sizeof out) == 0);
 }
 
-static int encodes(uint32_t flags, const char *text, const uint8_t *wanted, size_t len) {
+static int encodes(uint32_t fields, const char *text, const uint8_t *wanted, size_t len) {
     vbson_buffer out = VBSON_BUFFER_INIT;
-    int is_right = vbson_encode(flags, TEXT(text), &out) == VBSON_OK && out.len == len && out.size == len + 1
+    int is_right = vbson_encode(with(fields), TEXT(text), &out) == VBSON_OK && out.len == len && out.size == len + 1
         && memcmp(out.bytes, wanted, len) == 0 && out.bytes[len] == 0;
     vbson_buffer_free(&out);
     return is_right;
 }
 
-static int refuses_text(uint32_t flags, const char *text, uint32_t status) {
+static int refuses_text(uint32_t fields, const char *text, uint32_t status) {
     vbson_buffer out = {kept, 7, 6};
-    return vbson_encode(flags, TEXT(text), &out) == status && is_kept(&out);
+    return vbson_encode(with(fields), TEXT(text), &out) == status && is_kept(&out);
 }
 
 static void encode(void) {
     static const uint8_t sorted[] = {0x17, 0, 0, 0, 1, 'a', 0, 0, 0, 0, 0, 0, 0, 0xf8, 0x3f, 0x10, 'b', 0, 5, 0, 0, 0, 0};
     CHECK(encodes(0, "{\"a\":5}", five, sizeof five));
     CHECK(encodes(0, "{\"a\":7,\"a\":{\"$numberInt\":\"5\"}}", five, sizeof five));
-    CHECK(encodes(VBSON_DOUBLES, "{\"b\":5,\"a\":1.5}", sorted, sizeof sorted));
+    CHECK(encodes(FINITE, "{\"b\":5,\"a\":1.5}", sorted, sizeof sorted));
     CHECK(encodes(0, "{}", (const uint8_t *)"\5\0\0\0", 5));
-    CHECK(encodes(VBSON_DOUBLES | VBSON_KEEP_ORDER, "{\"b\":5,\"a\":1.5}", pair, sizeof pair));
-    CHECK(encodes(VBSON_KEEP_ORDER, "{\"a\":7,\"a\":{\"$numberInt\":\"5\"}}", five, sizeof five));
-    CHECK(refuses_text(VBSON_KEEP_ORDER, "{\"b\":5,\"a\":1.5}", VBSON_NOT_EXTENDED_JSON));
-    CHECK(refuses_text(VBSON_KEEP_ORDER, "[{}]", VBSON_NOT_A_DOCUMENT));
-    CHECK(refuses_text(VBSON_KEEP_ORDER, "{\"b\\u0000\":1,\"a\":{\"$regularExpression\":{\"pattern\":\"\\u0000\",\"options\":\"\"}}}", VBSON_ZERO_IN_KEY));
+    CHECK(encodes(FINITE | AS_GIVEN, "{\"b\":5,\"a\":1.5}", pair, sizeof pair));
+    CHECK(encodes(AS_GIVEN, "{\"a\":7,\"a\":{\"$numberInt\":\"5\"}}", five, sizeof five));
+    CHECK(refuses_text(AS_GIVEN, "{\"b\":5,\"a\":1.5}", VBSON_NOT_EXTENDED_JSON));
+    CHECK(refuses_text(AS_GIVEN, "[{}]", VBSON_NOT_A_DOCUMENT));
+    CHECK(refuses_text(AS_GIVEN, "{\"b\\u0000\":1,\"a\":{\"$regularExpression\":{\"pattern\":\"\\u0000\",\"options\":\"\"}}}", VBSON_ZERO_IN_KEY));
     CHECK(refuses_text(4, "{}", VBSON_INVALID_ARGUMENT));
     CHECK(refuses_text(UINT32_MAX, "!", VBSON_INVALID_ARGUMENT));
     CHECK(refuses_text(0, "{", VBSON_NOT_JSON));
@@ -437,7 +437,7 @@ static void damaged(void) {
         "\"f\":{\"$regularExpression\":{\"pattern\":\"a\",\"options\":\"xi\"}},\"g\":{\"$symbol\":\"s\"},"
         "\"h\":{\"$dbPointer\":{\"$ref\":\"n\",\"$id\":{\"$oid\":\"53e37d08776f724e42000000\"}}},\"i\":{\"$minKey\":1}}";
     vbson_buffer whole = VBSON_BUFFER_INIT;
-    CHECK(vbson_encode(0, TEXT(text), &whole) == VBSON_OK && whole.len > 100);
+    CHECK(vbson_encode(NULL, TEXT(text), &whole) == VBSON_OK && whole.len > 100);
     size_t others = 0;
     for (size_t bit = 0; bit < 9 * whole.len; bit++) {
         /* (a block of its own, so that the sanitizer tells a byte past the end) */
@@ -448,8 +448,8 @@ static void damaged(void) {
         bytes = realloc(bytes, len > 0 ? len : 1);
         vbson_error error = VBSON_ERROR_INIT;
         vbson_buffer shown = VBSON_BUFFER_INIT;
-        uint32_t is_one = vbson_is_document(bytes, len), status = vbson_decode(VBSON_SHOW, 0, bytes, len, &shown);
-        CHECK(vbson_explain_document(VBSON_DOUBLES, bytes, len, &error) == VBSON_OK && error.code == is_one && error.offset <= len);
+        uint32_t is_one = vbson_is_document(bytes, len), status = vbson_decode(VBSON_SHOW, NULL, bytes, len, &shown);
+        CHECK(vbson_explain_document(with(FINITE), bytes, len, &error) == VBSON_OK && error.code == is_one && error.offset <= len);
         CHECK(status == is_one && (is_one == VBSON_OK || is_one == VBSON_NOT_A_DOCUMENT));
         others += is_one == VBSON_NOT_A_DOCUMENT;
         vbson_error_free(&error);
@@ -549,38 +549,97 @@ static void same_documents(void) {
     static const uint8_t sorted[] = {0x17, 0, 0, 0, 1, 'a', 0, 0, 0, 0, 0, 0, 0, 0xf8, 0x3f, 0x10, 'b', 0, 5, 0, 0, 0, 0};
     static const uint8_t twice[] = {0x13, 0, 0, 0, 0x10, 'b', 0, 5, 0, 0, 0, 0x10, 'b', 0, 5, 0, 0, 0, 0};
     static const uint8_t empty[] = {5, 0, 0, 0, 0};
-    uint32_t all = VBSON_DOUBLES | VBSON_REJECT_DUPLICATE_KEYS | VBSON_LEGACY, strict = VBSON_REJECT_DUPLICATE_KEYS;
+    uint32_t all = FINITE | DISTINCT | V1, strict = DISTINCT;
     uint64_t number = 0;
-    for (uint32_t flags = 0; flags < 17; flags++) {
-        int is_none = flags > 15 || (flags & VBSON_KEEP_ORDER) != 0;
-        CHECK(vbson_same_documents(flags, BYTES(pair), BYTES(sorted)) == (is_none ? VBSON_INVALID_ARGUMENT : VBSON_OK));
-        CHECK(vbson_same_documents(flags, BYTES(pair), BYTES(empty)) == (is_none ? VBSON_INVALID_ARGUMENT : VBSON_DIFFERENT));
+    for (uint32_t fields = 0; fields < 17; fields++) {
+        int is_none = fields > 15 || (fields & AS_GIVEN) != 0;
+        CHECK(vbson_same_documents(with(fields), BYTES(pair), BYTES(sorted)) == (is_none ? VBSON_INVALID_ARGUMENT : VBSON_OK));
+        CHECK(vbson_same_documents(with(fields), BYTES(pair), BYTES(empty)) == (is_none ? VBSON_INVALID_ARGUMENT : VBSON_DIFFERENT));
         number = 7;
-        CHECK(vbson_hash_document(flags, BYTES(sorted), &number) == (is_none ? VBSON_INVALID_ARGUMENT : VBSON_OK));
-        CHECK(number == (is_none ? 7 : hash_by(VBSON_DOUBLES, "{\"b\":5,\"a\":1.5}")));
+        CHECK(vbson_hash_document(with(fields), BYTES(sorted), &number) == (is_none ? VBSON_INVALID_ARGUMENT : VBSON_OK));
+        CHECK(number == (is_none ? 7 : hash_by(FINITE, "{\"b\":5,\"a\":1.5}")));
     }
-    CHECK(vbson_same_documents(0, BYTES(twice), BYTES(twice)) == VBSON_OK);
-    CHECK(vbson_same_documents(strict, BYTES(twice), BYTES(empty)) == VBSON_NOT_A_DOCUMENT);
-    CHECK(vbson_same_documents(all, BYTES(empty), BYTES(twice)) == VBSON_NOT_A_DOCUMENT);
-    CHECK(vbson_same_documents(0, pair, 4, BYTES(pair)) == VBSON_NOT_A_DOCUMENT && vbson_same_documents(0, BYTES(pair), pair, 4) == VBSON_NOT_A_DOCUMENT);
-    CHECK(vbson_same_documents(0, TEXT("{}"), TEXT("{}")) == VBSON_NOT_A_DOCUMENT);
-    CHECK(vbson_hash_document(0, BYTES(twice), &number) == VBSON_OK && number == hash_of("{\"b\":5}"));
+    CHECK(vbson_same_documents(NULL, BYTES(twice), BYTES(twice)) == VBSON_OK);
+    CHECK(vbson_same_documents(with(strict), BYTES(twice), BYTES(empty)) == VBSON_NOT_A_DOCUMENT);
+    CHECK(vbson_same_documents(with(all), BYTES(empty), BYTES(twice)) == VBSON_NOT_A_DOCUMENT);
+    CHECK(vbson_same_documents(NULL, pair, 4, BYTES(pair)) == VBSON_NOT_A_DOCUMENT && vbson_same_documents(NULL, BYTES(pair), pair, 4) == VBSON_NOT_A_DOCUMENT);
+    CHECK(vbson_same_documents(NULL, TEXT("{}"), TEXT("{}")) == VBSON_NOT_A_DOCUMENT);
+    CHECK(vbson_hash_document(NULL, BYTES(twice), &number) == VBSON_OK && number == hash_of("{\"b\":5}"));
     number = 7;
-    CHECK(vbson_hash_document(strict, BYTES(twice), &number) == VBSON_NOT_A_DOCUMENT && number == 7);
-    CHECK(vbson_hash_document(0, TEXT("{}"), &number) == VBSON_NOT_A_DOCUMENT && number == 7);
-    CHECK(vbson_hash_document(0, BYTES(empty), &number) == VBSON_OK && number == hash_of("{}"));
+    CHECK(vbson_hash_document(with(strict), BYTES(twice), &number) == VBSON_NOT_A_DOCUMENT && number == 7);
+    CHECK(vbson_hash_document(NULL, TEXT("{}"), &number) == VBSON_NOT_A_DOCUMENT && number == 7);
+    CHECK(vbson_hash_document(NULL, BYTES(empty), &number) == VBSON_OK && number == hash_of("{}"));
+}
+
+/* ---- options */
+
+enum { WRITES = 1, READS = 2, EXPLAINS = 4, MIXED = 8 };
+
+/* The kind, or MIXED, if some of these calls reject the options and leave everything as it was, and others don't. */
+static int all_of(int kind, const uint32_t *statuses, int count, int is_kept) {
+    int rejected = 0;
+    for (int i = 0; i < count; i++) rejected += statuses[i] == VBSON_INVALID_ARGUMENT;
+    return rejected == 0 ? 0 : rejected == count && is_kept ? kind : MIXED;
+}
+
+/* The kinds of the calls that reject the options. */
+static int rejecting(const vbson_options *it) {
+    vbson_buffer out[] = {{kept, 7, 6}, {kept, 7, 6}, {kept, 7, 6}};
+    vbson_lines lines[] = {{{kept, 7, 6}, {kept, 7, 6}, 3, 4}, {{kept, 7, 6}, {kept, 7, 6}, 3, 4}};
+    vbson_documents documents = {{kept, 7, 6}, {kept, 7, 6}, 3, 4};
+    vbson_error errors[] = {{77, 7, 8, 9, {kept, 7, 6}, {kept, 7, 6}, {kept, 7, 6}}, {77, 7, 8, 9, {kept, 7, 6}, {kept, 7, 6}, {kept, 7, 6}}};
+    uint64_t numbers[] = {7, 7};
+    uint32_t writes[] = {vbson_convert(VBSON_RELAXED, it, TEXT("{}"), &out[0]), vbson_encode(it, TEXT("{}"), &out[1]),
+        vbson_decode(VBSON_RELAXED, it, BYTES(five), &out[2]), vbson_convert_lines(VBSON_RELAXED, it, TEXT("{}"), &lines[0]),
+        vbson_encode_lines(it, TEXT("{}"), &lines[1]), vbson_decode_documents(VBSON_RELAXED, it, BYTES(five), &documents)};
+    uint32_t reads[] = {vbson_same(it, TEXT("1"), TEXT("1")), vbson_hash(it, TEXT("1"), &numbers[0]),
+        vbson_same_documents(it, BYTES(five), BYTES(five)), vbson_hash_document(it, BYTES(five), &numbers[1])};
+    uint32_t explains[] = {vbson_explain(it, TEXT("{}"), &errors[0]), vbson_explain_document(it, BYTES(five), &errors[1])};
+    int is_kept_by_writes = is_kept(&out[0]) && is_kept(&out[1]) && is_kept(&out[2]) && is_kept(&lines[0].text) && is_kept(&lines[1].text)
+        && is_kept(&documents.text) && lines[0].lines == 3 && lines[1].refused == 4 && documents.consumed == 4;
+    int found = all_of(WRITES, writes, 6, is_kept_by_writes) | all_of(READS, reads, 4, numbers[0] == 7 && numbers[1] == 7)
+        | all_of(EXPLAINS, explains, 2, is_kept(&errors[0].path) && is_kept(&errors[1].message) && errors[0].code == 77);
+    vbson_buffer *const texts[] = {&out[0], &out[1], &out[2], &lines[0].text, &lines[0].diagnostics, &lines[1].text, &lines[1].diagnostics,
+        &documents.text, &documents.diagnostics, &errors[0].path, &errors[0].reason, &errors[0].message, &errors[1].path, &errors[1].reason,
+        &errors[1].message};
+    for (size_t i = 0; i < sizeof texts / sizeof *texts; i++)
+        if (!is_kept(texts[i])) vbson_buffer_free(texts[i]);
+    return found;
+}
+
+static void options(void) {
+    const vbson_options specified = VBSON_OPTIONS_INIT, mongodb = vbson_options_mongodb();
+    CHECK(rejecting(NULL) == 0 && rejecting(&specified) == 0 && rejecting(&mongodb) == READS);
+    CHECK(mongodb.doubles == VBSON_DOUBLES_FINITE && mongodb.key_order == VBSON_KEYS_AS_GIVEN && mongodb.duplicate_keys == 0 && mongodb.v1 == 0);
+    for (uint32_t fields = 0; fields < 16; fields++) {
+        int wanted = ((fields & (DISTINCT | V1)) != 0 ? WRITES : 0) | ((fields & AS_GIVEN) != 0 ? READS : 0);
+        CHECK(rejecting(with(fields)) == wanted);
+    }
+    static const size_t sizes[] = {0, 1, 8, sizeof specified - 1, sizeof specified + 1, 2 * sizeof specified, SIZE_MAX};
+    for (size_t i = 0; i < sizeof sizes / sizeof *sizes; i++) {
+        vbson_options it = mongodb;
+        it.size = sizes[i];
+        CHECK(rejecting(&it) == (WRITES | READS | EXPLAINS));
+    }
+    static const uint32_t values[] = {2, 3, 256, 1u << 31, UINT32_MAX};
+    for (size_t i = 0; i < 4 * sizeof values / sizeof *values; i++) {
+        vbson_options it = VBSON_OPTIONS_INIT;
+        uint32_t *const fields[] = {&it.doubles, &it.key_order, &it.duplicate_keys, &it.v1};
+        *fields[i % 4] = values[i / 4];
+        CHECK(rejecting(&it) == (WRITES | READS | EXPLAINS));
+    }
 }
 
 int main(void) {
     CHECK(vbson_version() == VBSON_VERSION);
     convert();
     convert_refused();
-    convert_with();
+    convert_options();
     keep_order();
     explain();
     errors();
     same();
-    same_by_flags();
+    same_by_options();
     hash();
     same_documents();
     decode();
@@ -590,6 +649,7 @@ int main(void) {
     decimals();
     object_ids();
     moments();
+    options();
     CHECK(strcmp(vbson_status_text(VBSON_BUFFER_TOO_SMALL), "buffer too small") == 0);
     return end();
 }

@@ -7,6 +7,8 @@
 static const char *const calls[] = {"canonical ", "relaxed ", "show ", "encode ", "explain ", "is "};
 enum { CALLS = sizeof calls / sizeof *calls, NOT_UNDERSTOOD = 1000 };
 
+static const vbson_options finite = {sizeof(vbson_options), VBSON_DOUBLES_FINITE, 0, 0, 0};
+
 static unsigned digit(char c) { return (unsigned)(c <= '9' ? c - '0' : c - 'a' + 10); }
 
 /* Writes the bytes of the digits into a block of exactly so many. */
@@ -20,7 +22,7 @@ static uint8_t *bytes_of(const char *digits, size_t *len) {
 /* Leaves the message. */
 static uint32_t explain(const uint8_t *bytes, size_t len, vbson_buffer *out) {
     vbson_error error = VBSON_ERROR_INIT;
-    uint32_t status = vbson_explain_document(VBSON_DOUBLES, bytes, len, &error);
+    uint32_t status = vbson_explain_document(&finite, bytes, len, &error);
     *out = error.message;
     error.message = (vbson_buffer)VBSON_BUFFER_INIT;
     vbson_error_free(&error);
@@ -28,8 +30,8 @@ static uint32_t explain(const uint8_t *bytes, size_t len, vbson_buffer *out) {
 }
 
 static uint32_t answer(int call, const uint8_t *bytes, size_t len, vbson_buffer *out) {
-    if (call < 3) return vbson_decode((uint32_t)call, VBSON_DOUBLES, bytes, len, out);
-    if (call == 3) return vbson_encode(VBSON_DOUBLES, bytes, len, out);
+    if (call < 3) return vbson_decode((uint32_t)call, &finite, bytes, len, out);
+    if (call == 3) return vbson_encode(&finite, bytes, len, out);
     if (call == 4) return explain(bytes, len, out);
     return call == 5 ? vbson_is_document(bytes, len) : NOT_UNDERSTOOD;
 }

@@ -67,12 +67,12 @@ static vbson_buffer document;
 
 static void find_document(const char *text) {
     vbson_buffer_free(&document);
-    if (vbson_encode(0, TEXT(text), &document) != VBSON_OK) document = (vbson_buffer){(const uint8_t *)text, 0, strlen(text)};
+    if (vbson_encode(NULL, TEXT(text), &document) != VBSON_OK) document = (vbson_buffer){(const uint8_t *)text, 0, strlen(text)};
 }
 
-static uint32_t convert_lines(uint32_t flags, const char *text, struct answer *it) {
+static uint32_t convert_lines(uint32_t fields, const char *text, struct answer *it) {
     vbson_lines out = {it->text, it->diagnostics, it->number, it->number};
-    uint32_t status = vbson_convert_lines(VBSON_RELAXED, flags, TEXT(text), &out);
+    uint32_t status = vbson_convert_lines(VBSON_RELAXED, with(fields), TEXT(text), &out);
     it->text = out.text, it->diagnostics = out.diagnostics;
     it->number = 100 * (out.lines - 42) + out.refused;
     return status;
@@ -80,10 +80,10 @@ static uint32_t convert_lines(uint32_t flags, const char *text, struct answer *i
 
 /* The message as the text, the reason as the diagnostics, and the numbers and the path as the number; of the document if there
  * is no text. */
-static uint32_t explain(uint32_t flags, const char *text, struct answer *it) {
+static uint32_t explain(uint32_t fields, const char *text, struct answer *it) {
     vbson_error out = {42, it->number, it->number, it->number, it->text, it->diagnostics, it->text};
-    uint32_t status = text != NULL ? vbson_explain(flags, TEXT(text), &out)
-                                   : vbson_explain_document(flags, document.bytes, document.len, &out);
+    uint32_t status = text != NULL ? vbson_explain(with(fields), TEXT(text), &out)
+                                   : vbson_explain_document(with(fields), document.bytes, document.len, &out);
     it->diagnostics = out.reason, it->text = out.message;
     if (status == VBSON_OK) {
         it->number = 1000 * out.path.len + 100 * out.offset + 10 * out.column + out.line + out.code;
@@ -92,22 +92,22 @@ static uint32_t explain(uint32_t flags, const char *text, struct answer *it) {
     return status;
 }
 
-static uint32_t encode_lines(uint32_t flags, const char *text, struct answer *it) {
+static uint32_t encode_lines(uint32_t fields, const char *text, struct answer *it) {
     vbson_lines out = {it->text, it->diagnostics, it->number, it->number};
-    uint32_t status = vbson_encode_lines(flags, TEXT(text), &out);
+    uint32_t status = vbson_encode_lines(with(fields), TEXT(text), &out);
     it->text = out.text, it->diagnostics = out.diagnostics;
     it->number = 100 * (out.lines - 42) + out.refused;
     return status;
 }
 
 /* The document twice, which has no length where the text means none. */
-static uint32_t decode_documents(uint32_t flags, struct answer *it) {
+static uint32_t decode_documents(uint32_t fields, struct answer *it) {
     static uint8_t twice[1 << 16];
     size_t len = document.len < sizeof twice / 2 ? document.len : sizeof twice / 2;
     memcpy(twice, document.bytes, len);
     memcpy(twice + len, document.bytes, len);
     vbson_documents out = {it->text, it->diagnostics, it->number, it->number};
-    uint32_t status = vbson_decode_documents(VBSON_RELAXED, flags, twice, 2 * len, &out);
+    uint32_t status = vbson_decode_documents(VBSON_RELAXED, with(fields), twice, 2 * len, &out);
     it->text = out.text, it->diagnostics = out.diagnostics;
     it->number = 100 * (out.documents - 42) + out.consumed;
     return status;
@@ -118,27 +118,27 @@ static struct answer call(int kind, const char *text, long number) {
     struct answer it = nothing();
     requests = live = 0;
     refused = number;
-    if (kind < 3) it.status = vbson_convert((uint32_t)kind, TEXT(text), &it.text);
-    else if (kind == 3) it.status = vbson_same(0, TEXT(text), TEXT(texts[0]));
-    else if (kind == 4) it.status = vbson_hash(0, TEXT(text), &it.number);
+    if (kind < 3) it.status = vbson_convert((uint32_t)kind, NULL, TEXT(text), &it.text);
+    else if (kind == 3) it.status = vbson_same(NULL, TEXT(text), TEXT(texts[0]));
+    else if (kind == 4) it.status = vbson_hash(NULL, TEXT(text), &it.number);
     else if (kind == 5) it.status = vbson_decimal128_print(decimal, it.room, sizeof it.room, &it.len);
     else if (kind == 6) it.status = vbson_date_time_print(-1, it.room, sizeof it.room, &it.len);
-    else if (kind == 7) it.status = vbson_convert_with(VBSON_RELAXED, VBSON_DOUBLES, TEXT(text), &it.text);
-    else if (kind < 10) it.status = explain(kind == 8 ? 0 : VBSON_DOUBLES, text, &it);
-    else if (kind == 10) it.status = vbson_encode(0, TEXT(text), &it.text);
+    else if (kind == 7) it.status = vbson_convert(VBSON_RELAXED, with(FINITE), TEXT(text), &it.text);
+    else if (kind < 10) it.status = explain(kind == 8 ? 0 : FINITE, text, &it);
+    else if (kind == 10) it.status = vbson_encode(NULL, TEXT(text), &it.text);
     else if (kind == 11) it.status = explain(0, NULL, &it);
-    else if (kind < 15) it.status = vbson_decode((uint32_t)kind - 12, 0, document.bytes, document.len, &it.text);
-    else if (kind < 17) it.status = convert_lines(kind == 15 ? 0 : VBSON_KEEP_ORDER, text, &it);
-    else if (kind == 17) it.status = vbson_convert_with(VBSON_CANONICAL, VBSON_KEEP_ORDER, TEXT(text), &it.text);
-    else if (kind == 18) it.status = vbson_encode(VBSON_DOUBLES | VBSON_KEEP_ORDER, TEXT(text), &it.text);
-    else if (kind == 19) it.status = vbson_decode(VBSON_RELAXED, VBSON_DOUBLES | VBSON_KEEP_ORDER, document.bytes, document.len, &it.text);
-    else if (kind < 22) it.status = encode_lines(kind == 20 ? 0 : VBSON_DOUBLES | VBSON_KEEP_ORDER, text, &it);
-    else if (kind < 24) it.status = decode_documents(kind == 22 ? 0 : VBSON_DOUBLES | VBSON_KEEP_ORDER, &it);
-    else if (kind == 24) it.status = vbson_same(VBSON_DOUBLES | VBSON_REJECT_DUPLICATE_KEYS, TEXT(text), TEXT(texts[0]));
-    else if (kind == 25) it.status = vbson_hash(VBSON_REJECT_DUPLICATE_KEYS | VBSON_LEGACY, TEXT(text), &it.number);
-    else if (kind < 28) it.status = explain(kind == 26 ? VBSON_LEGACY : VBSON_REJECT_DUPLICATE_KEYS, text, &it);
-    else if (kind == 28) it.status = vbson_same_documents(VBSON_REJECT_DUPLICATE_KEYS, document.bytes, document.len, document.bytes, document.len);
-    else it.status = vbson_hash_document(0, document.bytes, document.len, &it.number);
+    else if (kind < 15) it.status = vbson_decode((uint32_t)kind - 12, NULL, document.bytes, document.len, &it.text);
+    else if (kind < 17) it.status = convert_lines(kind == 15 ? 0 : AS_GIVEN, text, &it);
+    else if (kind == 17) it.status = vbson_convert(VBSON_CANONICAL, with(AS_GIVEN), TEXT(text), &it.text);
+    else if (kind == 18) it.status = vbson_encode(with(FINITE | AS_GIVEN), TEXT(text), &it.text);
+    else if (kind == 19) it.status = vbson_decode(VBSON_RELAXED, with(FINITE | AS_GIVEN), document.bytes, document.len, &it.text);
+    else if (kind < 22) it.status = encode_lines(kind == 20 ? 0 : FINITE | AS_GIVEN, text, &it);
+    else if (kind < 24) it.status = decode_documents(kind == 22 ? 0 : FINITE | AS_GIVEN, &it);
+    else if (kind == 24) it.status = vbson_same(with(FINITE | DISTINCT), TEXT(text), TEXT(texts[0]));
+    else if (kind == 25) it.status = vbson_hash(with(DISTINCT | V1), TEXT(text), &it.number);
+    else if (kind < 28) it.status = explain(kind == 26 ? V1 : DISTINCT, text, &it);
+    else if (kind == 28) it.status = vbson_same_documents(with(DISTINCT), document.bytes, document.len, document.bytes, document.len);
+    else it.status = vbson_hash_document(NULL, document.bytes, document.len, &it.number);
     refused = 0;
     return it;
 }

@@ -1,5 +1,6 @@
 """Holds languages/c/vbson.h and the wrappers to the sources of crates/vbson: the calls with their types, the statuses
-with their numbers, which statuses each call answers, the modes, the flags, the greatest lengths, the buffer's fields, and the version."""
+with their numbers, which statuses each call answers, the modes, the options, the greatest lengths, the buffer's fields, and the
+version."""
 import re
 import subprocess
 from pathlib import Path
@@ -12,7 +13,7 @@ PACKAGE = LANGUAGES / "python/vbson"
 NUMBERS = {"u32": "uint32_t", "i32": "int32_t", "i64": "int64_t", "u64": "uint64_t", "usize": "size_t"}
 STRUCTS = {"Text<'static>": "vbson_buffer", "Lines<'static>": "vbson_lines", "Documents<'static>": "vbson_documents",
            "Rejection<'static>": "vbson_error", "Slice<'a>": "vbson_slice", "RawValue<'a>": "vbson_raw_value",
-           "RawValue<'_>": "vbson_raw_value", "Builder<'_>": "vbson_builder"}
+           "RawValue<'_>": "vbson_raw_value", "Builder<'_>": "vbson_builder", "CallOptions": "vbson_options"}
 EXPORT = re.compile(
     r'#\[unsafe\(no_mangle\)\]\npub (?:unsafe )?extern "C" fn (\w+)(?:<.a>)?\(([^)]*)\) -> (\w+)\n(.*?)\n\{\n', re.S)
 
@@ -57,7 +58,8 @@ def of_rust(name, kind):
     found = re.fullmatch(r"\*(const|mut) (?:\[u8; (\d+)\]|(\w+))", kind)
     const = "const " if found[1] == "const" else ""
     kinds = {"u8": "uint8_t", "RawText": "vbson_buffer", "RawLines": "vbson_lines", "RawDocuments": "vbson_documents",
-             "RawError": "vbson_error", "RawSlice": "vbson_slice", "RawValue": "vbson_raw_value", "RawBuilder": "vbson_builder", **NUMBERS}
+             "RawError": "vbson_error", "RawSlice": "vbson_slice", "RawValue": "vbson_raw_value", "RawBuilder": "vbson_builder",
+             "RawOptions": "vbson_options", **NUMBERS}
     if found[2]:
         return f"{const}uint8_t {name}[{found[2]}]"
     return f"{const}{kinds[found[3]]} *{name}"
@@ -77,17 +79,37 @@ def without_inline(text):
     return re.sub(r"static inline [^{;]*\{.*?\n\}\n", "", text, flags=re.S)
 
 
+def split(parameters):
+    """The parameters of a call in C."""
+    return [] if parameters == "void" else [" ".join(it.split()) for it in parameters.split(",")]
+
+
 def declared():
-    """Each call of the header: its parameters and result, and the statuses that the comment above it names."""
-    found = {}
-    text = without_inline(HEADER.read_text())
-    about = re.findall(r"/\*((?:(?!\*/).)*)\*/\n(\w+) (vbson_\w+)\(([^)]*)\);", text, flags=re.S)
-    for comment, result, name, parameters in about:
-        parts = [] if parameters == "void" else [it.strip() for it in parameters.split(",")]
-        found[name] = (parts, result, set(re.findall(r"VBSON_[A-Z_]+", comment)))
+    """Each call of the header: its parameters and result, and the statuses that its comment names. That of a call with
+    options is above the inline function."""
+    text = HEADER.read_text()
+    comments = re.findall(r"/\*((?:(?!\*/).)*)\*/\n(?:static inline )?\w+ (vbson_\w+)\(", text, flags=re.S)
+    told = {name: set(re.findall(r"VBSON_[A-Z_]+", comment)) for comment, name in comments}
+    text = without_inline(text)
+    found = {name: (split(parameters), result, told.get(name.removesuffix("_nonnull"), set()))
+             for result, name, parameters in re.findall(r"(?m)^(\w+) (vbson_\w+)\(([^)]*)\);", text)}
     if text.count(");") != len(found):
         raise ValueError("vbson.h: a call is not read")
     return found
+
+
+def inline_faults():
+    """Over each call with options is an inline function with the same parameters, which replaces a null pointer."""
+    text = " ".join(HEADER.read_text().split())
+    for name, (parameters, result, _) in declared().items():
+        has_options = "const vbson_options *options" in parameters
+        yield f"the name {name}", None if has_options == name.endswith("_nonnull") else "it does not say whether options can be null"
+        if has_options:
+            names = [it.split()[-1].lstrip("*") for it in parameters]
+            passed = ", ".join("vbson_options_or_init(options)" if it == "options" else it for it in names)
+            over = name.removesuffix("_nonnull")
+            wanted = f"static inline {result} {over}({', '.join(parameters)}) {{ return {name}({passed}); }}"
+            yield f"the inline {over}", None if wanted in text else f"it is not {wanted}"
 
 
 def statuses():
@@ -96,10 +118,14 @@ def statuses():
     return {name: int(number) for name, number in found}
 
 
-def flags():
-    """The number of each flag, as the sources have it."""
-    found = re.findall(r"(?m)^pub const (\w+): u32 = (\d+);$", (SOURCES / "flags.rt").read_text())
+def option_values():
+    """The number of each value of an option that is not 0, as the sources have it."""
+    found = re.findall(r"(?m)^pub const (\w+): u32 = (\d+);$", (SOURCES / "options.rt").read_text())
     return {name: int(number) for name, number in found}
+
+
+# What stands for them in Python: a bit for each field of the struct, in their order.
+FLAGS = {"DOUBLES": 1, "KEEP_ORDER": 2, "REJECT_DUPLICATE_KEYS": 4, "LEGACY": 8}
 
 
 def answers(contract):
@@ -154,19 +180,27 @@ def status_faults():
     for names, values in re.findall(r"(?m)^([A-Z_, ]+) = ([\d, ]+)$", sources):
         kinds["Python"] |= dict(zip(names.split(", "), map(int, values.split(", "))))
     modes = {"CANONICAL": 0, "RELAXED": 1, "SHOW": 2}
-    bits = flags()
     for file, found in kinds.items():
-        found = {name: number for name, number in found.items() if name not in modes and name not in bits}
+        found = {name: number for name, number in found.items() if name not in modes and name not in FLAGS}
         yield f"the statuses of {file}", None if found == numbers else f"{found} is not {numbers}"
     for name in numbers:
         yield f"words for {name}", None if f"case VBSON_{name}: return" in text else "vbson_status_text has none"
     for name, number in modes.items():
         is_right = f"VBSON_{name} = {number}" in text and kinds["Python"].get(name) == number
         yield f"the mode {name}", None if is_right else "other numbers"
-    for name, number in bits.items():
-        is_right = f"VBSON_{name} = {number}" in text and kinds["Python"].get(name) == number
+    for name, number in option_values().items():
+        is_right = number == 1 and f"VBSON_{name} = {number}" in text
         is_right = is_right and f"\npub const {name}: u32 = {number};\n" in (LANGUAGES / "rust/src/call.rs").read_text()
-        yield f"the flag {name}", None if is_right else "other numbers"
+        yield f"the value {name}", None if is_right else "other numbers"
+    enums = re.findall(r"enum vbson_(\w+) \{\n +VBSON_(\w+) = 0, .*\n +VBSON_(\w+) = 1 .*\n\};", text)
+    fields = RAW["vbson_options"][2][1:]
+    is_right = [f"uint32_t {name}" for name, *_ in enums] == fields and [it[2] for it in enums] == [*option_values()]
+    yield "the enums of the options", None if is_right else f"{enums} is not {fields}"
+    names = re.findall(r"VBSON_\w+", re.search(r"#define VBSON_OPTIONS_INIT \{(.*?)\}", text, flags=re.S)[1])
+    yield "VBSON_OPTIONS_INIT", None if names == [f"VBSON_{it[1]}" for it in enums] else f"{names} is not {enums}"
+    has_flags = all(kinds["Python"].get(name) == number for name, number in FLAGS.items())
+    python = re.findall(r'\("(\w+)", ctypes.c_uint32\)', (PACKAGE / "_calls.py").read_text().partition("class Buffer")[0])
+    yield "the options of Python", None if has_flags and [f"uint32_t {it}" for it in python] == fields else f"{python} is not {fields}"
 
 
 def length_faults():
@@ -203,8 +237,12 @@ def block_fault(name, file, numbers):
     return None if has_fields and names == ["vbson_buffer text", "vbson_buffer diagnostics", *(f"uint64_t {it}" for it in numbers)] else f"{names}"
 
 
-# The fields of the structs of raw documents, of builders and of errors: in the sources, in the wrapper in Rust and in C.
+# The fields of the structs of options, of raw documents, of builders and of errors: in the sources, in the wrapper in Rust and in C.
 RAW = {
+    "vbson_options": tuple(
+        [f"pub struct {it} {{\n    pub size: usize,\n    pub doubles: u32,\n    pub key_order: u32,\n    pub duplicate_keys: u32,\n"
+         "    pub v1: u32,\n}" for it in ("CallOptions", "RawOptions")]
+        + [["size_t size", "uint32_t doubles", "uint32_t key_order", "uint32_t duplicate_keys", "uint32_t v1"]]),
     "vbson_slice": ("pub struct Slice<'a> {\n    pub bytes: &'a [u8],\n}",
                     "pub struct RawSlice {\n    pub bytes: *const u8,\n    pub len: usize,\n}",
                     ["const uint8_t *bytes", "size_t len"]),
@@ -252,6 +290,7 @@ def version_faults():
 def faults():
     """What was compared, and beside it what is wrong, or None."""
     yield from call_faults()
+    yield from inline_faults()
     yield from rust_faults()
     yield from status_faults()
     yield from length_faults()

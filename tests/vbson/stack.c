@@ -4,8 +4,8 @@
 #include <pthread.h>
 #include <sys/mman.h>
 
-/* Every flag of the calls that only read. */
-enum { ALL_READ = VBSON_DOUBLES | VBSON_REJECT_DUPLICATE_KEYS | VBSON_LEGACY };
+/* Every field of the calls that only read. */
+enum { ALL_READ = FINITE | DISTINCT | V1 };
 
 enum { STACK = 512 * 1024, NEEDS = 448 * 1024, LARGE_STACK = 6144 * 1024, NEEDS_IN_ORDER = 5120 * 1024 };
 
@@ -43,9 +43,9 @@ static void nest_documents(int tag, int times) {
 
 static uint32_t status;
 
-static uint32_t lines_status(uint32_t flags) {
+static uint32_t lines_status(uint32_t fields) {
     vbson_lines out = VBSON_LINES_INIT;
-    uint32_t done = vbson_convert_lines(VBSON_CANONICAL, flags, TEXT(text), &out);
+    uint32_t done = vbson_convert_lines(VBSON_CANONICAL, with(fields), TEXT(text), &out);
     vbson_buffer_free(&out.text);
     vbson_buffer_free(&out.diagnostics);
     return done;
@@ -60,7 +60,7 @@ static uint32_t appended_status(void) {
 /* The status of the call that explains the text, or the document. */
 static uint32_t explain_status(int is_of_text) {
     vbson_error out = VBSON_ERROR_INIT;
-    uint32_t done = is_of_text ? vbson_explain(0, TEXT(text), &out) : vbson_explain_document(0, document, document_len, &out);
+    uint32_t done = is_of_text ? vbson_explain(NULL, TEXT(text), &out) : vbson_explain_document(NULL, document, document_len, &out);
     vbson_error_free(&out);
     return done;
 }
@@ -69,20 +69,20 @@ static void *calls(void *kind) {
     vbson_buffer out = VBSON_BUFFER_INIT;
     uint64_t number;
     int it = *(int *)kind;
-    if (it < 3) status = vbson_convert((uint32_t)it, TEXT(text), &out);
-    else if (it == 3) status = vbson_same(ALL_READ, TEXT(text), TEXT(text));
-    else if (it == 4) status = vbson_hash(ALL_READ, TEXT(text), &number);
-    else if (it == 5) status = vbson_convert_with(VBSON_CANONICAL, VBSON_DOUBLES, TEXT(text), &out);
+    if (it < 3) status = vbson_convert((uint32_t)it, NULL, TEXT(text), &out);
+    else if (it == 3) status = vbson_same(with(ALL_READ), TEXT(text), TEXT(text));
+    else if (it == 4) status = vbson_hash(with(ALL_READ), TEXT(text), &number);
+    else if (it == 5) status = vbson_convert(VBSON_CANONICAL, with(FINITE), TEXT(text), &out);
     else if (it == 6) status = explain_status(1);
-    else if (it == 13) status = lines_status(VBSON_DOUBLES);
-    else if (it == 14) status = lines_status(VBSON_KEEP_ORDER);
-    else if (it == 15) status = vbson_convert_with(VBSON_CANONICAL, VBSON_KEEP_ORDER, TEXT(text), &out);
-    else if (it == 16) status = vbson_encode(VBSON_KEEP_ORDER, TEXT(text), &out);
-    else if (it == 17) status = vbson_decode(VBSON_CANONICAL, VBSON_KEEP_ORDER, document, document_len, &out);
-    else if (it == 18) status = vbson_same_documents(0, document, document_len, document, document_len);
-    else if (it == 19) status = vbson_hash_document(VBSON_REJECT_DUPLICATE_KEYS, document, document_len, &number);
+    else if (it == 13) status = lines_status(FINITE);
+    else if (it == 14) status = lines_status(AS_GIVEN);
+    else if (it == 15) status = vbson_convert(VBSON_CANONICAL, with(AS_GIVEN), TEXT(text), &out);
+    else if (it == 16) status = vbson_encode(with(AS_GIVEN), TEXT(text), &out);
+    else if (it == 17) status = vbson_decode(VBSON_CANONICAL, with(AS_GIVEN), document, document_len, &out);
+    else if (it == 18) status = vbson_same_documents(NULL, document, document_len, document, document_len);
+    else if (it == 19) status = vbson_hash_document(with(DISTINCT), document, document_len, &number);
     else if (it == 20) status = appended_status();
-    else if (it == 7) status = vbson_encode(0, TEXT(text), &out);
+    else if (it == 7) status = vbson_encode(NULL, TEXT(text), &out);
     else if (it == 8) status = vbson_is_document(document, document_len);
     else if (it == 9) status = explain_status(0);
     else status = vbson_decode((uint32_t)it - 10, 0, document, document_len, &out);

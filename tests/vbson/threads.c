@@ -14,10 +14,10 @@ static int round_of(int thread, int round) {
     snprintf(text, sizeof text, "{\"r\":%d,\"i\":%d}", round, thread);
     snprintf(wanted, sizeof wanted, "{\"i\":%d,\"r\":%d}", thread, round);
     vbson_buffer out = VBSON_BUFFER_INIT;
-    if (vbson_convert(VBSON_RELAXED, TEXT(text), &out) != VBSON_OK) return 0;
+    if (vbson_convert(VBSON_RELAXED, NULL, TEXT(text), &out) != VBSON_OK) return 0;
     int is_right = strcmp((const char *)out.bytes, wanted) == 0
-        && vbson_same(0, TEXT(text), out.bytes, out.len) == VBSON_OK && vbson_hash(0, TEXT(text), &one) == VBSON_OK
-        && vbson_hash(0, out.bytes, out.len, &other) == VBSON_OK && one == other;
+        && vbson_same(NULL, TEXT(text), out.bytes, out.len) == VBSON_OK && vbson_hash(NULL, TEXT(text), &one) == VBSON_OK
+        && vbson_hash(NULL, out.bytes, out.len, &other) == VBSON_OK && one == other;
     vbson_buffer_free(&out);
     vbson_builder built = {room, sizeof room, 0, 0};
     int32_t number = -1;
@@ -28,7 +28,7 @@ static int round_of(int thread, int round) {
     snprintf(printed, sizeof printed, "2020-06-01T00:42:%02d.%03dZ", round % 60, thread + 1);
     return is_right && vbson_date_time_parse(TEXT(printed), &millis) == VBSON_OK
         && vbson_date_time_print(millis, room, sizeof room, &len) == VBSON_OK && memcmp(room, printed, len) == 0
-        && vbson_same(0, TEXT(shared), TEXT(shared)) == VBSON_OK;
+        && vbson_same(NULL, TEXT(shared), TEXT(shared)) == VBSON_OK;
 }
 
 static void *work(void *number) {

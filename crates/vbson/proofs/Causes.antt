@@ -19,8 +19,8 @@ use Rattle.bson_convert.specs.declared.no_bytes.NoBytes.TheVariants.{NoDocument,
 use Rattle.vbson.specs.Convert.{HasNoMeaningIn, IsBad, IsBadId, IsCauseIn, IsOfText, status_for, status_of}
 use Rattle.vbson.specs.Convert.{status_without}
 use Rattle.vbson.specs.Documents.{HasMeaningBy, IsUnencoded, IsUnencodedBy}
-use Rattle.vbson.specs.declared.flags.KeyOrder.{KeyOrder}
-use Rattle.vbson.specs.declared.flags.KeyOrder.TheVariants.{Ascending, AsGiven}
+use Rattle.vbson.specs.declared.options.KeyOrder.{KeyOrder}
+use Rattle.vbson.specs.declared.options.KeyOrder.TheVariants.{Ascending, AsGiven}
 
 is_bad_id : (f : TreeFault) (r : Reason) → IsReason f r → status_for r ≡ 3 → IsBadId f
 is_bad_id f (BadObjectId e) h is = (h.0, h.1)

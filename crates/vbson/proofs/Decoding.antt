@@ -27,8 +27,8 @@ use Rattle.bson_model.specs.Value.{Value, Pairs, document}
 use Rattle.bson_convert.specs.declared.mode.Mode.{Mode}
 use Rattle.bson_convert.specs.declared.mode.Mode.TheVariants.{Canonical, Relaxed, Show}
 use Rattle.vbson.specs.Documents.{Decodes, HasNoTextIn, IsOneDocument, IsUndecoded, depth, direct_form, form_in, form_under}
-use Rattle.vbson.specs.declared.flags.KeyOrder.{KeyOrder}
-use Rattle.vbson.specs.declared.flags.KeyOrder.TheVariants.{Ascending, AsGiven}
+use Rattle.vbson.specs.declared.options.KeyOrder.{KeyOrder}
+use Rattle.vbson.specs.declared.options.KeyOrder.TheVariants.{Ascending, AsGiven}
 
 -- ---- bytes
 

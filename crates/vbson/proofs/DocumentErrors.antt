@@ -11,13 +11,14 @@ use Rattle.vbson.specs.Reading.{duplicate_keys_of}
 use Rattle.vbson.specs.declared.document_error.Finding.{Finding}
 use Rattle.vbson.specs.declared.document_error.Finding.TheVariants.{Nothing, Malformed, FiniteDouble}
 use Rattle.vbson.specs.declared.explain.Rejection.{Rejection}
+use Rattle.vbson.specs.declared.options.CallOptions.{CallOptions}
 
 -- what is found of the document is found of its bytes
-pub of_document : (flags : ℕ) (bytes : List ℕ) (ps : Pairs) (it : Finding)
-    → IsReadIn (duplicate_keys_of flags) depth bytes ps → IsOfDocument (options_of flags) ps it → IsFinding flags bytes it
-of_document flags bytes ps Nothing read is = record { pairs = ps; read = read; writable = is }
-of_document flags bytes ps (Malformed k n) read is = absurd is
-of_document flags bytes ps FiniteDouble read is = record { pairs = ps; read = read; unwritable = is }
+pub of_document : (options : CallOptions) (bytes : List ℕ) (ps : Pairs) (it : Finding)
+    → IsReadIn (duplicate_keys_of options) depth bytes ps → IsOfDocument (options_of options) ps it → IsFinding options bytes it
+of_document options bytes ps Nothing read is = record { pairs = ps; read = read; writable = is }
+of_document options bytes ps (Malformed k n) read is = absurd is
+of_document options bytes ps FiniteDouble read is = record { pairs = ps; read = read; unwritable = is }
 
 -- nothing is wrong with a document that has a text
 pub nothing_found : (o : Options) (ps qs : Pairs) (it : Finding) → ps ≡ qs → writable_in o.doubles (document qs) ≡ true
@@ -27,12 +28,12 @@ nothing_found o ps qs (Malformed k n) same writes is = absurd is
 nothing_found o ps qs FiniteDouble same writes is =
     absurd (true≢false (sym writes ∙ ap (λ xs. writable_in o.doubles (document xs)) (sym same) ∙ is))
 
-without_code : (flags : ℕ) (bytes : List ℕ) (it : Finding) (n : ℕ) → IsFinding flags bytes it → n ≡ code_for it → n ≡ 0
-    → HasDocumentText flags bytes
-without_code flags bytes Nothing n found is zero = found
-without_code flags bytes (Malformed k m) n found is zero = absurd (omega (arith, is, zero))
-without_code flags bytes FiniteDouble n found is zero = absurd (omega (arith, is, zero))
+without_code : (options : CallOptions) (bytes : List ℕ) (it : Finding) (n : ℕ) → IsFinding options bytes it → n ≡ code_for it → n ≡ 0
+    → HasDocumentText options bytes
+without_code options bytes Nothing n found is zero = found
+without_code options bytes (Malformed k m) n found is zero = absurd (omega (arith, is, zero))
+without_code options bytes FiniteDouble n found is zero = absurd (omega (arith, is, zero))
 
-pub accepted_from : (flags : ℕ) (bytes : List ℕ) (out : Rejection) → ExplainsDocument flags bytes out → out.code ≡ 0
-    → HasDocumentText flags bytes
-accepted_from flags bytes out h zero = without_code flags bytes h.finding out.code h.found h.said.code zero
+pub accepted_from : (options : CallOptions) (bytes : List ℕ) (out : Rejection) → ExplainsDocument options bytes out → out.code ≡ 0
+    → HasDocumentText options bytes
+accepted_from options bytes out h zero = without_code options bytes h.finding out.code h.found h.said.code zero

@@ -1,4 +1,4 @@
--- The struct that tells why a text is refused, under the flags.
+-- The struct that tells why a text is refused, under the options.
 use Rattle.std.proofs.Common.{◌≡◌, ◌≢◌, inl, inr, ℕ, List, Option, None, Some, refl, subst, arith}
 use Rattle.json.specs.Json.{Json}
 use Rattle.json.specs.Strict.{HasUniqueKeys}
@@ -25,28 +25,29 @@ use Rattle.vbson.specs.Convert.{options_of, status_for}
 use Rattle.vbson.specs.Explain.{Explains, ExplainsRead, IsError, IsLongPath, IsRejectedFor, IsTooLong, IsUnexplained, Refuses, code_in}
 use Rattle.vbson.specs.Reading.{IsReadAs, IsUnread, MeansUnder, preprocessing_of}
 use Rattle.vbson.specs.declared.explain.Rejection.{Rejection}
+use Rattle.vbson.specs.declared.options.CallOptions.{CallOptions}
 
 -- ---- of what is read in the place of the text, and of a text that preprocessing rejects
 
-pub of_read : (flags : ℕ) (text read : List ℕ) (out : Rejection) → IsReadAs (preprocessing_of flags) text read
-    → ExplainsRead (options_of flags) read out → Explains flags text out
-of_read flags text read out is (inl h) = inl ((h.0.0, record { read = read; read_as = is; meaning = h.0.1 }), h.1)
-of_read flags text read out is (inr h) =
+pub of_read : (options : CallOptions) (text read : List ℕ) (out : Rejection) → IsReadAs (preprocessing_of options) text read
+    → ExplainsRead (options_of options) read out → Explains options text out
+of_read options text read out is (inl h) = inl ((h.0.0, record { read = read; read_as = is; meaning = h.0.1 }), h.1)
+of_read options text read out is (inr h) =
     inr (record { fault = h.0; read = read; refused = inl (is, h.1); told = h.2; error = h.3 })
 
-pub long_of_read : (flags : ℕ) (text read : List ℕ) (e : PathError) → IsReadAs (preprocessing_of flags) text read
-    → IsUnexplained e (λ fault. IsRefusedIn (options_of flags) fault read) → e ≢ sizes.OutOfMemory → IsTooLong flags text
-long_of_read flags text read e is h told =
+pub long_of_read : (options : CallOptions) (text read : List ℕ) (e : PathError) → IsReadAs (preprocessing_of options) text read
+    → IsUnexplained e (λ fault. IsRefusedIn (options_of options) fault read) → e ≢ sizes.OutOfMemory → IsTooLong options text
+long_of_read options text read e is h told =
     let it = h told in record { fault = it.0; read = read; refused = inl (is, it.1); long = it.2 }
 
-pub refused_first : (flags : ℕ) (fault : Error) (text : List ℕ) (out : Rejection) → IsUnread (preprocessing_of flags) fault text
-    → fault ≢ errors.OutOfMemory → IsError text fault out → Explains flags text out
-refused_first flags fault text out h told is =
+pub refused_first : (options : CallOptions) (fault : Error) (text : List ℕ) (out : Rejection) → IsUnread (preprocessing_of options) fault text
+    → fault ≢ errors.OutOfMemory → IsError text fault out → Explains options text out
+refused_first options fault text out h told is =
     inr (record { fault = fault; read = text; refused = inr (refl, h); told = told; error = is })
 
-pub long_first : (flags : ℕ) (fault : Error) (text : List ℕ) (e : PathError) → IsUnread (preprocessing_of flags) fault text
-    → (e ≢ sizes.OutOfMemory → IsLongPath fault) → e ≢ sizes.OutOfMemory → IsTooLong flags text
-long_first flags fault text e h long told =
+pub long_first : (options : CallOptions) (fault : Error) (text : List ℕ) (e : PathError) → IsUnread (preprocessing_of options) fault text
+    → (e ≢ sizes.OutOfMemory → IsLongPath fault) → e ≢ sizes.OutOfMemory → IsTooLong options text
+long_first options fault text e h long told =
     record { fault = fault; read = text; refused = inr (refl, h); long = long told }
 
 -- ---- the code
@@ -70,10 +71,10 @@ of_unread (Some taking) (errors.NoBytes why) text h told none = h
 of_unread (Some taking) errors.OutOfMemory text h told none = told refl
 of_unread (Some taking) errors.CannotWrite text h told none = h
 
-of_rejected : (flags : ℕ) (text read : List ℕ) (fault : Error) → IsRejectedFor flags text read fault → fault ≢ errors.OutOfMemory
+of_rejected : (options : CallOptions) (text read : List ℕ) (fault : Error) → IsRejectedFor options text read fault → fault ≢ errors.OutOfMemory
     → IsOfNoText fault → ⊥
-of_rejected flags text read fault (inl h) told none = of_text (options_of flags) fault read h.1 told none
-of_rejected flags text read fault (inr h) told none = of_unread (preprocessing_of flags) fault text h.1 told none
+of_rejected options text read fault (inl h) told none = of_text (options_of options) fault read h.1 told none
+of_rejected options text read fault (inr h) told none = of_unread (preprocessing_of options) fault text h.1 told none
 
 reason_code : (reason : Reason) (n : ℕ) → n ≡ status_for reason → n ≡ 0 → ⊥
 reason_code (BadObjectId e) n is zero = absurd (omega (arith, is, zero))
@@ -86,15 +87,15 @@ some_code text fault (explained.Value place reason) n h told is zero = reason_co
 some_code text fault explained.Other n h told is zero = told h
 
 -- a text that is refused has a code
-refuses_code : (flags : ℕ) (text : List ℕ) (out : Rejection) → Refuses flags text out → out.code ≡ 0 → ⊥
-refuses_code flags text out h zero =
+refuses_code : (options : CallOptions) (text : List ℕ) (out : Rejection) → Refuses options text out → out.code ≡ 0 → ⊥
+refuses_code options text out h zero =
     some_code h.read h.fault h.error.explanation out.code h.error.lies
-    (of_rejected flags text h.read h.fault h.refused h.told) h.error.said.code zero
+    (of_rejected options text h.read h.fault h.refused h.told) h.error.said.code zero
 
-pub accepted_from : (flags : ℕ) (text : List ℕ) (out : Rejection) → Explains flags text out → out.code ≡ 0
-    → (value : Value) × MeansUnder flags text value
-accepted_from flags text out (inl h) zero = h.0
-accepted_from flags text out (inr h) zero = absurd (refuses_code flags text out h zero)
+pub accepted_from : (options : CallOptions) (text : List ℕ) (out : Rejection) → Explains options text out → out.code ≡ 0
+    → (value : Value) × MeansUnder options text value
+accepted_from options text out (inl h) zero = h.0
+accepted_from options text out (inr h) zero = absurd (refuses_code options text out h zero)
 
 -- ---- a text that means a value is not refused
 
@@ -114,17 +115,17 @@ not_refused o (errors.NoBytes why) bytes value means h told = h
 not_refused o errors.OutOfMemory bytes value means h told = told refl
 not_refused o errors.CannotWrite bytes value means h told = h
 
-not_rejected : ((j : Json) (path : List PathSegment) → DoubleAt j path → ¬ HasUniqueKeys j) → (flags : ℕ)
-    (text read : List ℕ) (fault : Error) (value : Value) → MeansUnder flags text value → IsRejectedFor flags text read fault
+not_rejected : ((j : Json) (path : List PathSegment) → DoubleAt j path → ¬ HasUniqueKeys j) → (options : CallOptions)
+    (text read : List ℕ) (fault : Error) (value : Value) → MeansUnder options text value → IsRejectedFor options text read fault
     → fault ≢ errors.OutOfMemory → ⊥
-not_rejected twice flags text read fault value means (inl h) told =
-    not_refused (options_of flags) fault read value (meant flags text read value h.0 means) h.1 told
-not_rejected twice flags text read fault value means (inr h) told =
-    not_read twice (preprocessing_of flags) text means.read (rejected_key (preprocessing_of flags) fault text h.1 told)
+not_rejected twice options text read fault value means (inl h) told =
+    not_refused (options_of options) fault read value (meant options text read value h.0 means) h.1 told
+not_rejected twice options text read fault value means (inr h) told =
+    not_read twice (preprocessing_of options) text means.read (rejected_key (preprocessing_of options) fault text h.1 told)
     means.read_as
 
-pub accepts_from : ((j : Json) (path : List PathSegment) → DoubleAt j path → ¬ HasUniqueKeys j) → (flags : ℕ)
-    (text : List ℕ) (out : Rejection) (value : Value) → MeansUnder flags text value → Explains flags text out → out.code ≡ 0
-accepts_from twice flags text out value means (inl h) = h.1.code
-accepts_from twice flags text out value means (inr h) =
-    absurd (not_rejected twice flags text h.read h.fault value means h.refused h.told)
+pub accepts_from : ((j : Json) (path : List PathSegment) → DoubleAt j path → ¬ HasUniqueKeys j) → (options : CallOptions)
+    (text : List ℕ) (out : Rejection) (value : Value) → MeansUnder options text value → Explains options text out → out.code ≡ 0
+accepts_from twice options text out value means (inl h) = h.1.code
+accepts_from twice options text out value means (inr h) =
+    absurd (not_rejected twice options text h.read h.fault value means h.refused h.told)

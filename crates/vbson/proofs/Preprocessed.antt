@@ -23,6 +23,7 @@ use Rattle.vbson.specs.Convert.{IsOfText, options_of, status_of}
 use Rattle.vbson.specs.Documents.{depth}
 use Rattle.vbson.specs.Reading.{HasRejectedKey, IsReadAs, IsRejectedWith, IsUnread, IsWithoutValue, MeansUnder}
 use Rattle.vbson.specs.Reading.{IsWithoutDocument, duplicate_keys_of, preprocessing_of}
+use Rattle.vbson.specs.declared.options.CallOptions.{CallOptions}
 
 -- ---- one value
 
@@ -42,11 +43,11 @@ one_read None text a b x y = x ∙ sym y
 one_read (Some taking) text a b x y = one_taken taking text a b x y
 
 -- which means one value
-pub meant : (flags : ℕ) (text read : List ℕ) (value : Value) → IsReadAs (preprocessing_of flags) text read
-    → MeansUnder flags text value → HasTextMeaningIn (options_of flags).doubles read value
-meant flags text read value is means =
-    subst (λ x. HasTextMeaningIn (options_of flags).doubles x value)
-    (one_read (preprocessing_of flags) text means.read read means.read_as is) means.meaning
+pub meant : (options : CallOptions) (text read : List ℕ) (value : Value) → IsReadAs (preprocessing_of options) text read
+    → MeansUnder options text value → HasTextMeaningIn (options_of options).doubles read value
+meant options text read value is means =
+    subst (λ x. HasTextMeaningIn (options_of options).doubles x value)
+    (one_read (preprocessing_of options) text means.read read means.read_as is) means.meaning
 
 -- ---- what a status says
 
@@ -69,19 +70,19 @@ rejected o fault bytes h accepts = record {
 }
 
 -- of what is read in the place of a text
-pub without_value : (flags status : ℕ) (text read : List ℕ) → IsReadAs (preprocessing_of flags) text read
-    → IsRejectedWith (options_of flags) status read → IsWithoutValue flags status text
-without_value flags status text read is h = record {
+pub without_value : (options : CallOptions) (status : ℕ) (text read : List ℕ) → IsReadAs (preprocessing_of options) text read
+    → IsRejectedWith (options_of options) status read → IsWithoutValue options status text
+without_value options status text read is h = record {
   not_json = λ two. record { read = read; read_as = is; rejected = h.cause.not_json two };
   bad_object_id = λ three. record { read = read; read_as = is; rejected = h.cause.bad_object_id three };
   not_extended_json = λ four. inr (record { read = read; read_as = is; rejected = h.cause.not_extended_json four });
-  accepts = λ value means. h.accepts value (meant flags text read value is means);
+  accepts = λ value means. h.accepts value (meant options text read value is means);
   listed = h.listed;
 }
 
 -- when memory runs out
-pub no_memory : (flags : ℕ) (text : List ℕ) → IsWithoutValue flags 5 text
-no_memory flags text = record {
+pub no_memory : (options : CallOptions) (text : List ℕ) → IsWithoutValue options 5 text
+no_memory options text = record {
   not_json = λ is. absurd (omega (arith, is));
   bad_object_id = λ is. absurd (omega (arith, is));
   not_extended_json = λ is. absurd (omega (arith, is));
@@ -105,16 +106,16 @@ rejected_key (Some taking) (NoBytes why) text h some = absurd h
 rejected_key (Some taking) OutOfMemory text h some = absurd (some refl)
 rejected_key (Some taking) CannotWrite text h some = absurd h
 
-pub turned_away : ((j : Json) (path : List PathSegment) → DoubleAt j path → ¬ HasUniqueKeys j) → (flags : ℕ)
-    (fault : Error) (text : List ℕ) → IsUnread (preprocessing_of flags) fault text → fault ≢ OutOfMemory
-    → IsWithoutValue flags 4 text
-turned_away twice flags fault text h some =
-    let key = rejected_key (preprocessing_of flags) fault text h some in
+pub turned_away : ((j : Json) (path : List PathSegment) → DoubleAt j path → ¬ HasUniqueKeys j) → (options : CallOptions)
+    (fault : Error) (text : List ℕ) → IsUnread (preprocessing_of options) fault text → fault ≢ OutOfMemory
+    → IsWithoutValue options 4 text
+turned_away twice options fault text h some =
+    let key = rejected_key (preprocessing_of options) fault text h some in
     record {
       not_json = λ is. absurd (omega (arith, is));
       bad_object_id = λ is. absurd (omega (arith, is));
       not_extended_json = λ is. inl key;
-      accepts = λ value means. absurd (not_read twice (preprocessing_of flags) text means.read key means.read_as);
+      accepts = λ value means. absurd (not_read twice (preprocessing_of options) text means.read key means.read_as);
       listed = (omega arith, omega arith);
     }
 
@@ -129,9 +130,9 @@ of_refused o CannotWrite bytes h = h
 
 -- ---- documents
 
-pub no_document_under : (flags : ℕ) (bytes : List ℕ)
-    → ((ps : Pairs) → IsReadIn (duplicate_keys_of flags) depth bytes ps → ⊥) → IsWithoutDocument flags 10 bytes
-no_document_under flags bytes none = record {
+pub no_document_under : (options : CallOptions) (bytes : List ℕ)
+    → ((ps : Pairs) → IsReadIn (duplicate_keys_of options) depth bytes ps → ⊥) → IsWithoutDocument options 10 bytes
+no_document_under options bytes none = record {
   no_document = λ ten value is. none is.pairs is.read;
   accepts = λ value is. absurd (none is.pairs is.read);
   listed = inr refl;

@@ -1,6 +1,6 @@
 -- Rows of the numbers that a caller in C writes and reads (languages/c/vbson.h has them). A definition that is changed
 -- together with its code is refused here.
-use Rattle.std.proofs.Common.{◌≡◌, Some, None, true, false, refl}
+use Rattle.std.proofs.Common.{◌≡◌, ℕ, Some, None, true, false, refl}
 use Rattle.bson.specs.Doubles.TheVariants.{Special, Finite}
 use Rattle.bson_place.specs.declared.place.Reason.TheVariants.{BadObjectId, WrongShape}
 use Rattle.bson_convert.specs.Convert.{default_options}
@@ -13,7 +13,8 @@ use Rattle.bson_run.specs.declared.order.Taking.TheVariants.{Distinct, Legacy, D
 use Rattle.vbson.specs.Documents.{depth}
 use Rattle.vbson.specs.Reading.{duplicate_keys_of, preprocessing_of}
 use Rattle.vbson.specs.Values.{verdict}
-use Rattle.vbson.specs.declared.flags.KeyOrder.TheVariants.{Ascending, AsGiven}
+use Rattle.vbson.specs.declared.options.CallOptions.{CallOptions}
+use Rattle.vbson.specs.declared.options.KeyOrder.TheVariants.{Ascending, AsGiven}
 
 -- ---- modes
 
@@ -23,26 +24,32 @@ modes_numbered : (mode_at 0 ≡ Some mode.Canonical)
     × (mode_at 3 ≡ None)
 modes_numbered = (refl, refl, refl, refl)
 
--- ---- flags
+-- ---- options
 
-flags_numbered : (options_of 0 ≡ default_options)
-    × ((options_of 0).doubles ≡ Special)
-    × ((options_of 1).doubles ≡ Finite)
-    × (order_of 0 ≡ Ascending)
-    × (order_of 1 ≡ Ascending)
-    × (options_of 2 ≡ default_options)
-    × (order_of 2 ≡ AsGiven)
-    × ((options_of 3).doubles ≡ Finite)
-    × (order_of 3 ≡ AsGiven)
-flags_numbered = (refl, refl, refl, refl, refl, refl, refl, refl, refl)
+-- the struct with these fields
+options_with : (doubles key_order duplicate_keys v1 : ℕ) → CallOptions
+options_with doubles key_order duplicate_keys v1 = record {
+  size = 24;
+  doubles = doubles;
+  key_order = key_order;
+  duplicate_keys = duplicate_keys;
+  v1 = v1;
+}
 
--- the flags 4 and 8 are of what is read
-reading_numbered : (preprocessing_of 3 ≡ None)
-    × (preprocessing_of 4 ≡ Some Distinct)
-    × (preprocessing_of 8 ≡ Some Legacy)
-    × (preprocessing_of 15 ≡ Some DistinctLegacy)
-    × (duplicate_keys_of 11 ≡ Replace)
-    × (duplicate_keys_of 4 ≡ Refuse)
+conversion_numbered : (options_of (options_with 0 0 0 0) ≡ default_options)
+    × ((options_of (options_with 0 1 1 1)).doubles ≡ Special)
+    × ((options_of (options_with 1 0 0 0)).doubles ≡ Finite)
+    × (order_of (options_with 0 0 0 0) ≡ Ascending)
+    × (order_of (options_with 1 0 1 1) ≡ Ascending)
+    × (order_of (options_with 0 1 0 0) ≡ AsGiven)
+conversion_numbered = (refl, refl, refl, refl, refl, refl)
+
+reading_numbered : (preprocessing_of (options_with 1 1 0 0) ≡ None)
+    × (preprocessing_of (options_with 0 0 1 0) ≡ Some Distinct)
+    × (preprocessing_of (options_with 0 0 0 1) ≡ Some Legacy)
+    × (preprocessing_of (options_with 0 0 1 1) ≡ Some DistinctLegacy)
+    × (duplicate_keys_of (options_with 1 1 0 1) ≡ Replace)
+    × (duplicate_keys_of (options_with 0 0 1 0) ≡ Refuse)
 reading_numbered = (refl, refl, refl, refl, refl, refl)
 
 -- ---- statuses

@@ -1,5 +1,5 @@
--- What a conversion leaves, and which number stands for which mode, for which options and for which order of keys.
-use Rattle.std.specs.Prelude.{◌≡◌, ◌==◌, ℕ, ◌/◌, ◌%◌, List, ◌++◌, IsUtf8, Option, Some, None, if◌then◌else◌}
+-- What a conversion leaves, which number stands for which mode, and which options are in the struct of a call.
+use Rattle.std.specs.Prelude.{◌≡◌, ◌==◌, ℕ, List, ◌++◌, IsUtf8, Option, Some, None, if◌then◌else◌}
 use Rattle.serde_json.specs.Data.{Data}
 use Rattle.bson_place.specs.Faults.{Fault as TreeFault, wrong_shape, wrong_id}
 use Rattle.bson_model.specs.Fault.{MeansNothingIn, fault_of_in}
@@ -8,7 +8,7 @@ use Rattle.bson_place.specs.declared.place.Reason.TheVariants.{BadObjectId, Wron
 use Rattle.bson.specs.Doubles.TheVariants.{Special, Finite}
 use Rattle.bson.specs.TextMeaning.{IsNoText, IsTextOf}
 use Rattle.bson.specs.declared.extjson.options.Options.{Options}
-use Rattle.bson_convert.specs.Convert.{ConvertsIn, default_options, newline}
+use Rattle.bson_convert.specs.Convert.{ConvertsIn, newline}
 use Rattle.bson_run.specs.InOrder.{ConvertsInOrder}
 use Rattle.bson_convert.specs.declared.mode.Mode.{Mode}
 use Rattle.bson_convert.specs.declared.mode.Mode.TheVariants.{Canonical, Relaxed, Show}
@@ -18,20 +18,21 @@ use Rattle.bson_convert.specs.declared.error.Error.TheVariants.{CannotWrite}
 use Rattle.bson_convert.specs.declared.no_bytes.NoBytes as without
 use Rattle.bson_convert.specs.declared.no_bytes.NoBytes.TheVariants.{NoDocument, ZeroInKey, ZeroInRegex, TooLong}
 use Rattle.vbson.specs.Text.{IsText}
-use Rattle.vbson.specs.declared.flags.KeyOrder.{KeyOrder}
-use Rattle.vbson.specs.declared.flags.KeyOrder.TheVariants.{Ascending, AsGiven}
+use Rattle.vbson.specs.declared.options.CallOptions.{CallOptions}
+use Rattle.vbson.specs.declared.options.KeyOrder.{KeyOrder}
+use Rattle.vbson.specs.declared.options.KeyOrder.TheVariants.{Ascending, AsGiven}
 use Rattle.vbson.specs.declared.text.Text.{Text}
 
 abbrev pub mode_at : ℕ → Option Mode
 mode_at n = if n == 0 then Some Canonical else (if n == 1 then Some Relaxed else (if n == 2 then Some Show else None))
 
--- the options of flags, of which 3 is the greatest: the default, and with the bit 1 finite doubles
-abbrev pub options_of : ℕ → Options
-options_of flags = record { doubles = if flags % 2 == 1 then Finite else Special }
+-- the options of a conversion, of which 0 is the default
+abbrev pub options_of : CallOptions → Options
+options_of options = record { doubles = if options.doubles == 1 then Finite else Special }
 
--- their order of keys: ascending, and with the bit 2 as given
-abbrev pub order_of : ℕ → KeyOrder
-order_of flags = if flags / 2 % 2 == 1 then AsGiven else Ascending
+-- its order of keys
+abbrev pub order_of : CallOptions → KeyOrder
+order_of options = if options.key_order == 1 then AsGiven else Ascending
 
 -- the input is converted to the output, its keys in the order
 abbrev pub ConvertsBy : KeyOrder → Options → Mode → List ℕ → List ℕ → Type 0
@@ -61,17 +62,6 @@ pub record HasNoMeaningIn (o : Options) (why : TreeFault → Type 0) (bytes : Li
   pub text : IsTextOf bytes tree
   pub refused : MeansNothingIn o.doubles tree
   pub reason : why (fault_of_in o.doubles tree)
-
--- ---- where keys ascend, and where no flags are given
-
-abbrev pub IsConvertedIn : (o : Options) (number : ℕ) (input : List ℕ) (out : Text) → Type 0
-IsConvertedIn = IsConvertedBy Ascending
-
-abbrev pub IsConverted : (number : ℕ) (input : List ℕ) (out : Text) → Type 0
-IsConverted = IsConvertedIn default_options
-
-abbrev pub HasNoMeaning : (why : TreeFault → Type 0) (bytes : List ℕ) → Type 0
-HasNoMeaning = HasNoMeaningIn default_options
 
 -- ---- for private clauses
 

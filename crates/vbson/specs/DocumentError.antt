@@ -20,25 +20,26 @@ use Rattle.vbson.specs.declared.document_error.Finding.{Finding}
 use Rattle.vbson.specs.declared.document_error.Finding.TheVariants.{Nothing, Malformed, FiniteDouble}
 use Rattle.vbson.specs.declared.explain.Parts.{Parts}
 use Rattle.vbson.specs.declared.explain.Rejection.{Rejection}
+use Rattle.vbson.specs.declared.options.CallOptions.{CallOptions}
 
 -- ---- what is wrong
 
--- under the flags the bytes are a document, and it has a text in the two forms
-pub record HasDocumentText (flags : ℕ) (bytes : List ℕ) : Type 0 where
+-- under the options the bytes are a document, and it has a text in the two forms
+pub record HasDocumentText (options : CallOptions) (bytes : List ℕ) : Type 0 where
   pub pairs : Pairs
-  pub read : IsReadIn (duplicate_keys_of flags) depth bytes pairs
-  pub writable : writable_in (options_of flags).doubles (document pairs) ≡ true
+  pub read : IsReadIn (duplicate_keys_of options) depth bytes pairs
+  pub writable : writable_in (options_of options).doubles (document pairs) ≡ true
 
 -- they are a document, and it has none
-pub record HasNoDocumentText (flags : ℕ) (bytes : List ℕ) : Type 0 where
+pub record HasNoDocumentText (options : CallOptions) (bytes : List ℕ) : Type 0 where
   pub pairs : Pairs
-  pub read : IsReadIn (duplicate_keys_of flags) depth bytes pairs
-  pub unwritable : writable_in (options_of flags).doubles (document pairs) ≡ false
+  pub read : IsReadIn (duplicate_keys_of options) depth bytes pairs
+  pub unwritable : writable_in (options_of options).doubles (document pairs) ≡ false
 
-abbrev pub IsFinding : ℕ → List ℕ → Finding → Type 0
-IsFinding flags bytes Nothing = HasDocumentText flags bytes
-IsFinding flags bytes (Malformed k n) = IsPlacedFault k n bytes (reads_in (duplicate_keys_of flags) depth bytes)
-IsFinding flags bytes FiniteDouble = HasNoDocumentText flags bytes
+abbrev pub IsFinding : CallOptions → List ℕ → Finding → Type 0
+IsFinding options bytes Nothing = HasDocumentText options bytes
+IsFinding options bytes (Malformed k n) = IsPlacedFault k n bytes (reads_in (duplicate_keys_of options) depth bytes)
+IsFinding options bytes FiniteDouble = HasNoDocumentText options bytes
 
 -- ---- what the struct has of it
 
@@ -83,9 +84,9 @@ pub record SaysOf (it : Finding) (out : Rejection) : Type 0 where
   pub message : IsText (message_for it) out.message
   pub utf8 : IsUtf8 (message_for it)
 
-pub record ExplainsDocument (flags : ℕ) (bytes : List ℕ) (out : Rejection) : Type 0 where
+pub record ExplainsDocument (options : CallOptions) (bytes : List ℕ) (out : Rejection) : Type 0 where
   pub finding : Finding
-  pub found : IsFinding flags bytes finding
+  pub found : IsFinding options bytes finding
   pub said : SaysOf finding out
 
 -- ---- for private clauses

@@ -18,8 +18,8 @@ use Rattle.bson_convert.specs.declared.mode.Mode.{Mode}
 use Rattle.bson_convert.specs.declared.mode.Mode.TheVariants.{Canonical, Relaxed, Show}
 use Rattle.vbson.specs.Convert.{IsCauseIn, mode_at}
 use Rattle.vbson.specs.Text.{IsText}
-use Rattle.vbson.specs.declared.flags.KeyOrder.{KeyOrder}
-use Rattle.vbson.specs.declared.flags.KeyOrder.TheVariants.{Ascending, AsGiven}
+use Rattle.vbson.specs.declared.options.KeyOrder.{KeyOrder}
+use Rattle.vbson.specs.declared.options.KeyOrder.TheVariants.{Ascending, AsGiven}
 use Rattle.vbson.specs.declared.text.Text.{Text}
 
 -- how deep documents, arrays and scopes may stand in each other

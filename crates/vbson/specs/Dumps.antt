@@ -15,8 +15,8 @@ use Rattle.vbson.specs.Convert.{mode_at}
 use Rattle.vbson.specs.Documents.{depth}
 use Rattle.vbson.specs.Text.{IsText}
 use Rattle.vbson.specs.declared.dump.Documents as given
-use Rattle.vbson.specs.declared.flags.KeyOrder.{KeyOrder}
-use Rattle.vbson.specs.declared.flags.KeyOrder.TheVariants.{Ascending, AsGiven}
+use Rattle.vbson.specs.declared.options.KeyOrder.{KeyOrder}
+use Rattle.vbson.specs.declared.options.KeyOrder.TheVariants.{Ascending, AsGiven}
 
 -- what is written of each document; what is shown has its own order in any case
 abbrev pub line_of : KeyOrder → Mode → Line

@@ -22,6 +22,7 @@ use Rattle.vbson.specs.Reading.{IsReadAs, IsUnread, MeansUnder, preprocessing_of
 use Rattle.vbson.specs.Text.{IsText}
 use Rattle.vbson.specs.declared.explain.Parts.{Parts}
 use Rattle.vbson.specs.declared.explain.Rejection.{Rejection}
+use Rattle.vbson.specs.declared.options.CallOptions.{CallOptions}
 
 -- ---- what an explanation is in the struct
 
@@ -77,34 +78,34 @@ pub record IsError (text : List ℕ) (fault : Error) (out : Rejection) : Type 0 
 
 -- ---- which text
 
--- the text that the flags read in the place of this one is rejected for the error, or preprocessing rejects this one
-abbrev pub IsRejectedFor : (flags : ℕ) (text read : List ℕ) → Error → Type 0
-IsRejectedFor flags text read fault =
-    (IsReadAs (preprocessing_of flags) text read × IsRefusedIn (options_of flags) fault read)
-    ⊎ ((read ≡ text) × IsUnread (preprocessing_of flags) fault text)
+-- the text that the options read in the place of this one is rejected for the error, or preprocessing rejects this one
+abbrev pub IsRejectedFor : (options : CallOptions) (text read : List ℕ) → Error → Type 0
+IsRejectedFor options text read fault =
+    (IsReadAs (preprocessing_of options) text read × IsRefusedIn (options_of options) fault read)
+    ⊎ ((read ≡ text) × IsUnread (preprocessing_of options) fault text)
 
 -- it is rejected, and the struct explains why
-pub record Refuses (flags : ℕ) (text : List ℕ) (out : Rejection) : Type 0 where
+pub record Refuses (options : CallOptions) (text : List ℕ) (out : Rejection) : Type 0 where
   pub fault : Error
   pub read : List ℕ
-  pub refused : IsRejectedFor flags text read fault
+  pub refused : IsRejectedFor options text read fault
   pub told : fault ≢ OutOfMemory
   pub error : IsError read fault out
 
 -- the text means a value, and the struct has the code 0 and no words; or it is rejected
-abbrev pub Explains : ℕ → List ℕ → Rejection → Type 0
-Explains flags text out =
-    (((value : Value) × MeansUnder flags text value) × Says [] Other [] out) ⊎ Refuses flags text out
+abbrev pub Explains : CallOptions → List ℕ → Rejection → Type 0
+Explains options text out =
+    (((value : Value) × MeansUnder options text value) × Says [] Other [] out) ⊎ Refuses options text out
 
 -- the path to the error is too long for BSON
 abbrev pub IsLongPath : Error → Type 0
 IsLongPath (NotExtendedJson place) = FitsDocument (path_pairs (path_of place)) → ⊥
 IsLongPath other = ⊥
 
-pub record IsTooLong (flags : ℕ) (text : List ℕ) : Type 0 where
+pub record IsTooLong (options : CallOptions) (text : List ℕ) : Type 0 where
   pub fault : Error
   pub read : List ℕ
-  pub refused : IsRejectedFor flags text read fault
+  pub refused : IsRejectedFor options text read fault
   pub long : IsLongPath fault
 
 -- ---- for private clauses

@@ -6,6 +6,7 @@ pub mod Documents
 pub mod Dumps
 pub mod Explain
 pub mod Lines
+pub mod Options
 pub mod Path
 pub mod Raw
 pub mod Reading

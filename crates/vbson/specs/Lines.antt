@@ -8,8 +8,8 @@ use Rattle.bson_run.specs.declared.order.Task.{Task}
 use Rattle.bson_run.specs.declared.order.Task.TheVariants.{Write, WriteInOrder, Encode, EncodeInOrder}
 use Rattle.vbson.specs.Convert.{mode_at}
 use Rattle.vbson.specs.Text.{IsText}
-use Rattle.vbson.specs.declared.flags.KeyOrder.{KeyOrder}
-use Rattle.vbson.specs.declared.flags.KeyOrder.TheVariants.{Ascending, AsGiven}
+use Rattle.vbson.specs.declared.options.KeyOrder.{KeyOrder}
+use Rattle.vbson.specs.declared.options.KeyOrder.TheVariants.{Ascending, AsGiven}
 use Rattle.vbson.specs.declared.lines.Lines.{Lines}
 
 -- what is done with each line, its keys in the order

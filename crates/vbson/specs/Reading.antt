@@ -1,5 +1,5 @@
--- Which value the flags read from a text, and from the bytes of a document.
-use Rattle.std.specs.Prelude.{◌≡◌, ◌⊎◌, ◌≤◌, ◌==◌, ◌/◌, ◌%◌, ℕ, List, Option, None, Some, if◌then◌else◌}
+-- Which value the options read from a text, and from the bytes of a document.
+use Rattle.std.specs.Prelude.{◌≡◌, ◌⊎◌, ◌≤◌, ◌==◌, ℕ, List, Option, None, Some, if◌then◌else◌}
 use Rattle.bson.specs.TextMeaning.{HasTextMeaningIn, IsNoText}
 use Rattle.bson_bytes.specs.Laws.{IsReadIn}
 use Rattle.bson_bytes.specs.declared.keys.DuplicateKeys.{DuplicateKeys}
@@ -13,15 +13,16 @@ use Rattle.bson_run.specs.declared.order.Taking.{Taking}
 use Rattle.bson_run.specs.declared.order.Taking.TheVariants.{Distinct, Legacy, DistinctLegacy}
 use Rattle.vbson.specs.Convert.{HasNoMeaningIn, IsBad, IsBadId, IsCauseIn, options_of}
 use Rattle.vbson.specs.Documents.{depth}
+use Rattle.vbson.specs.declared.options.CallOptions.{CallOptions}
 
 -- ---- texts
 
--- what the bits 4 and 8 request: that a duplicate key is rejected, and that Extended JSON v1 is read too
-abbrev pub preprocessing_of : ℕ → Option Taking
-preprocessing_of flags =
-    if flags / 4 % 2 == 1
-    then (if flags / 8 % 2 == 1 then Some DistinctLegacy else Some Distinct)
-    else (if flags / 8 % 2 == 1 then Some Legacy else None)
+-- what the options request: that a duplicate key is rejected, and that Extended JSON v1 is read too
+abbrev pub preprocessing_of : CallOptions → Option Taking
+preprocessing_of options =
+    if options.duplicate_keys == 1
+    then (if options.v1 == 1 then Some DistinctLegacy else Some Distinct)
+    else (if options.v1 == 1 then Some Legacy else None)
 
 -- preprocessing accepts the text, and these bytes are read in its place
 abbrev pub IsReadAs : Option Taking → (text read : List ℕ) → Type 0
@@ -33,43 +34,43 @@ abbrev pub HasRejectedKey : Option Taking → List ℕ → Type 0
 HasRejectedKey None text = ⊥
 HasRejectedKey (Some preprocessing) text = (place : Place) × IsTurnedAway preprocessing place text
 
--- under the flags the text means the value
-pub record MeansUnder (flags : ℕ) (text : List ℕ) (value : Value) : Type 0 where
+-- under the options the text means the value
+pub record MeansUnder (options : CallOptions) (text : List ℕ) (value : Value) : Type 0 where
   pub read : List ℕ
-  pub read_as : IsReadAs (preprocessing_of flags) text read
-  pub meaning : HasTextMeaningIn (options_of flags).doubles read value
+  pub read_as : IsReadAs (preprocessing_of options) text read
+  pub meaning : HasTextMeaningIn (options_of options).doubles read value
 
 -- what is read in the place of the text is rejected for the cause
-pub record IsReadAndRejected (flags : ℕ) (cause : List ℕ → Type 0) (text : List ℕ) : Type 0 where
+pub record IsReadAndRejected (options : CallOptions) (cause : List ℕ → Type 0) (text : List ℕ) : Type 0 where
   pub read : List ℕ
-  pub read_as : IsReadAs (preprocessing_of flags) text read
+  pub read_as : IsReadAs (preprocessing_of options) text read
   pub rejected : cause read
 
-abbrev pub IsNoTextUnder : ℕ → List ℕ → Type 0
-IsNoTextUnder flags = IsReadAndRejected flags IsNoText
+abbrev pub IsNoTextUnder : CallOptions → List ℕ → Type 0
+IsNoTextUnder options = IsReadAndRejected options IsNoText
 
-abbrev pub HasBadIdUnder : ℕ → List ℕ → Type 0
-HasBadIdUnder flags = IsReadAndRejected flags (HasNoMeaningIn (options_of flags) IsBadId)
+abbrev pub HasBadIdUnder : CallOptions → List ℕ → Type 0
+HasBadIdUnder options = IsReadAndRejected options (HasNoMeaningIn (options_of options) IsBadId)
 
-abbrev pub IsBadUnder : ℕ → List ℕ → Type 0
-IsBadUnder flags text =
-    HasRejectedKey (preprocessing_of flags) text
-    ⊎ IsReadAndRejected flags (HasNoMeaningIn (options_of flags) IsBad) text
+abbrev pub IsBadUnder : CallOptions → List ℕ → Type 0
+IsBadUnder options text =
+    HasRejectedKey (preprocessing_of options) text
+    ⊎ IsReadAndRejected options (HasNoMeaningIn (options_of options) IsBad) text
 
 -- ---- documents
 
--- the bit 4 rejects a duplicate key
-abbrev pub duplicate_keys_of : ℕ → DuplicateKeys
-duplicate_keys_of flags = if flags / 4 % 2 == 1 then Refuse else Replace
+-- the options reject a duplicate key, or do not
+abbrev pub duplicate_keys_of : CallOptions → DuplicateKeys
+duplicate_keys_of options = if options.duplicate_keys == 1 then Refuse else Replace
 
--- under the flags the bytes are the document that the value is
-pub record IsDocumentUnder (flags : ℕ) (bytes : List ℕ) (value : Value) : Type 0 where
+-- under the options the bytes are the document that the value is
+pub record IsDocumentUnder (options : CallOptions) (bytes : List ℕ) (value : Value) : Type 0 where
   pub pairs : Pairs
-  pub read : IsReadIn (duplicate_keys_of flags) depth bytes pairs
+  pub read : IsReadIn (duplicate_keys_of options) depth bytes pairs
   pub is : value ≡ document pairs
 
-abbrev pub IsNoDocumentUnder : ℕ → List ℕ → Type 0
-IsNoDocumentUnder flags bytes = (value : Value) → IsDocumentUnder flags bytes value → ⊥
+abbrev pub IsNoDocumentUnder : CallOptions → List ℕ → Type 0
+IsNoDocumentUnder options bytes = (value : Value) → IsDocumentUnder options bytes value → ⊥
 
 -- ---- for private clauses
 
@@ -84,16 +85,16 @@ pub record IsRejectedWith (o : Options) (status : ℕ) (bytes : List ℕ) : Type
   pub accepts : (value : Value) → HasTextMeaningIn o.doubles bytes value → status ≡ 5
   pub listed : (2 ≤ status) × (status ≤ 5)
 
--- what a status says of a text that has no value under the flags
-pub record IsWithoutValue (flags status : ℕ) (text : List ℕ) : Type 0 where
-  pub not_json : status ≡ 2 → IsNoTextUnder flags text
-  pub bad_object_id : status ≡ 3 → HasBadIdUnder flags text
-  pub not_extended_json : status ≡ 4 → IsBadUnder flags text
-  pub accepts : (value : Value) → MeansUnder flags text value → status ≡ 5
+-- what a status says of a text that has no value under the options
+pub record IsWithoutValue (options : CallOptions) (status : ℕ) (text : List ℕ) : Type 0 where
+  pub not_json : status ≡ 2 → IsNoTextUnder options text
+  pub bad_object_id : status ≡ 3 → HasBadIdUnder options text
+  pub not_extended_json : status ≡ 4 → IsBadUnder options text
+  pub accepts : (value : Value) → MeansUnder options text value → status ≡ 5
   pub listed : (2 ≤ status) × (status ≤ 5)
 
--- what a status says of bytes that are not a document under the flags
-pub record IsWithoutDocument (flags status : ℕ) (bytes : List ℕ) : Type 0 where
-  pub no_document : status ≡ 10 → IsNoDocumentUnder flags bytes
-  pub accepts : (value : Value) → IsDocumentUnder flags bytes value → status ≡ 5
+-- what a status says of bytes that are not a document under the options
+pub record IsWithoutDocument (options : CallOptions) (status : ℕ) (bytes : List ℕ) : Type 0 where
+  pub no_document : status ≡ 10 → IsNoDocumentUnder options bytes
+  pub accepts : (value : Value) → IsDocumentUnder options bytes value → status ≡ 5
   pub listed : (status ≡ 5) ⊎ (status ≡ 10)

@@ -2,17 +2,18 @@
 ghost use Rattle.std.specs.Prelude.{◌≡◌, ◌↔◌, ◌⊎◌, ◌<◌, ◌≤◌, ◌++◌, List, ℕ, Some, IfOk, IfErr, IsUtf8};
 ghost use Rattle.serde_json.specs.Data.{Data};
 ghost use Rattle.bson.specs.declared.extjson.options.Options.{Options};
-ghost use Rattle.bson_model.specs.Means.{Means, MeansIn};
+ghost use Rattle.bson_model.specs.Means.{MeansIn};
 ghost use Rattle.bson_model.specs.Value as model;
 ghost use Rattle.bson_convert.specs.Convert.{Converts, IsRefusedIn, newline};
 ghost use Rattle.bson.specs.TextMeaning.{IsNoText, IsTextOf};
 ghost use Rattle.bson_convert.specs.declared.mode.Mode.{Mode};
-ghost use Rattle.vbson.specs.Convert.{HasNoMeaning, HasNoMeaningIn, IsBad, IsBadId, IsCauseIn};
-ghost use Rattle.vbson.specs.Convert.{ConvertsBy, IsConverted, IsConvertedBy, IsOfText};
+ghost use Rattle.vbson.specs.Convert.{HasNoMeaningIn, IsBad, IsBadId, IsCauseIn};
+ghost use Rattle.vbson.specs.Convert.{ConvertsBy, IsConvertedBy, IsOfText};
 ghost use Rattle.vbson.specs.Convert.{mode_at, options_of, order_of, status_of};
+ghost use Rattle.vbson.specs.Options.{AreNotForConversion};
 ghost use Rattle.vbson.specs.Text.{nul};
 
-use crate::flags::{KeyOrder, has_others, options_of, order_of};
+use crate::options::{CallOptions, KeyOrder, are_not_for_conversion, options_of, order_of};
 use crate::status;
 use crate::text::{Text, text_of_line};
 use bson::extjson::Options;
@@ -25,65 +26,40 @@ use bson_run::in_order::convert_in_order;
 use std::alloc::Global;
 
 /// Reads the text as one text of Extended JSON, and leaves the text of its value in a mode: 0 the
-/// canonical form, 1 the relaxed form, 2 the text of Display. The block of the new text is the
-/// caller's, who frees it by `free`.
+/// canonical form, 1 the relaxed form, 2 the text of Display. The options say whether finite doubles
+/// are read and written, in place of rejected, and whether the keys of each document are ascending
+/// or in the order of the text. In the latter a duplicate key has its last value at its first place.
+/// The block of the new text is the caller's, who frees it by `free`.
 #[unsafe(no_mangle)]
-pub extern "C" fn vbson_convert(
+pub extern "C" fn vbson_convert_nonnull(
     alloc: Global,
     mode: u32,
+    options: &CallOptions,
     text: &[u8],
     out: &mut Text<'static>,
 ) -> u32
-    ensures done { result ≡ 0 → IsConverted mode text.now out.new }
+    ensures done { result ≡ 0 → IsConvertedBy (order_of options.now) (options_of options.now) mode text.now out.new }
     ensures one { result ≡ 0 → (m : Mode) (other : List ℕ) → mode_at mode ≡ Some m
-        → Converts m text.now (other ++ newline) → out.new.bytes.now ≡ other ++ nul }
-    ensures accepts { (tree : Data) (value : model.Value) → mode ≤ 2 → IsTextOf text.now tree → Means tree value
-        → 0 < result → result ≡ 5 }
-
-    // When each other status comes, and that nothing is left then.
-    ensures no_mode { result ≡ 1 ↔ 2 < mode }
-    ensures not_json { result ≡ 2 → IsNoText text.now }
-    ensures bad_object_id { result ≡ 3 → HasNoMeaning IsBadId text.now }
-    ensures not_extended_json { result ≡ 4 → HasNoMeaning IsBad text.now }
-    ensures listed { result ≤ 5 }
-    ensures kept { 0 < result → out.new ≡ out.old }
-{
-    vbson_convert_with(alloc, mode, 0, text, out)
-}
-
-/// `vbson_convert` with flags, which are added: 1 has finite doubles read and written, in the place
-/// of refused; 2 leaves the keys of each document in the order of the text, where one that stands
-/// twice has its last value at its first place; 0 is `vbson_convert`.
-#[unsafe(no_mangle)]
-pub extern "C" fn vbson_convert_with(
-    alloc: Global,
-    mode: u32,
-    flags: u32,
-    text: &[u8],
-    out: &mut Text<'static>,
-) -> u32
-    ensures done { result ≡ 0 → IsConvertedBy (order_of flags) (options_of flags) mode text.now out.new }
-    ensures one { result ≡ 0 → (m : Mode) (other : List ℕ) → mode_at mode ≡ Some m
-        → ConvertsBy (order_of flags) (options_of flags) m text.now (other ++ newline)
+        → ConvertsBy (order_of options.now) (options_of options.now) m text.now (other ++ newline)
         → out.new.bytes.now ≡ other ++ nul }
-    ensures accepts { (tree : Data) (value : model.Value) → mode ≤ 2 → flags ≤ 3 → IsTextOf text.now tree
-        → MeansIn (options_of flags).doubles tree value → 0 < result → result ≡ 5 }
+    ensures accepts { (tree : Data) (value : model.Value) → IsTextOf text.now tree
+        → MeansIn (options_of options.now).doubles tree value → 1 < result → result ≡ 5 }
 
     // When each other status comes, and that nothing is left then.
-    ensures no_mode { result ≡ 1 ↔ (2 < mode) ⊎ (3 < flags) }
+    ensures no_mode { result ≡ 1 ↔ (2 < mode) ⊎ AreNotForConversion options.now }
     ensures not_json { result ≡ 2 → IsNoText text.now }
-    ensures bad_object_id { result ≡ 3 → HasNoMeaningIn (options_of flags) IsBadId text.now }
-    ensures not_extended_json { result ≡ 4 → HasNoMeaningIn (options_of flags) IsBad text.now }
+    ensures bad_object_id { result ≡ 3 → HasNoMeaningIn (options_of options.now) IsBadId text.now }
+    ensures not_extended_json { result ≡ 4 → HasNoMeaningIn (options_of options.now) IsBad text.now }
     ensures listed { result ≤ 5 }
     ensures kept { 0 < result → out.new ≡ out.old }
 {
-    if has_others(flags) {
+    if are_not_for_conversion(*options) {
         return status::INVALID_ARGUMENT;
     }
     let Some(mode) = mode_of(mode) else {
         return status::INVALID_ARGUMENT;
     };
-    match convert_text(alloc, order_of(flags), options_of(flags), mode, text) {
+    match convert_text(alloc, order_of(*options), options_of(*options), mode, text) {
         Ok(line) => *out = text_of_line(line),
         Err(fault) => return status_of(fault),
     }

@@ -10,10 +10,11 @@ ghost use Rattle.bson_convert.specs.Convert.{newline};
 ghost use Rattle.vbson.specs.Convert.{options_of, order_of};
 ghost use Rattle.vbson.specs.Documents.{Decodes, HasNoText, IsDecoded, IsOneDocument, IsTextOfDocument, IsUndecoded};
 ghost use Rattle.vbson.specs.Documents.{HasNoTextIn, depth};
+ghost use Rattle.vbson.specs.Options.{AreNotForConversion};
 
 use crate::convert::mode_of;
 use crate::direct::{decode_directly, direct_form};
-use crate::flags::{KeyOrder, has_others, options_of, order_of};
+use crate::options::{CallOptions, KeyOrder, are_not_for_conversion, options_of, order_of};
 use crate::status;
 use crate::text::{Text, as_line, text_of_line};
 use bson::extjson::{Form, Options, WriteError};
@@ -22,34 +23,34 @@ use bson_codec::de::{DEPTH, Error, from_slice};
 use bson_convert::mode::Mode;
 use std::alloc::Global;
 
-/// Reads the bytes as one document, and leaves its text in a mode, of those of `vbson_convert`, with
-/// the flags of `vbson_convert_with`. The block of the text is the caller's, who frees it by `free`.
+/// Reads the bytes as one document, and leaves its text in a mode, with the modes and the options of
+/// `vbson_convert_nonnull`. The block of the text is the caller's, who frees it by `free`.
 #[unsafe(no_mangle)]
-pub extern "C" fn vbson_decode(
+pub extern "C" fn vbson_decode_nonnull(
     alloc: Global,
     mode: u32,
-    flags: u32,
+    options: &CallOptions,
     bytes: &[u8],
     out: &mut Text<'static>,
 ) -> u32
-    ensures done { result ≡ 0 → IsDecoded (order_of flags) (options_of flags) mode bytes.now out.new }
-    ensures accepts { (ps : Pairs) → mode ≤ 2 → flags ≤ 3 → IsRead depth bytes.now ps
-        → writable_in (options_of flags).doubles (model.document ps) ≡ true → 0 < result → result ≡ 5 }
+    ensures done { result ≡ 0 → IsDecoded (order_of options.now) (options_of options.now) mode bytes.now out.new }
+    ensures accepts { (ps : Pairs) → IsRead depth bytes.now ps
+        → writable_in (options_of options.now).doubles (model.document ps) ≡ true → 1 < result → result ≡ 5 }
 
     // When each other status comes, and that nothing is left then.
-    ensures no_mode { result ≡ 1 ↔ (2 < mode) ⊎ (3 < flags) }
+    ensures no_mode { result ≡ 1 ↔ (2 < mode) ⊎ AreNotForConversion options.now }
     ensures no_document { result ≡ 10 → IsOneDocument bytes.now → ⊥ }
-    ensures no_text { result ≡ 7 → HasNoText (options_of flags) mode bytes.now }
+    ensures no_text { result ≡ 7 → HasNoText (options_of options.now) mode bytes.now }
     ensures listed { (result ≡ 0) ⊎ (result ≡ 1) ⊎ (result ≡ 5) ⊎ (result ≡ 7) ⊎ (result ≡ 10) }
     ensures kept { 0 < result → out.new ≡ out.old }
 {
-    if has_others(flags) {
+    if are_not_for_conversion(*options) {
         return status::INVALID_ARGUMENT;
     }
     let Some(mode) = mode_of(mode) else {
         return status::INVALID_ARGUMENT;
     };
-    match decode_document(alloc, order_of(flags), options_of(flags), mode, bytes) {
+    match decode_document(alloc, order_of(*options), options_of(*options), mode, bytes) {
         Ok(line) => *out = text_of_line(line),
         Err(status) => return status,
     }

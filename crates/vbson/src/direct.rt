@@ -5,7 +5,7 @@ ghost use Rattle.bson_convert.specs.Convert.{newline};
 ghost use Rattle.vbson.specs.Documents.{IsOneDocument, depth, direct_form};
 
 use crate::decode::end_line;
-use crate::flags::KeyOrder;
+use crate::options::KeyOrder;
 use crate::status;
 use bson::extjson::{Doubles, Form, Options};
 use bson_codec::de::{DEPTH, Error};

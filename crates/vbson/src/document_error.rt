@@ -4,10 +4,11 @@ ghost use Rattle.bson.specs.View.{document_view};
 ghost use Rattle.bson_convert.specs.Convert.{newline};
 ghost use Rattle.vbson.specs.DocumentError.{ArePartsFor, ExplainsDocument, HasDocumentText, IsFinding, IsOfDocument};
 ghost use Rattle.vbson.specs.DocumentError.{SaysOf, code_for, message_for, offset_for, reason_for, unwritten, words_at};
+ghost use Rattle.vbson.specs.Options.{AreInvalid};
 ghost use Rattle.vbson.specs.declared.document_error.Finding.TheVariants.{Nothing};
 
 use crate::explain::{Parts, Rejection, filled, line_of};
-use crate::flags::{ALL, duplicate_keys_of, options_of};
+use crate::options::{CallOptions, are_invalid, duplicate_keys_of, options_of};
 use crate::path::path_line;
 use crate::status;
 use bson::extjson::{Form, Options, WriteError};
@@ -29,34 +30,33 @@ pub enum Finding {
         /// The number of bytes before its place.
         offset: usize,
     },
-    /// The document has a finite double, which the flags do not accept.
+    /// The document has a finite double, which the options do not accept.
     FiniteDouble,
 }
 
 /// Leaves why bytes are not a document that has a text in the two forms, and where; the code 0, and
-/// no words, if they are one. The flags are those of `vbson_explain`; `KEEP_ORDER` and `LEGACY` change
-/// nothing here.
+/// no words, if they are one. All options are accepted; the order of keys and `v1` change nothing here.
 #[unsafe(no_mangle)]
-pub extern "C" fn vbson_explain_document(
+pub extern "C" fn vbson_explain_document_nonnull(
     alloc: Global,
-    flags: u32,
+    options: &CallOptions,
     bytes: &[u8],
     out: &mut Rejection<'static>,
 ) -> u32
-    ensures done { result ≡ 0 → ExplainsDocument flags bytes.now out.new }
+    ensures done { result ≡ 0 → ExplainsDocument options.now bytes.now out.new }
     // The code is 0 if and only if the bytes are a document that has a text.
-    ensures accepted { result ≡ 0 → out.new.code ≡ 0 → HasDocumentText flags bytes.now }
-    ensures accepts { HasDocumentText flags bytes.now → result ≡ 0 → out.new.code ≡ 0 }
+    ensures accepted { result ≡ 0 → out.new.code ≡ 0 → HasDocumentText options.now bytes.now }
+    ensures accepts { HasDocumentText options.now bytes.now → result ≡ 0 → out.new.code ≡ 0 }
 
     // When each other status comes, and that nothing is left then.
-    ensures no_mode { result ≡ 1 ↔ 15 < flags }
+    ensures no_mode { result ≡ 1 ↔ AreInvalid options.now }
     ensures listed { (result ≡ 0) ⊎ (result ≡ 1) ⊎ (result ≡ 5) }
     ensures kept { 0 < result → out.new ≡ out.old }
 {
-    if flags > ALL {
+    if are_invalid(*options) {
         return status::INVALID_ARGUMENT;
     }
-    match explained(alloc, flags, bytes) {
+    match explained(alloc, *options, bytes) {
         Ok(rejection) => *out = rejection,
         // (the path has no segment, so it is not too long)
         Err(_) => return status::OUT_OF_MEMORY,
@@ -64,26 +64,30 @@ pub extern "C" fn vbson_explain_document(
     status::OK
 }
 
-// Explains the bytes, under the flags.
-fn explained(alloc: Global, flags: u32, bytes: &[u8]) -> Result<Rejection<'static>, PathError>
-    ensures said { IfOk result (λ out. ExplainsDocument flags bytes.now out) }
-    ensures accepts { HasDocumentText flags bytes.now → IfOk result (λ out. out.code ≡ 0) }
+// Explains the bytes, under the options.
+fn explained(
+    alloc: Global,
+    options: CallOptions,
+    bytes: &[u8],
+) -> Result<Rejection<'static>, PathError>
+    ensures said { IfOk result (λ out. ExplainsDocument options bytes.now out) }
+    ensures accepts { HasDocumentText options bytes.now → IfOk result (λ out. out.code ≡ 0) }
 {
-    let finding = find(alloc, flags, bytes)?;
+    let finding = find(alloc, options, bytes)?;
     rejection_of(alloc, finding)
 }
 
-// Finds what is wrong with the bytes, under the flags.
-fn find(alloc: Global, flags: u32, bytes: &[u8]) -> Result<Finding, AllocError>
-    ensures found { IfOk result (λ it. IsFinding flags bytes.now it) }
-    ensures accepts { HasDocumentText flags bytes.now → IfOk result (λ it. it ≡ Nothing) }
+// Finds what is wrong with the bytes, under the options.
+fn find(alloc: Global, options: CallOptions, bytes: &[u8]) -> Result<Finding, AllocError>
+    ensures found { IfOk result (λ it. IsFinding options bytes.now it) }
+    ensures accepts { HasDocumentText options bytes.now → IfOk result (λ it. it ≡ Nothing) }
 {
-    let options = ReadOptions {
+    let reading = ReadOptions {
         depth: DEPTH,
-        duplicate_keys: duplicate_keys_of(flags),
+        duplicate_keys: duplicate_keys_of(options),
     };
-    match from_slice_with(alloc, options, bytes) {
-        Ok(document) => find_double(alloc, options_of(flags), document),
+    match from_slice_with(alloc, reading, bytes) {
+        Ok(document) => find_double(alloc, options_of(options), document),
         Err(Error::Malformed { kind, offset }) => Ok(Finding::Malformed { kind, offset }),
         Err(Error::OutOfMemory) => Err(AllocError),
     }

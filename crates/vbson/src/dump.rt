@@ -5,9 +5,10 @@ ghost use Rattle.bson_codec.specs.declared.documents.Run.{Run};
 ghost use Rattle.bson_convert.specs.Convert.{newline};
 ghost use Rattle.vbson.specs.Convert.{options_of, order_of};
 ghost use Rattle.vbson.specs.Dumps.{AreDecoded, EndsAs, GivesDocuments, line_of, run_of};
+ghost use Rattle.vbson.specs.Options.{AreNotForConversion};
 
 use crate::convert::mode_of;
-use crate::flags::{KeyOrder, has_others, options_of, order_of};
+use crate::options::{CallOptions, KeyOrder, are_not_for_conversion, options_of, order_of};
 use crate::status;
 use crate::text::{Text, as_line, text_of_line};
 use bson::extjson::{Form, Options};
@@ -33,27 +34,27 @@ pub struct Documents<'a> {
 /// there are not as many bytes as it begins with is the last. The blocks of both texts are the
 /// caller's, who frees them by `free`.
 #[unsafe(no_mangle)]
-pub extern "C" fn vbson_decode_documents(
+pub extern "C" fn vbson_decode_documents_nonnull(
     alloc: Global,
     mode: u32,
-    flags: u32,
+    options: &CallOptions,
     block: &[u8],
     out: &mut Documents<'static>,
 ) -> u32
-    ensures done { result ≡ 0 → AreDecoded (order_of flags) (options_of flags) mode block.now out.new }
+    ensures done { result ≡ 0 → AreDecoded (order_of options.now) (options_of options.now) mode block.now out.new }
 
     // When each other status comes, and that nothing is left then.
-    ensures no_mode { result ≡ 1 ↔ (2 < mode) ⊎ (3 < flags) }
+    ensures no_mode { result ≡ 1 ↔ (2 < mode) ⊎ AreNotForConversion options.now }
     ensures listed { (result ≡ 0) ⊎ (result ≡ 1) ⊎ (result ≡ 5) }
     ensures kept { 0 < result → out.new ≡ out.old }
 {
-    if has_others(flags) {
+    if are_not_for_conversion(*options) {
         return status::INVALID_ARGUMENT;
     }
     let Some(mode) = mode_of(mode) else {
         return status::INVALID_ARGUMENT;
     };
-    let run = run_of(order_of(flags), options_of(flags), mode);
+    let run = run_of(order_of(*options), options_of(*options), mode);
     let Some(given) = decode_block(alloc, run, block) else {
         return status::OUT_OF_MEMORY;
     };

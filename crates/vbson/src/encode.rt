@@ -11,10 +11,11 @@ ghost use Rattle.bson_convert.specs.Convert.{newline};
 ghost use Rattle.vbson.specs.Convert.{HasNoMeaningIn, IsBad, IsBadId, options_of, order_of};
 ghost use Rattle.vbson.specs.Documents.{Encodes, HasNoBytes, IsEncoded, IsUnencoded, IsUnencodedBy};
 ghost use Rattle.vbson.specs.Documents.{MeansNoDocument};
-ghost use Rattle.vbson.specs.declared.flags.KeyOrder.TheVariants as orders;
+ghost use Rattle.vbson.specs.Options.{AreNotForConversion};
+ghost use Rattle.vbson.specs.declared.options.KeyOrder.TheVariants as orders;
 
 use crate::convert::status_of;
-use crate::flags::{KeyOrder, has_others, options_of, order_of};
+use crate::options::{CallOptions, KeyOrder, are_not_for_conversion, options_of, order_of};
 use crate::status;
 use crate::text::{Text, as_line, text_of_line};
 use bson::extjson::Options;
@@ -22,41 +23,39 @@ use bson_convert::error::Error;
 use bson_run::encode::{encode_in_order, encode_with};
 use std::alloc::Global;
 
-/// Leaves the canonical bytes of the document that a text of Extended JSON means, with the flags of
-/// `vbson_convert_with`: its keys in ascending order, as `vbson_convert` has them, or in that of the
-/// text. The block of the bytes, which has a NUL behind them, is the caller's, who frees it by
-/// `free`.
+/// Leaves the canonical bytes of the document that a text of Extended JSON means, with the options of
+/// `vbson_convert_nonnull`. The block of the bytes, which has a NUL behind them, is the caller's, who
+/// frees it by `free`.
 #[unsafe(no_mangle)]
-pub extern "C" fn vbson_encode(
+pub extern "C" fn vbson_encode_nonnull(
     alloc: Global,
-    flags: u32,
+    options: &CallOptions,
     text: &[u8],
     out: &mut Text<'static>,
 ) -> u32
-    ensures done { result ≡ 0 → IsEncoded (order_of flags) (options_of flags) text.now out.new }
-    ensures accepts { (tree : Data) (ps : Pairs) → flags ≤ 1 → IsTextOf text.now tree
-        → MeansIn (options_of flags).doubles tree (model.document ps) → FitsDocument ps → 0 < result → result ≡ 5 }
-
-    ensures accepts_in_order { (ps : Pairs) → 1 < flags → flags ≤ 3 → IsUtf8 text.now
-        → HasMeaningInOrder (options_of flags).doubles text.now (model.document ps) → FitsDocument ps → 0 < result
+    ensures done { result ≡ 0 → IsEncoded (order_of options.now) (options_of options.now) text.now out.new }
+    ensures accepts { (tree : Data) (ps : Pairs) → order_of options.now ≡ orders.Ascending → IsTextOf text.now tree
+        → MeansIn (options_of options.now).doubles tree (model.document ps) → FitsDocument ps → 1 < result → result ≡ 5 }
+    ensures accepts_in_order { (ps : Pairs) → order_of options.now ≡ orders.AsGiven → IsUtf8 text.now
+        → HasMeaningInOrder (options_of options.now).doubles text.now (model.document ps) → FitsDocument ps → 1 < result
         → result ≡ 5 }
 
     // When each other status comes, and that nothing is left then.
-    ensures no_mode { result ≡ 1 ↔ 3 < flags }
+    ensures no_mode { result ≡ 1 ↔ AreNotForConversion options.now }
     ensures not_json { result ≡ 2 → IsNoText text.now }
-    ensures bad_object_id { result ≡ 3 → HasNoMeaningIn (options_of flags) IsBadId text.now }
-    ensures not_extended_json { result ≡ 4 → HasNoMeaningIn (options_of flags) IsBad text.now }
-    ensures no_document { result ≡ 10 → MeansNoDocument (order_of flags) (options_of flags) text.now }
-    ensures zero_key { result ≡ 11 → HasNoBytes (order_of flags) (options_of flags) zero_in_key text.now }
-    ensures zero_regex { result ≡ 12 → HasNoBytes (order_of flags) (options_of flags) zero_in_regex text.now }
-    ensures long { result ≡ 13 → HasNoBytes (order_of flags) (options_of flags) too_long text.now }
+    ensures bad_object_id { result ≡ 3 → HasNoMeaningIn (options_of options.now) IsBadId text.now }
+    ensures not_extended_json { result ≡ 4 → HasNoMeaningIn (options_of options.now) IsBad text.now }
+    ensures no_document { result ≡ 10 → MeansNoDocument (order_of options.now) (options_of options.now) text.now }
+    ensures zero_key { result ≡ 11 → HasNoBytes (order_of options.now) (options_of options.now) zero_in_key text.now }
+    ensures zero_regex { result ≡ 12 → HasNoBytes (order_of options.now) (options_of options.now) zero_in_regex text.now }
+    ensures long { result ≡ 13 → HasNoBytes (order_of options.now) (options_of options.now) too_long text.now }
     ensures listed { (result ≤ 5) ⊎ ((10 ≤ result) × (result ≤ 13)) }
     ensures kept { 0 < result → out.new ≡ out.old }
 {
-    if has_others(flags) {
+    if are_not_for_conversion(*options) {
         return status::INVALID_ARGUMENT;
     }
-    match encode_text(alloc, order_of(flags), options_of(flags), text) {
+    match encode_text(alloc, order_of(*options), options_of(*options), text) {
         Ok(line) => *out = text_of_line(line),
         Err(status) => return status,
     }

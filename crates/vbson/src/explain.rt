@@ -6,11 +6,12 @@ ghost use Rattle.bson_convert.specs.Words.{words_of};
 ghost use Rattle.bson_place.specs.Place.{segment_of};
 ghost use Rattle.vbson.specs.Explain.{ArePartsOf, Explains, ExplainsRead, IsError, IsLong, IsLongPath, IsMadeOf, IsTooLong, IsUnexplained, Says};
 ghost use Rattle.vbson.specs.Explain.{code_in, column_in, line_in, offset_in, path_in, reason_in};
+ghost use Rattle.vbson.specs.Options.{AreInvalid};
 ghost use Rattle.vbson.specs.Reading.{MeansUnder};
 ghost use Rattle.bson_bytes.specs.declared.error.Error.TheVariants as sizes;
 ghost use Rattle.bson_run.specs.declared.explain.Explanation.TheVariants as explained;
 
-use crate::flags::{ALL, options_of, preprocessing_of};
+use crate::options::{CallOptions, are_invalid, options_of, preprocessing_of};
 use crate::path::path_line;
 use crate::reading::preprocess;
 use crate::status;
@@ -47,33 +48,33 @@ pub struct Rejection<'a> {
     pub message: Text<'a>,
 }
 
-/// Leaves why a text is refused, and where; the code 0, and no words, if it is accepted. The flags
-/// are those of `vbson_convert_with` and `vbson_same`, whose status this explains; `KEEP_ORDER`
-/// changes nothing here.
+/// Leaves why a text is refused, and where; the code 0, and no words, if it is accepted. All options
+/// are accepted. This explains the status of `vbson_convert_nonnull` and `vbson_same_nonnull`; the
+/// order of keys changes nothing here.
 #[unsafe(no_mangle)]
-pub extern "C" fn vbson_explain(
+pub extern "C" fn vbson_explain_nonnull(
     alloc: Global,
-    flags: u32,
+    options: &CallOptions,
     text: &[u8],
     out: &mut Rejection<'static>,
 ) -> u32
-    ensures done { result ≡ 0 → Explains flags text.now out.new }
+    ensures done { result ≡ 0 → Explains options.now text.now out.new }
     // The code is 0 if and only if the text means a value.
-    ensures accepted { result ≡ 0 → out.new.code ≡ 0 → (value : Value) × MeansUnder flags text.now value }
-    ensures accepts { (value : Value) → MeansUnder flags text.now value → result ≡ 0 → out.new.code ≡ 0 }
+    ensures accepted { result ≡ 0 → out.new.code ≡ 0 → (value : Value) × MeansUnder options.now text.now value }
+    ensures accepts { (value : Value) → MeansUnder options.now text.now value → result ≡ 0 → out.new.code ≡ 0 }
 
     // When each other status comes, and that nothing is left then.
-    ensures no_mode { result ≡ 1 ↔ 15 < flags }
-    ensures long { result ≡ 13 → IsTooLong flags text.now }
+    ensures no_mode { result ≡ 1 ↔ AreInvalid options.now }
+    ensures long { result ≡ 13 → IsTooLong options.now text.now }
     ensures listed { (result ≡ 0) ⊎ (result ≡ 1) ⊎ (result ≡ 5) ⊎ (result ≡ 13) }
     ensures kept { 0 < result → out.new ≡ out.old }
 {
-    if flags > ALL {
+    if are_invalid(*options) {
         return status::INVALID_ARGUMENT;
     }
     // A law: no text with a duplicate key has unique keys.
     one_double();
-    match explained(alloc, flags, text) {
+    match explained(alloc, *options, text) {
         Ok(rejection) => *out = rejection,
         Err(PathError::OutOfMemory) => return status::OUT_OF_MEMORY,
         Err(_) => return status::TOO_LONG,
@@ -81,14 +82,18 @@ pub extern "C" fn vbson_explain(
     status::OK
 }
 
-// Explains the text, under the flags.
-fn explained(alloc: Global, flags: u32, text: &[u8]) -> Result<Rejection<'static>, PathError>
-    ensures said { IfOk result (λ out. Explains flags text.now out) }
-    ensures long { IfErr result (λ e. e ≢ sizes.OutOfMemory → IsTooLong flags text.now) }
+// Explains the text, under the options.
+fn explained(
+    alloc: Global,
+    options: CallOptions,
+    text: &[u8],
+) -> Result<Rejection<'static>, PathError>
+    ensures said { IfOk result (λ out. Explains options text.now out) }
+    ensures long { IfErr result (λ e. e ≢ sizes.OutOfMemory → IsTooLong options text.now) }
 {
-    match preprocess(alloc, preprocessing_of(flags), text) {
-        Ok(Some(newer)) => explained_read(alloc, options_of(flags), newer.as_bytes()),
-        Ok(None) => explained_read(alloc, options_of(flags), text),
+    match preprocess(alloc, preprocessing_of(options), text) {
+        Ok(Some(newer)) => explained_read(alloc, options_of(options), newer.as_bytes()),
+        Ok(None) => explained_read(alloc, options_of(options), text),
         Err(fault) if fault.is_memory() => Err(PathError::OutOfMemory),
         Err(fault) => rejected(alloc, &fault, text),
     }

@@ -4,7 +4,7 @@
 //! Every call reads what it is handed for its own time only, keeps nothing between calls, requires
 //! nothing beyond its types, and answers a number of `status`: 0 where it did what it is for. On
 //! any other number an out parameter is as it was, except where its call says more. In reading
-//! order: `status`, `flags`, `text` (a text that the caller has and frees) with `convert` (one text
+//! order: `status`, `options`, `text` (a text that the caller has and frees) with `convert` (one text
 //! to another), `explain` (why a text is refused, and where) with `path` (the bytes of a path) and `lines` (a block of lines), `values` (two texts by what they
 //! mean), `documents` (whether bytes are a document of BSON) with `document_error` (why not), `decode`
 //! (their text) with `direct` (what needs no document in memory), `encode`
@@ -24,8 +24,8 @@ mod documents;
 mod dump;
 mod encode;
 mod explain;
-mod flags;
 mod lines;
+mod options;
 mod path;
 mod raw;
 mod reading;

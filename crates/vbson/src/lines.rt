@@ -3,9 +3,10 @@ ghost use Rattle.std.specs.Prelude.{◌≡◌, ◌⊎◌, ◌↔◌, ◌<◌, �
 ghost use Rattle.bson_convert.specs.Convert.{newline};
 ghost use Rattle.vbson.specs.Convert.{options_of, order_of};
 ghost use Rattle.vbson.specs.Lines.{AreConverted, AreEncoded, AreGiven, GivesLines, encoding_of, task_of};
+ghost use Rattle.vbson.specs.Options.{AreNotForConversion};
 
 use crate::convert::mode_of;
-use crate::flags::{KeyOrder, has_others, options_of, order_of};
+use crate::options::{CallOptions, KeyOrder, are_not_for_conversion, options_of, order_of};
 use crate::status;
 use crate::text::{Text, as_line, text_of_line};
 use bson::extjson::Options;
@@ -29,28 +30,28 @@ pub struct Lines<'a> {
 /// line each, in their order, and a line on each that is refused, with its number and place. The
 /// blocks of both texts are the caller's, who frees them by `free`.
 #[unsafe(no_mangle)]
-pub extern "C" fn vbson_convert_lines(
+pub extern "C" fn vbson_convert_lines_nonnull(
     alloc: Global,
     mode: u32,
-    flags: u32,
+    options: &CallOptions,
     block: &[u8],
     out: &mut Lines<'static>,
 ) -> u32
-    ensures done { result ≡ 0 → AreConverted (order_of flags) (options_of flags) mode block.now out.new }
+    ensures done { result ≡ 0 → AreConverted (order_of options.now) (options_of options.now) mode block.now out.new }
 
     // When each other status comes, and that nothing is left then.
-    ensures no_mode { result ≡ 1 ↔ (2 < mode) ⊎ (3 < flags) }
+    ensures no_mode { result ≡ 1 ↔ (2 < mode) ⊎ AreNotForConversion options.now }
     ensures listed { (result ≡ 0) ⊎ (result ≡ 1) ⊎ (result ≡ 5) }
     ensures kept { 0 < result → out.new ≡ out.old }
 {
-    if has_others(flags) {
+    if are_not_for_conversion(*options) {
         return status::INVALID_ARGUMENT;
     }
     let Some(mode) = mode_of(mode) else {
         return status::INVALID_ARGUMENT;
     };
-    let task = task_of(order_of(flags), mode);
-    let Some(lines) = lines_of(alloc, options_of(flags), task, block) else {
+    let task = task_of(order_of(*options), mode);
+    let Some(lines) = lines_of(alloc, options_of(*options), task, block) else {
         return status::OUT_OF_MEMORY;
     };
     *out = lines;
@@ -62,24 +63,24 @@ pub extern "C" fn vbson_convert_lines(
 /// its number and place. The block of the bytes, which has a NUL behind them, and that of the text
 /// are the caller's, who frees them by `free`.
 #[unsafe(no_mangle)]
-pub extern "C" fn vbson_encode_lines(
+pub extern "C" fn vbson_encode_lines_nonnull(
     alloc: Global,
-    flags: u32,
+    options: &CallOptions,
     block: &[u8],
     out: &mut Lines<'static>,
 ) -> u32
-    ensures done { result ≡ 0 → AreEncoded (order_of flags) (options_of flags) block.now out.new }
+    ensures done { result ≡ 0 → AreEncoded (order_of options.now) (options_of options.now) block.now out.new }
 
     // When each other status comes, and that nothing is left then.
-    ensures no_mode { result ≡ 1 ↔ 3 < flags }
+    ensures no_mode { result ≡ 1 ↔ AreNotForConversion options.now }
     ensures listed { (result ≡ 0) ⊎ (result ≡ 1) ⊎ (result ≡ 5) }
     ensures kept { 0 < result → out.new ≡ out.old }
 {
-    if has_others(flags) {
+    if are_not_for_conversion(*options) {
         return status::INVALID_ARGUMENT;
     }
-    let task = encoding_of(order_of(flags));
-    let Some(encoded) = lines_of(alloc, options_of(flags), task, block) else {
+    let task = encoding_of(order_of(*options));
+    let Some(encoded) = lines_of(alloc, options_of(*options), task, block) else {
         return status::OUT_OF_MEMORY;
     };
     *out = encoded;

@@ -1,4 +1,4 @@
-//! The value that flags read from a text, or from the bytes of a document.
+//! The value that options read from a text, or from the bytes of a document.
 ghost use Rattle.std.specs.Prelude.{◌≡◌, ◌⊎◌, IfOk, IfErr};
 ghost use Rattle.bson.specs.TextMeaning.{HasTextMeaningIn};
 ghost use Rattle.bson.specs.View.{bson_view};
@@ -8,7 +8,7 @@ ghost use Rattle.vbson.specs.Reading.{IsDocumentUnder, IsReadAs, IsUnread, IsWit
 ghost use Rattle.vbson.specs.Reading.{IsWithoutDocument, MeansUnder};
 
 use crate::convert::status_of;
-use crate::flags::{duplicate_keys_of, options_of, preprocessing_of};
+use crate::options::{CallOptions, duplicate_keys_of, options_of, preprocessing_of};
 use crate::status;
 use bson::Bson;
 use bson::extjson::Options;
@@ -31,16 +31,16 @@ use std::alloc::Global;
 /// - `BAD_OBJECT_ID`: the first fault is an invalid object id.
 /// - `NOT_EXTENDED_JSON`: the text has another first fault, or preprocessing rejects it.
 /// - `OUT_OF_MEMORY`: an allocation failed.
-pub fn value_of_text(alloc: Global, flags: u32, text: &[u8]) -> Result<Bson, u32>
-    ensures ok { IfOk result (λ value. MeansUnder flags text.now (bson_view value)) }
-    ensures one { (value : Value) → MeansUnder flags text.now value → IfOk result (λ v. value ≡ bson_view v) }
-    ensures rejected { IfErr result (λ status. IsWithoutValue flags status text.now) }
+pub fn value_of_text(alloc: Global, options: CallOptions, text: &[u8]) -> Result<Bson, u32>
+    ensures ok { IfOk result (λ value. MeansUnder options text.now (bson_view value)) }
+    ensures one { (value : Value) → MeansUnder options text.now value → IfOk result (λ v. value ≡ bson_view v) }
+    ensures rejected { IfErr result (λ status. IsWithoutValue options status text.now) }
 {
     // A law: no text with a duplicate key has unique keys.
     one_double();
-    match preprocess(alloc, preprocessing_of(flags), text) {
-        Ok(Some(newer)) => meaning_of(alloc, options_of(flags), newer.as_bytes()),
-        Ok(None) => meaning_of(alloc, options_of(flags), text),
+    match preprocess(alloc, preprocessing_of(options), text) {
+        Ok(Some(newer)) => meaning_of(alloc, options_of(options), newer.as_bytes()),
+        Ok(None) => meaning_of(alloc, options_of(options), text),
         Err(fault) if fault.is_memory() => Err(status::OUT_OF_MEMORY),
         Err(_) => Err(status::NOT_EXTENDED_JSON),
     }
@@ -83,19 +83,19 @@ fn meaning_of(alloc: Global, options: Options, bytes: &[u8]) -> Result<Bson, u32
 ///
 /// # Errors
 ///
-/// - `NOT_A_DOCUMENT`: the bytes are not a document, or have a duplicate key that the flags reject.
+/// - `NOT_A_DOCUMENT`: the bytes are not a document, or have a duplicate key that the options reject.
 /// - `OUT_OF_MEMORY`: an allocation failed.
-pub fn value_of_document(alloc: Global, flags: u32, bytes: &[u8]) -> Result<Bson, u32>
-    ensures ok { IfOk result (λ value. IsDocumentUnder flags bytes.now (bson_view value)) }
-    ensures one { (value : Value) → IsDocumentUnder flags bytes.now value
+pub fn value_of_document(alloc: Global, options: CallOptions, bytes: &[u8]) -> Result<Bson, u32>
+    ensures ok { IfOk result (λ value. IsDocumentUnder options bytes.now (bson_view value)) }
+    ensures one { (value : Value) → IsDocumentUnder options bytes.now value
         → IfOk result (λ v. value ≡ bson_view v) }
-    ensures rejected { IfErr result (λ status. IsWithoutDocument flags status bytes.now) }
+    ensures rejected { IfErr result (λ status. IsWithoutDocument options status bytes.now) }
 {
-    let options = ReadOptions {
+    let reading = ReadOptions {
         depth: DEPTH,
-        duplicate_keys: duplicate_keys_of(flags),
+        duplicate_keys: duplicate_keys_of(options),
     };
-    match from_slice_with(alloc, options, bytes) {
+    match from_slice_with(alloc, reading, bytes) {
         Ok(document) => Ok(Bson::Document(document)),
         Err(de::Error::Malformed { .. }) => Err(status::NOT_A_DOCUMENT),
         Err(de::Error::OutOfMemory) => Err(status::OUT_OF_MEMORY),

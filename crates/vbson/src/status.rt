@@ -3,7 +3,7 @@
 /// The call did its work.
 pub const OK: u32 = 0;
 
-/// The mode is not a mode, or a bit of the flags is not a flag.
+/// The mode is not a mode, or the call does not accept the options.
 pub const INVALID_ARGUMENT: u32 = 1;
 
 /// The bytes are not one JSON text.

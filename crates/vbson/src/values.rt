@@ -1,13 +1,14 @@
 //! Values that are compared and hashed.
-ghost use Rattle.std.specs.Prelude.{◌≡◌, ◌⊎◌, ◌↔◌, ◌<◌, ◌≤◌, ◌/◌, ◌%◌, true, false};
+ghost use Rattle.std.specs.Prelude.{◌≡◌, ◌⊎◌, ◌↔◌, ◌<◌, ◌≤◌, true, false};
 ghost use Rattle.bson.specs.View.{bson_view};
 ghost use Rattle.bson_model.specs.Same.{same};
 ghost use Rattle.bson_model.specs.Value.{Value};
+ghost use Rattle.vbson.specs.Options.{AreNotForReading};
 ghost use Rattle.vbson.specs.Reading.{HasBadIdUnder, IsBadUnder, IsDocumentUnder, IsNoDocumentUnder};
 ghost use Rattle.vbson.specs.Reading.{IsNoTextUnder, MeansUnder};
 ghost use Rattle.vbson.specs.Values.{Compare, IsHashOf, RejectsOne, hash_of, verdict};
 
-use crate::flags::has_more_than_reading;
+use crate::options::{CallOptions, are_not_for_reading};
 use crate::reading::{value_of_document, value_of_text};
 use crate::status;
 use bson::Bson;
@@ -18,56 +19,66 @@ use std::hash::{DefaultHasher, Hash, Hasher};
 /// element by element, and documents with the same keys and the same values under each, in any
 /// order. Returns `DIFFERENT` if they are not.
 ///
-/// The first text is read first: its fault is returned if both have one. The flags are `DOUBLES`,
-/// `REJECT_DUPLICATE_KEYS` and `LEGACY`.
+/// The first text is read first: its fault is returned if both have one. The options may request
+/// finite doubles, that duplicate keys are rejected, and Extended JSON v1, and no order of keys.
 #[unsafe(no_mangle)]
-pub extern "C" fn vbson_same(alloc: Global, flags: u32, a: &[u8], b: &[u8]) -> u32
-    ensures same { result ≡ 0 → Compare (MeansUnder flags) a.now b.now true }
-    ensures different { result ≡ 9 → Compare (MeansUnder flags) a.now b.now false }
-    ensures accepts { (v w : Value) → MeansUnder flags a.now v → MeansUnder flags b.now w
+pub extern "C" fn vbson_same_nonnull(
+    alloc: Global,
+    options: &CallOptions,
+    a: &[u8],
+    b: &[u8],
+) -> u32
+    ensures same { result ≡ 0 → Compare (MeansUnder options.now) a.now b.now true }
+    ensures different { result ≡ 9 → Compare (MeansUnder options.now) a.now b.now false }
+    ensures accepts { (v w : Value) → MeansUnder options.now a.now v → MeansUnder options.now b.now w
         → (result ≡ verdict (same v w)) ⊎ (result ≡ 1) ⊎ (result ≡ 5) }
 
     // When each other status comes.
-    ensures no_mode { result ≡ 1 ↔ (15 < flags) ⊎ (flags / 2 % 2 ≡ 1) }
-    ensures not_json { result ≡ 2 → RejectsOne (MeansUnder flags) (IsNoTextUnder flags) a.now b.now }
-    ensures bad_object_id { result ≡ 3 → RejectsOne (MeansUnder flags) (HasBadIdUnder flags) a.now b.now }
-    ensures not_extended_json { result ≡ 4 → RejectsOne (MeansUnder flags) (IsBadUnder flags) a.now b.now }
+    ensures no_mode { result ≡ 1 ↔ AreNotForReading options.now }
+    ensures not_json { result ≡ 2 → RejectsOne (MeansUnder options.now) (IsNoTextUnder options.now) a.now b.now }
+    ensures bad_object_id { result ≡ 3 → RejectsOne (MeansUnder options.now) (HasBadIdUnder options.now) a.now b.now }
+    ensures not_extended_json { result ≡ 4 → RejectsOne (MeansUnder options.now) (IsBadUnder options.now) a.now b.now }
     ensures listed { (result ≤ 5) ⊎ (result ≡ 9) }
 {
-    if has_more_than_reading(flags) {
+    if are_not_for_reading(*options) {
         return status::INVALID_ARGUMENT;
     }
-    let left = match value_of_text(alloc, flags, a) {
+    let left = match value_of_text(alloc, *options, a) {
         Ok(value) => value,
         Err(status) => return status,
     };
-    match value_of_text(alloc, flags, b) {
+    match value_of_text(alloc, *options, b) {
         Ok(right) => compare(&left, &right),
         Err(status) => status,
     }
 }
 
-/// Computes the hash of the value of a text. Texts that `vbson_same` finds the same have one hash:
-/// the value's words in SipHash-1-3 with both keys 0. Whoever chooses the texts can choose many of
+/// Computes the hash of the value of a text. Texts that `vbson_same_nonnull` finds the same have one
+/// hash: /// the value's words in SipHash-1-3 with both keys 0. Whoever chooses the texts can choose many of
 /// one hash.
 #[unsafe(no_mangle)]
-pub extern "C" fn vbson_hash(alloc: Global, flags: u32, text: &[u8], out: &mut u64) -> u32
-    ensures done { result ≡ 0 → IsHashOf (MeansUnder flags) text.now out.new }
-    ensures accepts { (v : Value) → MeansUnder flags text.now v
+pub extern "C" fn vbson_hash_nonnull(
+    alloc: Global,
+    options: &CallOptions,
+    text: &[u8],
+    out: &mut u64,
+) -> u32
+    ensures done { result ≡ 0 → IsHashOf (MeansUnder options.now) text.now out.new }
+    ensures accepts { (v : Value) → MeansUnder options.now text.now v
         → ((result ≡ 0) × (out.new ≡ hash_of v)) ⊎ (result ≡ 1) ⊎ (result ≡ 5) }
 
     // When each other status comes, and that nothing is written then.
-    ensures no_mode { result ≡ 1 ↔ (15 < flags) ⊎ (flags / 2 % 2 ≡ 1) }
-    ensures not_json { result ≡ 2 → IsNoTextUnder flags text.now }
-    ensures bad_object_id { result ≡ 3 → HasBadIdUnder flags text.now }
-    ensures not_extended_json { result ≡ 4 → IsBadUnder flags text.now }
+    ensures no_mode { result ≡ 1 ↔ AreNotForReading options.now }
+    ensures not_json { result ≡ 2 → IsNoTextUnder options.now text.now }
+    ensures bad_object_id { result ≡ 3 → HasBadIdUnder options.now text.now }
+    ensures not_extended_json { result ≡ 4 → IsBadUnder options.now text.now }
     ensures listed { result ≤ 5 }
     ensures kept { 0 < result → out.new ≡ out.old }
 {
-    if has_more_than_reading(flags) {
+    if are_not_for_reading(*options) {
         return status::INVALID_ARGUMENT;
     }
-    match value_of_text(alloc, flags, text) {
+    match value_of_text(alloc, *options, text) {
         Ok(value) => {
             *out = hash_of(&value);
             status::OK
@@ -76,52 +87,62 @@ pub extern "C" fn vbson_hash(alloc: Global, flags: u32, text: &[u8], out: &mut u
     }
 }
 
-/// Compares two documents by their bytes, as `vbson_same` compares the values of texts. A finite
-/// double needs no flag; only `REJECT_DUPLICATE_KEYS` changes what is accepted.
+/// Compares two documents by their bytes, as `vbson_same_nonnull` compares the values of texts. A
+/// finite double needs no option; only `duplicate_keys` changes what is accepted.
 #[unsafe(no_mangle)]
-pub extern "C" fn vbson_same_documents(alloc: Global, flags: u32, a: &[u8], b: &[u8]) -> u32
-    ensures same { result ≡ 0 → Compare (IsDocumentUnder flags) a.now b.now true }
-    ensures different { result ≡ 9 → Compare (IsDocumentUnder flags) a.now b.now false }
-    ensures accepts { (v w : Value) → IsDocumentUnder flags a.now v → IsDocumentUnder flags b.now w
+pub extern "C" fn vbson_same_documents_nonnull(
+    alloc: Global,
+    options: &CallOptions,
+    a: &[u8],
+    b: &[u8],
+) -> u32
+    ensures same { result ≡ 0 → Compare (IsDocumentUnder options.now) a.now b.now true }
+    ensures different { result ≡ 9 → Compare (IsDocumentUnder options.now) a.now b.now false }
+    ensures accepts { (v w : Value) → IsDocumentUnder options.now a.now v → IsDocumentUnder options.now b.now w
         → (result ≡ verdict (same v w)) ⊎ (result ≡ 1) ⊎ (result ≡ 5) }
 
     // When each other status comes.
-    ensures no_mode { result ≡ 1 ↔ (15 < flags) ⊎ (flags / 2 % 2 ≡ 1) }
+    ensures no_mode { result ≡ 1 ↔ AreNotForReading options.now }
     ensures no_document { result ≡ 10
-        → RejectsOne (IsDocumentUnder flags) (IsNoDocumentUnder flags) a.now b.now }
+        → RejectsOne (IsDocumentUnder options.now) (IsNoDocumentUnder options.now) a.now b.now }
     ensures listed { (result ≤ 1) ⊎ (result ≡ 5) ⊎ (result ≡ 9) ⊎ (result ≡ 10) }
 {
-    if has_more_than_reading(flags) {
+    if are_not_for_reading(*options) {
         return status::INVALID_ARGUMENT;
     }
-    let left = match value_of_document(alloc, flags, a) {
+    let left = match value_of_document(alloc, *options, a) {
         Ok(document) => document,
         Err(status) => return status,
     };
-    match value_of_document(alloc, flags, b) {
+    match value_of_document(alloc, *options, b) {
         Ok(right) => compare(&left, &right),
         Err(status) => status,
     }
 }
 
-/// Computes the hash of a document by its bytes: the hash that `vbson_hash` returns for a text of
-/// the same value. The flags are those of `vbson_same_documents`.
+/// Computes the hash of a document by its bytes: the hash that `vbson_hash_nonnull` returns for a
+/// text of the same value. The options are those of `vbson_same_documents_nonnull`.
 #[unsafe(no_mangle)]
-pub extern "C" fn vbson_hash_document(alloc: Global, flags: u32, bytes: &[u8], out: &mut u64) -> u32
-    ensures done { result ≡ 0 → IsHashOf (IsDocumentUnder flags) bytes.now out.new }
-    ensures accepts { (v : Value) → IsDocumentUnder flags bytes.now v
+pub extern "C" fn vbson_hash_document_nonnull(
+    alloc: Global,
+    options: &CallOptions,
+    bytes: &[u8],
+    out: &mut u64,
+) -> u32
+    ensures done { result ≡ 0 → IsHashOf (IsDocumentUnder options.now) bytes.now out.new }
+    ensures accepts { (v : Value) → IsDocumentUnder options.now bytes.now v
         → ((result ≡ 0) × (out.new ≡ hash_of v)) ⊎ (result ≡ 1) ⊎ (result ≡ 5) }
 
     // When each other status comes, and that nothing is written then.
-    ensures no_mode { result ≡ 1 ↔ (15 < flags) ⊎ (flags / 2 % 2 ≡ 1) }
-    ensures no_document { result ≡ 10 → IsNoDocumentUnder flags bytes.now }
+    ensures no_mode { result ≡ 1 ↔ AreNotForReading options.now }
+    ensures no_document { result ≡ 10 → IsNoDocumentUnder options.now bytes.now }
     ensures listed { (result ≤ 1) ⊎ (result ≡ 5) ⊎ (result ≡ 10) }
     ensures kept { 0 < result → out.new ≡ out.old }
 {
-    if has_more_than_reading(flags) {
+    if are_not_for_reading(*options) {
         return status::INVALID_ARGUMENT;
     }
-    match value_of_document(alloc, flags, bytes) {
+    match value_of_document(alloc, *options, bytes) {
         Ok(document) => {
             *out = hash_of(&document);
             status::OK

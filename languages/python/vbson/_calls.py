@@ -12,6 +12,21 @@ BUILT, INSTALLED = f"{os.path.dirname(os.path.dirname(HERE))}/out/lib", f"{HERE}
 OK = 0
 
 
+class Options(ctypes.Structure):
+    _fields_ = [("size", ctypes.c_size_t), ("doubles", ctypes.c_uint32), ("key_order", ctypes.c_uint32),
+                ("duplicate_keys", ctypes.c_uint32), ("v1", ctypes.c_uint32)]
+
+    @classmethod
+    def from_param(cls, flags):
+        """Returns the argument of a call for the flags of _options."""
+        return ctypes.byref(OPTIONS[flags])
+
+
+# The options for each of these flags, whose bits are in the order of the fields.
+OPTIONS = [Options(ctypes.sizeof(Options), *(flags >> bit & 1 for bit in range(4))) for flags in range(16)]
+OPTIONS_AT = [*map(ctypes.addressof, OPTIONS)]
+
+
 class Buffer(ctypes.Structure):
     _fields_ = [("bytes", ctypes.c_void_p), ("size", ctypes.c_size_t), ("len", ctypes.c_size_t)]
 
@@ -65,14 +80,14 @@ def loaded():
     number, size, text, out = ctypes.c_uint32, ctypes.c_size_t, ctypes.c_char_p, ctypes.POINTER
     # (a text goes in with its length; a char pointer of Python's bytes is never null)
     parameters = {
-        "version": [], "convert_with": [number, number, text, size, out(Buffer)],
-        "convert_lines": [number, number, text, size, out(Lines)], "encode_lines": [number, text, size, out(Lines)],
-        "decode_documents": [number, number, text, size, out(Documents)],
-        "explain": [number, text, size, out(Error)], "same": [number, text, size, text, size],
-        "hash": [number, text, size, out(ctypes.c_uint64)], "same_documents": [number, text, size, text, size],
-        "hash_document": [number, text, size, out(ctypes.c_uint64)],
-        "is_document": [text, size], "explain_document": [number, text, size, out(Error)],
-        "decode": [number, number, text, size, out(Buffer)], "encode": [number, text, size, out(Buffer)],
+        "version": [], "convert": [number, Options, text, size, out(Buffer)],
+        "convert_lines": [number, Options, text, size, out(Lines)], "encode_lines": [Options, text, size, out(Lines)],
+        "decode_documents": [number, Options, text, size, out(Documents)],
+        "explain": [Options, text, size, out(Error)], "same": [Options, text, size, text, size],
+        "hash": [Options, text, size, out(ctypes.c_uint64)], "same_documents": [Options, text, size, text, size],
+        "hash_document": [Options, text, size, out(ctypes.c_uint64)],
+        "is_document": [text, size], "explain_document": [Options, text, size, out(Error)],
+        "decode": [number, Options, text, size, out(Buffer)], "encode": [Options, text, size, out(Buffer)],
         "raw_get": [ctypes.c_void_p, size, text, size, out(RawValue)], "raw_elements": [ctypes.c_void_p, size, out(Slice)],
         "raw_next": [out(Slice), out(Slice), out(RawValue)],
         "decimal128_parse": [text, size, text], "object_id_parse": [text, size, text],
@@ -80,8 +95,9 @@ def loaded():
         "object_id_print": [text, text, size, out(size)], "date_time_print": [ctypes.c_int64, text, size, out(size)],
     }
     for name, types in parameters.items():
-        call = getattr(found, f"vbson_{name}")
+        call = getattr(found, f"vbson_{name}_nonnull" if Options in types else f"vbson_{name}")
         call.argtypes, call.restype = types, number
+        setattr(found, f"vbson_{name}", call)
     return found
 
 
@@ -103,7 +119,7 @@ def found_extension():
 library = loaded()
 extension = found_extension()
 ADDRESSES = {name: ctypes.cast(getattr(library, f"vbson_{name}"), ctypes.c_void_p).value
-             for name in ("convert_with", "decode", "encode", "decimal128_print", "is_document")}
+             for name in ("convert", "decode", "encode", "decimal128_print", "is_document")}
 # That of the C library, which allocated the block of a buffer.
 _free = ctypes.CDLL(None).free
 _free.argtypes, _free.restype = [ctypes.c_void_p], None
@@ -166,7 +182,7 @@ def text_by(name, mode, flags, given):
     """Returns the status of the call of this name, which has a mode, and its string."""
     if extension is None:
         return text_of(getattr(library, f"vbson_{name}"), mode, flags, given, len(given))
-    made = extension.text_by(ADDRESSES[name], mode, flags, given)
+    made = extension.text_by(ADDRESSES[name], mode, OPTIONS_AT[flags], given)
     return (OK, made) if isinstance(made, str) else (made, "")
 
 
@@ -174,7 +190,7 @@ def encoded(flags, given):
     """Returns the status of vbson_encode, and its bytes."""
     if extension is None:
         return bytes_of(library.vbson_encode, flags, given, len(given))
-    made = extension.bytes_by(ADDRESSES["encode"], flags, given)
+    made = extension.bytes_by(ADDRESSES["encode"], OPTIONS_AT[flags], given)
     return (OK, made) if isinstance(made, bytes) else (made, b"")
 
 

@@ -38,7 +38,7 @@ SPECIFIED: Options = {"doubles": False, "keep_order": False}
 
 
 def flags_of(options, accepted, ignored=0):
-    """Returns the flags of the library for the options: those that the call accepts, without those that change nothing."""
+    """Returns the flags of the options, for _calls: those that the call accepts, without those that change nothing."""
     flags = _DEFAULT
     for name, value in options.items():
         if name not in _FLAGS:

@@ -22,7 +22,7 @@ class Types:
         """Returns the value under the one key of the document of a text, in a tuple; None if there is no such value."""
         try:
             if _calls.extension is not None:
-                found = _calls.extension.value_by(_calls.ADDRESSES["encode"], flags, text, self._made)
+                found = _calls.extension.value_by(_calls.ADDRESSES["encode"], _calls.OPTIONS_AT[flags], text, self._made)
                 return found if isinstance(found, tuple) else None
             status, made = _calls.encoded(flags, text)
             return self._only(made) if status == errors.OK else None

@@ -60,7 +60,7 @@ def convert(text: Given, mode: Mode = CANONICAL, **options: bool) -> str:
     """
     given = text_bytes(text)
     mode, flags = mode_of(mode), writing_flags(options, given)
-    status, made = _calls.text_by("convert_with", mode, flags, given)
+    status, made = _calls.text_by("convert", mode, flags, given)
     expect_accepted(status, flags, given)
     return made
 

@@ -1,6 +1,23 @@
 //! The calls of `vbson.h` under safe signatures. A slice's pointer is never null, as the header wants it.
 use crate::ErrorKind;
 
+/// `vbson_options`.
+#[repr(C)]
+#[derive(Clone, Copy)]
+pub struct RawOptions {
+    pub size: usize,
+    pub doubles: u32,
+    pub key_order: u32,
+    pub duplicate_keys: u32,
+    pub v1: u32,
+}
+
+impl RawOptions {
+    /// `VBSON_OPTIONS_INIT`.
+    pub const INIT: RawOptions =
+        RawOptions { size: std::mem::size_of::<RawOptions>(), doubles: 0, key_order: 0, duplicate_keys: 0, v1: 0 };
+}
+
 /// `vbson_buffer`.
 #[repr(C)]
 pub struct RawText {
@@ -68,22 +85,19 @@ pub struct RawBuilder {
 
 extern "C" {
     fn vbson_version() -> u32;
-    // (this one is vbson_convert_with without flags)
-    #[allow(dead_code)]
-    fn vbson_convert(mode: u32, text: *const u8, len: usize, out: *mut RawText) -> u32;
-    fn vbson_convert_with(mode: u32, flags: u32, text: *const u8, len: usize, out: *mut RawText) -> u32;
-    fn vbson_explain(flags: u32, text: *const u8, len: usize, out: *mut RawError) -> u32;
-    fn vbson_convert_lines(mode: u32, flags: u32, block: *const u8, len: usize, out: *mut RawLines) -> u32;
-    fn vbson_same(flags: u32, a: *const u8, a_len: usize, b: *const u8, b_len: usize) -> u32;
-    fn vbson_hash(flags: u32, text: *const u8, len: usize, out: *mut u64) -> u32;
+    fn vbson_convert_nonnull(mode: u32, options: *const RawOptions, text: *const u8, len: usize, out: *mut RawText) -> u32;
+    fn vbson_explain_nonnull(options: *const RawOptions, text: *const u8, len: usize, out: *mut RawError) -> u32;
+    fn vbson_convert_lines_nonnull(mode: u32, options: *const RawOptions, block: *const u8, len: usize, out: *mut RawLines) -> u32;
+    fn vbson_same_nonnull(options: *const RawOptions, a: *const u8, a_len: usize, b: *const u8, b_len: usize) -> u32;
+    fn vbson_hash_nonnull(options: *const RawOptions, text: *const u8, len: usize, out: *mut u64) -> u32;
     fn vbson_is_document(bytes: *const u8, len: usize) -> u32;
-    fn vbson_explain_document(flags: u32, bytes: *const u8, len: usize, out: *mut RawError) -> u32;
-    fn vbson_same_documents(flags: u32, a: *const u8, a_len: usize, b: *const u8, b_len: usize) -> u32;
-    fn vbson_hash_document(flags: u32, bytes: *const u8, len: usize, out: *mut u64) -> u32;
-    fn vbson_decode(mode: u32, flags: u32, bytes: *const u8, len: usize, out: *mut RawText) -> u32;
-    fn vbson_encode(flags: u32, text: *const u8, len: usize, out: *mut RawText) -> u32;
-    fn vbson_encode_lines(flags: u32, block: *const u8, len: usize, out: *mut RawLines) -> u32;
-    fn vbson_decode_documents(mode: u32, flags: u32, block: *const u8, len: usize, out: *mut RawDocuments) -> u32;
+    fn vbson_explain_document_nonnull(options: *const RawOptions, bytes: *const u8, len: usize, out: *mut RawError) -> u32;
+    fn vbson_same_documents_nonnull(options: *const RawOptions, a: *const u8, a_len: usize, b: *const u8, b_len: usize) -> u32;
+    fn vbson_hash_document_nonnull(options: *const RawOptions, bytes: *const u8, len: usize, out: *mut u64) -> u32;
+    fn vbson_decode_nonnull(mode: u32, options: *const RawOptions, bytes: *const u8, len: usize, out: *mut RawText) -> u32;
+    fn vbson_encode_nonnull(options: *const RawOptions, text: *const u8, len: usize, out: *mut RawText) -> u32;
+    fn vbson_encode_lines_nonnull(options: *const RawOptions, block: *const u8, len: usize, out: *mut RawLines) -> u32;
+    fn vbson_decode_documents_nonnull(mode: u32, options: *const RawOptions, block: *const u8, len: usize, out: *mut RawDocuments) -> u32;
     fn vbson_raw_get(bytes: *const u8, len: usize, key: *const u8, key_len: usize, out: *mut RawValue) -> u32;
     fn vbson_raw_elements(bytes: *const u8, len: usize, cursor: *mut RawSlice) -> u32;
     fn vbson_raw_next(cursor: *mut RawSlice, key: *mut RawSlice, value: *mut RawValue) -> u32;
@@ -137,14 +151,14 @@ const TOO_LONG: u32 = 13;
 const NOT_FOUND: u32 = 14;
 const UNEXPECTED_TYPE: u32 = 15;
 
-/// The flag for finite doubles.
-pub const DOUBLES: u32 = 1;
-/// The flag for the order of keys.
-pub const KEEP_ORDER: u32 = 2;
-/// The flag that rejects duplicate keys.
-pub const REJECT_DUPLICATE_KEYS: u32 = 4;
-/// The flag for Extended JSON v1.
-pub const LEGACY: u32 = 8;
+/// The option for finite doubles.
+pub const DOUBLES_FINITE: u32 = 1;
+/// The option for the order of keys.
+pub const KEYS_AS_GIVEN: u32 = 1;
+/// The option that rejects duplicate keys.
+pub const DUPLICATE_KEYS_REJECT: u32 = 1;
+/// The option for Extended JSON v1.
+pub const V1_ACCEPT: u32 = 1;
 
 /// No string of a scalar is longer: see the greatest lengths in `vbson.h`.
 pub const MAX_LENGTH: usize = 64;
@@ -205,15 +219,15 @@ pub fn version() -> u32 {
 }
 
 /// The text in a block of its own, which the caller frees by `free`.
-pub fn convert_with(mode: u32, flags: u32, text: &[u8]) -> Result<RawText, ErrorKind> {
-    // SAFETY: the slice is readable, and `out` is a valid text that overlaps nothing.
-    left(|out| unsafe { vbson_convert_with(mode, flags, text.as_ptr(), text.len(), out) })
+pub fn convert(mode: u32, options: RawOptions, text: &[u8]) -> Result<RawText, ErrorKind> {
+    // SAFETY: the options and the slice are readable, and `out` is a valid text that overlaps nothing.
+    left(|out| unsafe { vbson_convert_nonnull(mode, &options, text.as_ptr(), text.len(), out) })
 }
 
 /// Its three texts in blocks of their own, as above.
-pub fn explain(flags: u32, text: &[u8]) -> Result<RawError, ErrorKind> {
-    // SAFETY: the slice is readable, and `out` is a valid struct that overlaps nothing.
-    explained(|out| unsafe { vbson_explain(flags, text.as_ptr(), text.len(), out) })
+pub fn explain(options: RawOptions, text: &[u8]) -> Result<RawError, ErrorKind> {
+    // SAFETY: the options and the slice are readable, and `out` is a valid struct that overlaps nothing.
+    explained(|out| unsafe { vbson_explain_nonnull(&options, text.as_ptr(), text.len(), out) })
 }
 
 pub fn is_document(bytes: &[u8]) -> bool {
@@ -223,9 +237,9 @@ pub fn is_document(bytes: &[u8]) -> bool {
 }
 
 /// Its three texts in blocks of their own, as above.
-pub fn explain_document(flags: u32, bytes: &[u8]) -> Result<RawError, ErrorKind> {
+pub fn explain_document(options: RawOptions, bytes: &[u8]) -> Result<RawError, ErrorKind> {
     // SAFETY: as above.
-    explained(|out| unsafe { vbson_explain_document(flags, bytes.as_ptr(), bytes.len(), out) })
+    explained(|out| unsafe { vbson_explain_document_nonnull(&options, bytes.as_ptr(), bytes.len(), out) })
 }
 
 /// What a call left that explains.
@@ -237,41 +251,41 @@ fn explained(call: impl FnOnce(*mut RawError) -> u32) -> Result<RawError, ErrorK
 }
 
 /// The text in a block of its own, as above.
-pub fn decode(mode: u32, flags: u32, bytes: &[u8]) -> Result<RawText, ErrorKind> {
+pub fn decode(mode: u32, options: RawOptions, bytes: &[u8]) -> Result<RawText, ErrorKind> {
     // SAFETY: as above.
-    left(|out| unsafe { vbson_decode(mode, flags, bytes.as_ptr(), bytes.len(), out) })
+    left(|out| unsafe { vbson_decode_nonnull(mode, &options, bytes.as_ptr(), bytes.len(), out) })
 }
 
 /// The bytes in a block of their own, as above.
-pub fn encode(flags: u32, text: &[u8]) -> Result<RawText, ErrorKind> {
+pub fn encode(options: RawOptions, text: &[u8]) -> Result<RawText, ErrorKind> {
     // SAFETY: as above.
-    left(|out| unsafe { vbson_encode(flags, text.as_ptr(), text.len(), out) })
+    left(|out| unsafe { vbson_encode_nonnull(&options, text.as_ptr(), text.len(), out) })
 }
 
 /// The texts in blocks of their own, as above.
-pub fn convert_lines(mode: u32, flags: u32, block: &[u8]) -> Result<RawLines, ErrorKind> {
+pub fn convert_lines(mode: u32, options: RawOptions, block: &[u8]) -> Result<RawLines, ErrorKind> {
     wants_processor();
     let mut out = RawLines { text: none(), diagnostics: none(), lines: 0, refused: 0 };
-    // SAFETY: the slice is readable, and `out` is valid and overlaps nothing.
-    expect_ok(unsafe { vbson_convert_lines(mode, flags, block.as_ptr(), block.len(), &mut out) })?;
+    // SAFETY: the options and the slice are readable, and `out` is valid and overlaps nothing.
+    expect_ok(unsafe { vbson_convert_lines_nonnull(mode, &options, block.as_ptr(), block.len(), &mut out) })?;
     Ok(out)
 }
 
 /// The bytes and the text in blocks of their own, as above.
-pub fn encode_lines(flags: u32, block: &[u8]) -> Result<RawLines, ErrorKind> {
+pub fn encode_lines(options: RawOptions, block: &[u8]) -> Result<RawLines, ErrorKind> {
     wants_processor();
     let mut out = RawLines { text: none(), diagnostics: none(), lines: 0, refused: 0 };
     // SAFETY: as above.
-    expect_ok(unsafe { vbson_encode_lines(flags, block.as_ptr(), block.len(), &mut out) })?;
+    expect_ok(unsafe { vbson_encode_lines_nonnull(&options, block.as_ptr(), block.len(), &mut out) })?;
     Ok(out)
 }
 
 /// The texts in blocks of their own, as above.
-pub fn decode_documents(mode: u32, flags: u32, block: &[u8]) -> Result<RawDocuments, ErrorKind> {
+pub fn decode_documents(mode: u32, options: RawOptions, block: &[u8]) -> Result<RawDocuments, ErrorKind> {
     wants_processor();
     let mut out = RawDocuments { text: none(), diagnostics: none(), documents: 0, consumed: 0 };
     // SAFETY: as above.
-    expect_ok(unsafe { vbson_decode_documents(mode, flags, block.as_ptr(), block.len(), &mut out) })?;
+    expect_ok(unsafe { vbson_decode_documents_nonnull(mode, &options, block.as_ptr(), block.len(), &mut out) })?;
     Ok(out)
 }
 
@@ -286,14 +300,14 @@ fn left(call: impl FnOnce(*mut RawText) -> u32) -> Result<RawText, ErrorKind> {
     Ok(out)
 }
 
-pub fn same(flags: u32, a: &[u8], b: &[u8]) -> Result<bool, ErrorKind> {
-    // SAFETY: the slices are readable.
-    compared(|| unsafe { vbson_same(flags, a.as_ptr(), a.len(), b.as_ptr(), b.len()) })
+pub fn same(options: RawOptions, a: &[u8], b: &[u8]) -> Result<bool, ErrorKind> {
+    // SAFETY: the options and the slices are readable.
+    compared(|| unsafe { vbson_same_nonnull(&options, a.as_ptr(), a.len(), b.as_ptr(), b.len()) })
 }
 
-pub fn same_documents(flags: u32, a: &[u8], b: &[u8]) -> Result<bool, ErrorKind> {
+pub fn same_documents(options: RawOptions, a: &[u8], b: &[u8]) -> Result<bool, ErrorKind> {
     // SAFETY: as above.
-    compared(|| unsafe { vbson_same_documents(flags, a.as_ptr(), a.len(), b.as_ptr(), b.len()) })
+    compared(|| unsafe { vbson_same_documents_nonnull(&options, a.as_ptr(), a.len(), b.as_ptr(), b.len()) })
 }
 
 fn compared(call: impl FnOnce() -> u32) -> Result<bool, ErrorKind> {
@@ -304,14 +318,14 @@ fn compared(call: impl FnOnce() -> u32) -> Result<bool, ErrorKind> {
     }
 }
 
-pub fn hash(flags: u32, text: &[u8]) -> Result<u64, ErrorKind> {
-    // SAFETY: the slice is readable, and `out` overlaps nothing.
-    hashed(|out| unsafe { vbson_hash(flags, text.as_ptr(), text.len(), out) })
+pub fn hash(options: RawOptions, text: &[u8]) -> Result<u64, ErrorKind> {
+    // SAFETY: what is passed is readable, and `out` overlaps nothing.
+    hashed(|out| unsafe { vbson_hash_nonnull(&options, text.as_ptr(), text.len(), out) })
 }
 
-pub fn hash_document(flags: u32, bytes: &[u8]) -> Result<u64, ErrorKind> {
+pub fn hash_document(options: RawOptions, bytes: &[u8]) -> Result<u64, ErrorKind> {
     // SAFETY: as above.
-    hashed(|out| unsafe { vbson_hash_document(flags, bytes.as_ptr(), bytes.len(), out) })
+    hashed(|out| unsafe { vbson_hash_document_nonnull(&options, bytes.as_ptr(), bytes.len(), out) })
 }
 
 fn hashed(call: impl FnOnce(*mut u64) -> u32) -> Result<u64, ErrorKind> {
@@ -324,7 +338,7 @@ fn hashed(call: impl FnOnce(*mut u64) -> u32) -> Result<u64, ErrorKind> {
 pub fn decimal128_parse(text: &[u8]) -> Result<[u8; 16], ErrorKind> {
     wants_processor();
     let mut out = [0; 16];
-    // SAFETY: the slice is readable, and `out` overlaps nothing.
+    // SAFETY: what is passed is readable, and `out` overlaps nothing.
     expect_ok(unsafe { vbson_decimal128_parse(text.as_ptr(), text.len(), &mut out) })?;
     Ok(out)
 }
@@ -332,7 +346,7 @@ pub fn decimal128_parse(text: &[u8]) -> Result<[u8; 16], ErrorKind> {
 pub fn object_id_parse(text: &[u8]) -> Result<[u8; 12], ErrorKind> {
     wants_processor();
     let mut out = [0; 12];
-    // SAFETY: the slice is readable, and `out` overlaps nothing.
+    // SAFETY: what is passed is readable, and `out` overlaps nothing.
     expect_ok(unsafe { vbson_object_id_parse(text.as_ptr(), text.len(), &mut out) })?;
     Ok(out)
 }
@@ -340,7 +354,7 @@ pub fn object_id_parse(text: &[u8]) -> Result<[u8; 12], ErrorKind> {
 pub fn date_time_parse(text: &[u8]) -> Result<i64, ErrorKind> {
     wants_processor();
     let mut out = 0;
-    // SAFETY: the slice is readable, and `out` overlaps nothing.
+    // SAFETY: what is passed is readable, and `out` overlaps nothing.
     expect_ok(unsafe { vbson_date_time_parse(text.as_ptr(), text.len(), &mut out) })?;
     Ok(out)
 }
@@ -386,7 +400,7 @@ const NO_VALUE: RawValue = RawValue { bytes: b"".as_ptr(), size: 0, len: 0, kind
 /// The value of the key, which points into the bytes.
 pub fn raw_get(bytes: &[u8], key: &[u8]) -> Option<RawValue> {
     let mut out = NO_VALUE;
-    // SAFETY: the slices are readable, and `out` is a valid value that overlaps nothing.
+    // SAFETY: the options and the slices are readable. and `out` is a valid value that overlaps nothing.
     let status = unsafe { vbson_raw_get(bytes.as_ptr(), bytes.len(), key.as_ptr(), key.len(), &mut out) };
     (status == OK).then_some(out)
 }

@@ -37,7 +37,7 @@ pub fn is_document(bytes: &[u8]) -> bool {
 /// assert_eq!(vbson::explain_document(b"\x05\0\0\0\0"), None);
 /// ```
 pub fn explain_document(bytes: &[u8]) -> Option<Error> {
-    of_document(0, bytes)
+    of_document(call::RawOptions::INIT, bytes)
 }
 
 /// Compares two documents. The order of their keys doesn't matter.
@@ -48,7 +48,7 @@ pub fn explain_document(bytes: &[u8]) -> Option<Error> {
 ///   `reject_duplicate_keys` is on, also if a document has a duplicate key, at any depth.
 /// - `OutOfMemory` if an allocation fails.
 pub fn same_documents(options: ReadOptions, a: &[u8], b: &[u8]) -> Result<bool, Error> {
-    call::same_documents(options.flags(), a, b).map_err(|kind| rejected(kind, options, &[a, b]))
+    call::same_documents(options.raw(), a, b).map_err(|kind| rejected(kind, options, &[a, b]))
 }
 
 /// Computes the hash of a document. It is the hash that [`hash`](crate::hash) returns for Extended JSON with the same
@@ -60,14 +60,14 @@ pub fn same_documents(options: ReadOptions, a: &[u8], b: &[u8]) -> Result<bool, 
 ///   `reject_duplicate_keys` is on, also if the document has a duplicate key, at any depth.
 /// - `OutOfMemory` if an allocation fails.
 pub fn hash_document(options: ReadOptions, bytes: &[u8]) -> Result<u64, Error> {
-    call::hash_document(options.flags(), bytes).map_err(|kind| rejected(kind, options, &[bytes]))
+    call::hash_document(options.raw(), bytes).map_err(|kind| rejected(kind, options, &[bytes]))
 }
 
 /// The error of the first rejected document.
 fn rejected(kind: ErrorKind, options: ReadOptions, documents: &[&[u8]]) -> Error {
-    let is_rejected = |it: &&&[u8]| call::hash_document(options.flags(), it) == Err(ErrorKind::NotADocument);
+    let is_rejected = |it: &&&[u8]| call::hash_document(options.raw(), it) == Err(ErrorKind::NotADocument);
     match documents.iter().find(is_rejected) {
-        Some(it) if kind == ErrorKind::NotADocument => of_document(options.flags(), it).unwrap_or_else(|| kind.into()),
+        Some(it) if kind == ErrorKind::NotADocument => of_document(options.raw(), it).unwrap_or_else(|| kind.into()),
         _ => kind.into(),
     }
 }
@@ -84,8 +84,8 @@ fn rejected(kind: ErrorKind, options: ReadOptions, documents: &[&[u8]]) -> Error
 ///   and `doubles` is off.
 /// - `OutOfMemory` if an allocation fails.
 pub fn decode(mode: Mode, options: Options, bytes: &[u8]) -> Result<Text, Error> {
-    call::decode(mode as u32, options.flags(), bytes).map(owned).map_err(|kind| match kind {
-        ErrorKind::NotADocument => of_document(0, bytes).unwrap_or_else(|| kind.into()),
+    call::decode(mode as u32, options.raw(), bytes).map(owned).map_err(|kind| match kind {
+        ErrorKind::NotADocument => of_document(call::RawOptions::INIT, bytes).unwrap_or_else(|| kind.into()),
         ErrorKind::NotRepresentable => of_double(bytes),
         _ => kind.into(),
     })
@@ -105,6 +105,6 @@ pub fn decode(mode: Mode, options: Options, bytes: &[u8]) -> Result<Text, Error>
 /// - `TooLong` if a part has 2^31 bytes or more.
 /// - `OutOfMemory` if an allocation fails.
 pub fn encode(options: Options, text: &[u8]) -> Result<Bytes, Error> {
-    let made = call::encode(options.flags(), text);
-    made.map(|it| Bytes(Block::of(it))).map_err(|kind| of_texts(kind, options.flags(), &[text]))
+    let made = call::encode(options.raw(), text);
+    made.map(|it| Bytes(Block::of(it))).map_err(|kind| of_texts(kind, options.raw(), &[text]))
 }

@@ -1,6 +1,6 @@
 //! The errors of rejected input, as the library reports them.
 use crate::block::Block;
-use crate::call;
+use crate::call::{self, RawOptions};
 use crate::error::{Error, ErrorKind};
 use crate::path::{self, Path, PathElement};
 use crate::text::owned;
@@ -11,11 +11,11 @@ const MARK: &[u8] = b"\xef\xbb\xbf";
 
 /// The error of the first rejected text. Only a rejected text is read again; if that runs out of memory, the error has no
 /// path.
-pub(crate) fn of_texts(kind: ErrorKind, flags: u32, texts: &[&[u8]]) -> Error {
+pub(crate) fn of_texts(kind: ErrorKind, options: RawOptions, texts: &[&[u8]]) -> Error {
     if !matches!(kind, ErrorKind::NotJson | ErrorKind::BadObjectId | ErrorKind::NotExtendedJson) {
         return kind.into();
     }
-    let mut explained = texts.iter().map(|it| of_text(flags, it));
+    let mut explained = texts.iter().map(|it| of_text(options, it));
     match explained.find(|it| !matches!(it, Ok(None))) {
         Some(Ok(Some(error))) => error,
         _ => kind.into(),
@@ -23,8 +23,8 @@ pub(crate) fn of_texts(kind: ErrorKind, flags: u32, texts: &[&[u8]]) -> Error {
 }
 
 /// The error of a text, or `None` if the text is accepted.
-fn of_text(flags: u32, text: &[u8]) -> Result<Option<Error>, ErrorKind> {
-    let found = call::explain(flags, text)?;
+fn of_text(options: RawOptions, text: &[u8]) -> Result<Option<Error>, ErrorKind> {
+    let found = call::explain(options, text)?;
     let (path, reason, message) = (Block::of(found.path), owned(found.reason), owned(found.message));
     let Some(kind) = call::kind_of(found.code) else { return Ok(None) };
     let position = |it: usize| if kind == ErrorKind::NotJson { Some(it as u64) } else { None };
@@ -69,15 +69,15 @@ fn number_of(diagnostic: &str) -> Option<u64> {
     diagnostic.strip_prefix("bson: line ")?.split_once(':')?.0.parse().ok()
 }
 
-/// The error of bytes that are not a document, or that have a duplicate key, which the flags reject; `None` if they have no
+/// The error of bytes that are not a document, or that have a duplicate key, which the options reject; `None` if they have no
 /// such error. If memory runs out, the error has no offset.
-pub(crate) fn of_document(flags: u32, bytes: &[u8]) -> Option<Error> {
-    match call::explain_document(flags | call::DOUBLES, bytes) {
+pub(crate) fn of_document(options: RawOptions, bytes: &[u8]) -> Option<Error> {
+    match call::explain_document(RawOptions { doubles: call::DOUBLES_FINITE, ..options }, bytes) {
         Ok(found) => {
             let (_path, reason, _message) = (Block::of(found.path), owned(found.reason), owned(found.message));
             call::kind_of(found.code).map(|_| of_bytes(&reason, found.offset, bytes))
         }
-        Err(_) if call::hash_document(flags, bytes) == Err(ErrorKind::NotADocument) => Some(ErrorKind::NotADocument.into()),
+        Err(_) if call::hash_document(options, bytes) == Err(ErrorKind::NotADocument) => Some(ErrorKind::NotADocument.into()),
         Err(_) => None,
     }
 }

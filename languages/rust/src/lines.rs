@@ -24,7 +24,7 @@ pub struct Lines {
 ///
 /// - `OutOfMemory` if an allocation fails. A rejected line is not an error of the call.
 pub fn convert_lines(mode: Mode, options: Options, block: &[u8]) -> Result<Lines, Error> {
-    let raw = call::convert_lines(mode as u32, options.flags(), block)?;
+    let raw = call::convert_lines(mode as u32, options.raw(), block)?;
     let (text, diagnostics) = (owned(raw.text), owned(raw.diagnostics));
     let error_of = |line: &[u8]| convert_with(mode, options, line).expect_err("the line was rejected");
     Ok(Lines { text, count: raw.lines, refused: of_lines(&diagnostics, block, error_of) })
@@ -47,7 +47,7 @@ pub struct EncodedLines {
 ///
 /// - `OutOfMemory` if an allocation fails. A rejected line is not an error of the call.
 pub fn encode_lines(options: Options, block: &[u8]) -> Result<EncodedLines, Error> {
-    let raw = call::encode_lines(options.flags(), block)?;
+    let raw = call::encode_lines(options.raw(), block)?;
     let (bytes, diagnostics) = (Bytes(Block::of(raw.text)), owned(raw.diagnostics));
     let error_of = |line: &[u8]| encode(options, line).expect_err("the line was rejected");
     Ok(EncodedLines { bytes, count: raw.lines, refused: of_lines(&diagnostics, block, error_of) })
@@ -75,7 +75,7 @@ pub struct Documents {
 ///
 /// - `OutOfMemory` if an allocation fails. A rejected document is not an error of the call.
 pub fn decode_documents(mode: Mode, options: Options, block: &[u8]) -> Result<Documents, Error> {
-    let raw = call::decode_documents(mode as u32, options.flags(), block)?;
+    let raw = call::decode_documents(mode as u32, options.raw(), block)?;
     let (text, diagnostics) = (owned(raw.text), owned(raw.diagnostics));
     let refused = of_documents(&diagnostics, block);
     Ok(Documents { text, count: raw.documents, consumed: raw.consumed, refused })

@@ -115,7 +115,7 @@ impl<'a> RawDocument<'a> {
         if is_document(bytes) {
             return Ok(RawDocument { bytes });
         }
-        Err(of_document(0, bytes).unwrap_or_else(|| ErrorKind::NotADocument.into()))
+        Err(of_document(call::RawOptions::INIT, bytes).unwrap_or_else(|| ErrorKind::NotADocument.into()))
     }
 
     /// Returns the value of the key, or `None` if the document does not contain the key. The value of a duplicate key is

@@ -1,5 +1,6 @@
 //! Extended JSON input and output.
 use crate::block::Block;
+use crate::call::RawOptions;
 use crate::explain::of_texts;
 use crate::{call, Error};
 use std::ops::Deref;
@@ -74,10 +75,12 @@ impl Options {
     /// The defaults of the specification and of the C library: no finite doubles, and sorted keys.
     pub const SPECIFIED: Options = Options { doubles: false, keep_order: false };
 
-    pub(crate) fn flags(self) -> u32 {
-        let doubles = if self.doubles { call::DOUBLES } else { 0 };
-        let keep_order = if self.keep_order { call::KEEP_ORDER } else { 0 };
-        doubles | keep_order
+    pub(crate) fn raw(self) -> RawOptions {
+        RawOptions {
+            doubles: if self.doubles { call::DOUBLES_FINITE } else { 0 },
+            key_order: if self.keep_order { call::KEYS_AS_GIVEN } else { 0 },
+            ..RawOptions::INIT
+        }
     }
 }
 
@@ -106,11 +109,13 @@ impl ReadOptions {
     /// The defaults of the specification and of the C library: no finite doubles.
     pub const SPECIFIED: ReadOptions = ReadOptions { doubles: false, reject_duplicate_keys: false, legacy: false };
 
-    pub(crate) fn flags(self) -> u32 {
-        let doubles = if self.doubles { call::DOUBLES } else { 0 };
-        let reject_duplicate_keys = if self.reject_duplicate_keys { call::REJECT_DUPLICATE_KEYS } else { 0 };
-        let legacy = if self.legacy { call::LEGACY } else { 0 };
-        doubles | reject_duplicate_keys | legacy
+    pub(crate) fn raw(self) -> RawOptions {
+        RawOptions {
+            doubles: if self.doubles { call::DOUBLES_FINITE } else { 0 },
+            duplicate_keys: if self.reject_duplicate_keys { call::DUPLICATE_KEYS_REJECT } else { 0 },
+            v1: if self.legacy { call::V1_ACCEPT } else { 0 },
+            ..RawOptions::INIT
+        }
     }
 }
 
@@ -138,8 +143,8 @@ pub fn convert(mode: Mode, text: &[u8]) -> Result<Text, Error> {
 /// - `NotExtendedJson`, with the path, if the first error is any other, or a number such as 1.5 or 0.0 while `doubles` is off.
 /// - `OutOfMemory` if an allocation fails.
 pub fn convert_with(mode: Mode, options: Options, text: &[u8]) -> Result<Text, Error> {
-    let made = call::convert_with(mode as u32, options.flags(), text);
-    made.map(owned).map_err(|kind| of_texts(kind, options.flags(), &[text]))
+    let made = call::convert(mode as u32, options.raw(), text);
+    made.map(owned).map_err(|kind| of_texts(kind, options.raw(), &[text]))
 }
 
 /// Returns why, and where, `convert_with` rejects the input; `None` if it accepts it.
@@ -164,7 +169,7 @@ pub fn explain(options: Options, text: &[u8]) -> Option<Error> {
 /// - `NotExtendedJson`, with the path, if the first error is any other, or a duplicate key while `reject_duplicate_keys` is on.
 /// - `OutOfMemory` if an allocation fails.
 pub fn same(options: ReadOptions, a: &[u8], b: &[u8]) -> Result<bool, Error> {
-    call::same(options.flags(), a, b).map_err(|kind| of_texts(kind, options.flags(), &[a, b]))
+    call::same(options.raw(), a, b).map_err(|kind| of_texts(kind, options.raw(), &[a, b]))
 }
 
 /// Computes the hash of the input's value. Inputs that [`same`] finds the same have one hash.
@@ -176,7 +181,7 @@ pub fn same(options: ReadOptions, a: &[u8], b: &[u8]) -> Result<bool, Error> {
 /// - `NotExtendedJson`, with the path, if the first error is any other, or a duplicate key while `reject_duplicate_keys` is on.
 /// - `OutOfMemory` if an allocation fails.
 pub fn hash(options: ReadOptions, text: &[u8]) -> Result<u64, Error> {
-    call::hash(options.flags(), text).map_err(|kind| of_texts(kind, options.flags(), &[text]))
+    call::hash(options.raw(), text).map_err(|kind| of_texts(kind, options.raw(), &[text]))
 }
 
 pub(crate) fn owned(raw: call::RawText) -> Text {

@@ -8,7 +8,7 @@ pub returns-clause-said : goal.returns-clause-said
 returns-clause-said c =
     let it = c.in_ok-finding.finding in
     IfOk-weaker c.rejection_of.result (λ (out : Rejection). SaysOf it out)
-    (λ (out : Rejection). ExplainsDocument c.args.flags c.args.bytes.now out)
+    (λ (out : Rejection). ExplainsDocument c.args.options c.args.bytes.now out)
     (λ out said. record { finding = it; found = c.in_ok-finding.ensures.found; said = said })
     c.rejection_of.ensures.said
 

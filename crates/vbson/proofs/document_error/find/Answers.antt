@@ -13,18 +13,18 @@ use Rattle.vbson.proofs.document_error.find.Goals as goal
 
 pub returns-in-Ok-clause-found : goal.returns-in-Ok-clause-found
 returns-in-Ok-clause-found c =
-    let flags = c.args.flags in
+    let options = c.args.options in
     let bytes = c.args.bytes.now in
     let ps = document_view c.in-Ok.document in
     let read = subst (λ k. IsReadIn k depth bytes ps) c.duplicate_keys_of.ensures c.in-Ok.ensures.ok in
     IfOk-weaker c.find_double.result (λ (it : Finding). IsOfDocument c.options_of.result ps it)
-    (λ (it : Finding). IsFinding flags bytes it)
-    (λ it is. of_document flags bytes ps it read (subst (λ o. IsOfDocument o ps it) c.options_of.ensures is))
+    (λ (it : Finding). IsFinding options bytes it)
+    (λ it is. of_document options bytes ps it read (subst (λ o. IsOfDocument o ps it) c.options_of.ensures is))
     c.find_double.ensures.found
 
 pub returns-in-Ok-clause-accepts : goal.returns-in-Ok-clause-accepts
 returns-in-Ok-clause-accepts c = λ h.
-    let flags = c.args.flags in
+    let options = c.args.options in
     let bytes = c.args.bytes.now in
     let ps = document_view c.in-Ok.document in
     let read = subst (λ k. IsReadIn k depth bytes h.pairs) (sym c.duplicate_keys_of.ensures) h.read in

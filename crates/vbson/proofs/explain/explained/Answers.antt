@@ -13,7 +13,7 @@ use Rattle.vbson.proofs.explain.explained.Goals as goal
 
 pub returns-in-Ok-Some-clause-said : goal.returns-in-Ok-Some-clause-said
 returns-in-Ok-Some-clause-said c =
-    let flags = c.args.flags in
+    let options = c.args.options in
     let text = c.args.text.now in
     let read = c.as_bytes.result.now in
     let p = c.preprocessing_of.result in
@@ -23,16 +23,16 @@ returns-in-Ok-Some-clause-said c =
     subst (λ r. IfOk r (λ newer. IsReadAs p text (taken_of text newer))) c.in-Ok-Some.is c.preprocess.ensures.ok in
     let newer : IsReadAs p text (string_bytes c.in-Ok-Some.newer) =
     subst (λ n. IsReadAs p text (taken_of text n)) is given in
-    let stands : IsReadAs (preprocessing_of flags) text read =
+    let stands : IsReadAs (preprocessing_of options) text read =
     subst (λ q. IsReadAs q text read) c.preprocessing_of.ensures (subst (IsReadAs p text) (sym c.as_bytes.ensures.value) newer) in
     IfOk-weaker c.explained_read.result (λ (out : Rejection). ExplainsRead c.options_of.result read out)
-    (λ (out : Rejection). Explains flags text out)
-    (λ out h. of_read flags text read out stands (subst (λ o. ExplainsRead o read out) c.options_of.ensures h))
+    (λ (out : Rejection). Explains options text out)
+    (λ out h. of_read options text read out stands (subst (λ o. ExplainsRead o read out) c.options_of.ensures h))
     c.explained_read.ensures.said
 
 pub returns-in-Ok-Some-clause-long : goal.returns-in-Ok-Some-clause-long
 returns-in-Ok-Some-clause-long c =
-    let flags = c.args.flags in
+    let options = c.args.options in
     let text = c.args.text.now in
     let read = c.as_bytes.result.now in
     let p = c.preprocessing_of.result in
@@ -42,18 +42,18 @@ returns-in-Ok-Some-clause-long c =
     subst (λ r. IfOk r (λ newer. IsReadAs p text (taken_of text newer))) c.in-Ok-Some.is c.preprocess.ensures.ok in
     let newer : IsReadAs p text (string_bytes c.in-Ok-Some.newer) =
     subst (λ n. IsReadAs p text (taken_of text n)) is given in
-    let stands : IsReadAs (preprocessing_of flags) text read =
+    let stands : IsReadAs (preprocessing_of options) text read =
     subst (λ q. IsReadAs q text read) c.preprocessing_of.ensures (subst (IsReadAs p text) (sym c.as_bytes.ensures.value) newer) in
     IfErr-weaker c.explained_read.result
     (λ (e : PathError). IsUnexplained e (λ fault. IsRefusedIn c.options_of.result fault read))
-    (λ (e : PathError). e ≢ sizes.OutOfMemory → IsTooLong flags text)
-    (λ e h. long_of_read flags text read e stands
+    (λ (e : PathError). e ≢ sizes.OutOfMemory → IsTooLong options text)
+    (λ e h. long_of_read options text read e stands
     (subst (λ o. IsUnexplained e (λ fault. IsRefusedIn o fault read)) c.options_of.ensures h))
     c.explained_read.ensures.long
 
 pub returns-in-Ok-None-clause-said : goal.returns-in-Ok-None-clause-said
 returns-in-Ok-None-clause-said c =
-    let flags = c.args.flags in
+    let options = c.args.options in
     let text = c.args.text.now in
     let p = c.preprocessing_of.result in
     let field = c.in-Ok-None.field-0-is in
@@ -61,16 +61,16 @@ returns-in-Ok-None-clause-said c =
     let given : IsReadAs p text (taken_of text c.in-Ok-None.field-0) =
     subst (λ r. IfOk r (λ newer. IsReadAs p text (taken_of text newer))) c.in-Ok-None.is c.preprocess.ensures.ok in
     let itself : IsReadAs p text text = subst (λ n. IsReadAs p text (taken_of text n)) is given in
-    let stands : IsReadAs (preprocessing_of flags) text text =
+    let stands : IsReadAs (preprocessing_of options) text text =
     subst (λ q. IsReadAs q text text) c.preprocessing_of.ensures itself in
     IfOk-weaker c.explained_read-in-Ok-None.result (λ (out : Rejection). ExplainsRead c.options_of-in-Ok-None.result text out)
-    (λ (out : Rejection). Explains flags text out)
-    (λ out h. of_read flags text text out stands (subst (λ o. ExplainsRead o text out) c.options_of-in-Ok-None.ensures h))
+    (λ (out : Rejection). Explains options text out)
+    (λ out h. of_read options text text out stands (subst (λ o. ExplainsRead o text out) c.options_of-in-Ok-None.ensures h))
     c.explained_read-in-Ok-None.ensures.said
 
 pub returns-in-Ok-None-clause-long : goal.returns-in-Ok-None-clause-long
 returns-in-Ok-None-clause-long c =
-    let flags = c.args.flags in
+    let options = c.args.options in
     let text = c.args.text.now in
     let p = c.preprocessing_of.result in
     let field = c.in-Ok-None.field-0-is in
@@ -78,33 +78,33 @@ returns-in-Ok-None-clause-long c =
     let given : IsReadAs p text (taken_of text c.in-Ok-None.field-0) =
     subst (λ r. IfOk r (λ newer. IsReadAs p text (taken_of text newer))) c.in-Ok-None.is c.preprocess.ensures.ok in
     let itself : IsReadAs p text text = subst (λ n. IsReadAs p text (taken_of text n)) is given in
-    let stands : IsReadAs (preprocessing_of flags) text text =
+    let stands : IsReadAs (preprocessing_of options) text text =
     subst (λ q. IsReadAs q text text) c.preprocessing_of.ensures itself in
     IfErr-weaker c.explained_read-in-Ok-None.result
     (λ (e : PathError). IsUnexplained e (λ fault. IsRefusedIn c.options_of-in-Ok-None.result fault text))
-    (λ (e : PathError). e ≢ sizes.OutOfMemory → IsTooLong flags text)
-    (λ e h. long_of_read flags text text e stands
+    (λ (e : PathError). e ≢ sizes.OutOfMemory → IsTooLong options text)
+    (λ e h. long_of_read options text text e stands
     (subst (λ o. IsUnexplained e (λ fault. IsRefusedIn o fault text)) c.options_of-in-Ok-None.ensures h))
     c.explained_read-in-Ok-None.ensures.long
 
 -- the arm before this one is that of running out of memory
 pub returns-in-Err-2-clause-said : goal.returns-in-Err-2-clause-said
 returns-in-Err-2-clause-said c =
-    let flags = c.args.flags in
+    let options = c.args.options in
     let text = c.args.text.now in
     let fault = c.in-Err.fault in
-    let unread : IsUnread (preprocessing_of flags) fault text =
+    let unread : IsUnread (preprocessing_of options) fault text =
     subst (λ p. IsUnread p fault text) c.preprocessing_of.ensures c.in-Err.ensures.rejected in
-    IfOk-weaker c.rejected.result (λ (out : Rejection). IsError text fault out) (λ (out : Rejection). Explains flags text out)
-    (λ out is. refused_first flags fault text out unread c.if-is_memory.ensures is) c.rejected.ensures.said
+    IfOk-weaker c.rejected.result (λ (out : Rejection). IsError text fault out) (λ (out : Rejection). Explains options text out)
+    (λ out is. refused_first options fault text out unread c.if-is_memory.ensures is) c.rejected.ensures.said
 
 pub returns-in-Err-2-clause-long : goal.returns-in-Err-2-clause-long
 returns-in-Err-2-clause-long c =
-    let flags = c.args.flags in
+    let options = c.args.options in
     let text = c.args.text.now in
     let fault = c.in-Err.fault in
-    let unread : IsUnread (preprocessing_of flags) fault text =
+    let unread : IsUnread (preprocessing_of options) fault text =
     subst (λ p. IsUnread p fault text) c.preprocessing_of.ensures c.in-Err.ensures.rejected in
     IfErr-weaker c.rejected.result (λ (e : PathError). e ≢ sizes.OutOfMemory → IsLongPath fault)
-    (λ (e : PathError). e ≢ sizes.OutOfMemory → IsTooLong flags text)
-    (λ e long. long_first flags fault text e unread long) c.rejected.ensures.long
+    (λ (e : PathError). e ≢ sizes.OutOfMemory → IsTooLong options text)
+    (λ e long. long_first options fault text e unread long) c.rejected.ensures.long

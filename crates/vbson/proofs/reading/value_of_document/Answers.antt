@@ -14,7 +14,7 @@ returns-in-Ok-clause-one c value is =
 -- reading gave a fault, and did not run out of memory
 pub returns-in-Err-Malformed-clause-rejected : goal.returns-in-Err-Malformed-clause-rejected
 returns-in-Err-Malformed-clause-rejected c =
-    no_document_under c.args.flags c.args.bytes.now (λ ps given.
+    no_document_under c.args.options c.args.bytes.now (λ ps given.
     let read = subst (λ k. IsReadIn k depth c.args.bytes.now ps) (sym c.duplicate_keys_of.ensures) given in
     let only = (c.in-Err-Malformed.ensures.only ps read).1 in
     let is = c.in-Err-Malformed.field-0-is in

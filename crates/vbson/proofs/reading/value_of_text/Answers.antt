@@ -8,7 +8,7 @@ use Rattle.vbson.proofs.reading.value_of_text.Goals as goal
 
 pub returns-in-Ok-Some-clause-rejected : goal.returns-in-Ok-Some-clause-rejected
 returns-in-Ok-Some-clause-rejected c =
-    let flags = c.args.flags in
+    let options = c.args.options in
     let text = c.args.text.now in
     let read = c.as_bytes.result.now in
     let p = c.preprocessing_of.result in
@@ -18,16 +18,16 @@ returns-in-Ok-Some-clause-rejected c =
     subst (λ r. IfOk r (λ newer. IsReadAs p text (taken_of text newer))) c.in-Ok-Some.is c.preprocess.ensures.ok in
     let newer : IsReadAs p text (string_bytes c.in-Ok-Some.newer) =
     subst (λ n. IsReadAs p text (taken_of text n)) is given in
-    let stands : IsReadAs (preprocessing_of flags) text read =
+    let stands : IsReadAs (preprocessing_of options) text read =
     subst (λ q. IsReadAs q text read) c.preprocessing_of.ensures (subst (IsReadAs p text) (sym c.as_bytes.ensures.value) newer) in
     IfErr-weaker c.meaning_of.result (λ status. IsRejectedWith c.options_of.result status read)
-    (λ status. IsWithoutValue flags status text)
-    (λ status h. without_value flags status text read stands (subst (λ o. IsRejectedWith o status read) c.options_of.ensures h))
+    (λ status. IsWithoutValue options status text)
+    (λ status h. without_value options status text read stands (subst (λ o. IsRejectedWith o status read) c.options_of.ensures h))
     c.meaning_of.ensures.rejected
 
 pub returns-in-Ok-None-clause-rejected : goal.returns-in-Ok-None-clause-rejected
 returns-in-Ok-None-clause-rejected c =
-    let flags = c.args.flags in
+    let options = c.args.options in
     let text = c.args.text.now in
     let p = c.preprocessing_of.result in
     let field = c.in-Ok-None.field-0-is in
@@ -35,11 +35,11 @@ returns-in-Ok-None-clause-rejected c =
     let given : IsReadAs p text (taken_of text c.in-Ok-None.field-0) =
     subst (λ r. IfOk r (λ newer. IsReadAs p text (taken_of text newer))) c.in-Ok-None.is c.preprocess.ensures.ok in
     let itself : IsReadAs p text text = subst (λ n. IsReadAs p text (taken_of text n)) is given in
-    let stands : IsReadAs (preprocessing_of flags) text text =
+    let stands : IsReadAs (preprocessing_of options) text text =
     subst (λ q. IsReadAs q text text) c.preprocessing_of.ensures itself in
     IfErr-weaker c.meaning_of-in-Ok-None.result
-    (λ status. IsRejectedWith c.options_of-in-Ok-None.result status text) (λ status. IsWithoutValue flags status text)
-    (λ status h. without_value flags status text text stands
+    (λ status. IsRejectedWith c.options_of-in-Ok-None.result status text) (λ status. IsWithoutValue options status text)
+    (λ status h. without_value options status text text stands
     (subst (λ o. IsRejectedWith o status text) c.options_of-in-Ok-None.ensures h))
     c.meaning_of-in-Ok-None.ensures.rejected
 
@@ -48,5 +48,5 @@ pub returns-in-Err-2-clause-rejected : goal.returns-in-Err-2-clause-rejected
 returns-in-Err-2-clause-rejected c =
     let text = c.args.text.now in
     let fault = c.in-Err.fault in
-    turned_away c.one_double.ensures.twice c.args.flags fault text
+    turned_away c.one_double.ensures.twice c.args.options fault text
     (subst (λ p. IsUnread p fault text) c.preprocessing_of.ensures c.in-Err.ensures.rejected) c.if-is_memory.ensures

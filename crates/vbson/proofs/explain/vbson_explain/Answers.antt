@@ -1,9 +1,0 @@
-use Rattle.vbson.proofs.Explained.{accepted_from, accepts_from}
-use Rattle.vbson.proofs.explain.vbson_explain.Goals as goal
-
-pub returns-clause-accepted : goal.returns-clause-accepted
-returns-clause-accepted c = λ done zero. accepted_from c.args.flags c.args.text.now c.in-Ok.rejection c.in-Ok.ensures.said zero
-
-pub returns-clause-accepts : goal.returns-clause-accepts
-returns-clause-accepts c = λ value means done.
-    accepts_from c.one_double.ensures.twice c.args.flags c.args.text.now c.in-Ok.rejection value means c.in-Ok.ensures.said

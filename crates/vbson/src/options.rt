@@ -1,0 +1,126 @@
+//! The options of a call, in a struct of the caller.
+ghost use Rattle.std.specs.Prelude.{◌≡◌, ◌↔◌, IsTrue};
+ghost use Rattle.vbson.specs.Convert.{options_of, order_of};
+ghost use Rattle.vbson.specs.Options.{AreInvalid, AreNotForConversion, AreNotForReading};
+ghost use Rattle.vbson.specs.Reading.{duplicate_keys_of, preprocessing_of};
+
+use bson::extjson::{Doubles, Options};
+use bson_codec::de::DuplicateKeys;
+use bson_run::order::Taking;
+
+/// Finite doubles are read and written.
+pub const DOUBLES_FINITE: u32 = 1;
+
+/// Documents have their keys in the order of the text, or in their own.
+pub const KEYS_AS_GIVEN: u32 = 1;
+
+/// Input with a duplicate key is rejected.
+pub const DUPLICATE_KEYS_REJECT: u32 = 1;
+
+/// Extended JSON v1 is read too.
+pub const V1_ACCEPT: u32 = 1;
+
+/// The size of `CallOptions` in bytes. A later version with more fields has another size.
+pub(crate) const SIZE: usize = 24;
+
+/// The options of a call. Each field after the size is 0 for what the specification describes, or 1.
+#[repr(C)]
+#[derive(Clone, Copy)]
+pub struct CallOptions {
+    /// The size of this struct in bytes.
+    pub size: usize,
+    /// 0, or `DOUBLES_FINITE`.
+    pub doubles: u32,
+    /// 0 for ascending keys, or `KEYS_AS_GIVEN`.
+    pub key_order: u32,
+    /// 0 if the last value of a duplicate key wins, or `DUPLICATE_KEYS_REJECT`.
+    pub duplicate_keys: u32,
+    /// 0, or `V1_ACCEPT`.
+    pub v1: u32,
+}
+
+/// The order of the keys of documents.
+#[derive(Clone, Copy)]
+pub enum KeyOrder {
+    /// Ascending by their bytes.
+    Ascending,
+    /// As the text or the document has them.
+    AsGiven,
+}
+
+/// Returns whether the struct has another size, or a field that is not one of its two values.
+pub fn are_invalid(options: CallOptions) -> bool
+    ensures { IsTrue result ↔ AreInvalid options }
+{
+    options.size != SIZE
+        || options.doubles > DOUBLES_FINITE
+        || options.key_order > KEYS_AS_GIVEN
+        || options.duplicate_keys > DUPLICATE_KEYS_REJECT
+        || options.v1 > V1_ACCEPT
+}
+
+/// Returns whether a conversion rejects the options: they are invalid, or they request more than
+/// finite doubles and an order of keys.
+pub fn are_not_for_conversion(options: CallOptions) -> bool
+    ensures { IsTrue result ↔ AreNotForConversion options }
+{
+    are_invalid(options)
+        || options.duplicate_keys == DUPLICATE_KEYS_REJECT
+        || options.v1 == V1_ACCEPT
+}
+
+/// Returns whether a call that only reads values rejects the options: they are invalid, or they
+/// request an order of keys.
+pub fn are_not_for_reading(options: CallOptions) -> bool
+    ensures { IsTrue result ↔ AreNotForReading options }
+{
+    are_invalid(options) || options.key_order == KEYS_AS_GIVEN
+}
+
+/// Returns the options of a conversion.
+pub fn options_of(options: CallOptions) -> Options
+    ensures { result ≡ options_of options }
+{
+    let doubles = if options.doubles == DOUBLES_FINITE {
+        Doubles::Finite
+    } else {
+        Doubles::Special
+    };
+    Options { doubles }
+}
+
+/// Returns the order of keys.
+pub fn order_of(options: CallOptions) -> KeyOrder
+    ensures { result ≡ order_of options }
+{
+    if options.key_order == KEYS_AS_GIVEN {
+        KeyOrder::AsGiven
+    } else {
+        KeyOrder::Ascending
+    }
+}
+
+/// Returns the preprocessing that the options request for a text, if any.
+pub fn preprocessing_of(options: CallOptions) -> Option<Taking>
+    ensures { result ≡ preprocessing_of options }
+{
+    let is_distinct = options.duplicate_keys == DUPLICATE_KEYS_REJECT;
+    let is_legacy = options.v1 == V1_ACCEPT;
+    match (is_distinct, is_legacy) {
+        (true, true) => Some(Taking::DistinctLegacy),
+        (true, false) => Some(Taking::Distinct),
+        (false, true) => Some(Taking::Legacy),
+        (false, false) => None,
+    }
+}
+
+/// Returns whether the options reject BSON bytes with a duplicate key.
+pub fn duplicate_keys_of(options: CallOptions) -> DuplicateKeys
+    ensures { result ≡ duplicate_keys_of options }
+{
+    if options.duplicate_keys == DUPLICATE_KEYS_REJECT {
+        DuplicateKeys::Refuse
+    } else {
+        DuplicateKeys::Replace
+    }
+}
