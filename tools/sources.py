@@ -179,12 +179,17 @@ def definitions() -> dict[str, list[Definition]]:
     found: dict[str, list[Definition]] = {}
     for crate in crates():
         for file in files_in(f"crates/{crate}/specs", ".antt"):
-            lines, is_record = read(file).split("\n"), False
+            lines, record = read(file).split("\n"), -1
             for at, line in enumerate(lines):
-                is_record = bool(re.match(r"(abbrev )?(pub )?record ", line)) or is_record and line[:1] in ("", " ")
                 it = DEFINITION.match(line)
-                # (what is indented in a record is a field)
-                if it and not (is_record and it[4]):
+                # (what is deeper than its record is a field)
+                if line.strip() and len(line) - len(line.lstrip()) <= record:
+                    record = -1
+                if it and it[2] == "record":
+                    record = len(it[1])
+                elif it and record >= 0 and it[5]:
+                    it = None
+                if it:
                     comment = []
                     while at - 1 - len(comment) >= 0 and lines[at - 1 - len(comment)].lstrip().startswith("-- "):
                         comment.insert(0, lines[at - 1 - len(comment)].strip()[3:])
