@@ -19,14 +19,14 @@ use bson_types::timestamp::Timestamp;
 /// Each accessor gives what a value of its kind holds, and None for a value of any other kind. What
 /// is written through a `_mut` form is then what the value holds.
 impl Bson {
-    /// The pattern of a `Double` (IEEE 754 binary64).
+    /// Returns the pattern of a `Double` (IEEE 754 binary64).
     pub fn as_f64(&self) -> Option<u64>
         ensures { result ≡ double_of self.now }
     {
         u64::kind(self).copied()
     }
 
-    /// The text of a `String`.
+    /// Returns the text of a `String`.
     pub fn as_str(&self) -> Option<&str>
         ensures { option_copied result ≡ bytes_of string_of self.now }
     {
@@ -36,7 +36,7 @@ impl Bson {
         }
     }
 
-    /// The text of a `String`, to write.
+    /// Returns the text of a `String`, to write.
     pub fn as_str_mut(&mut self) -> Option<&mut String>
         ensures* writes_back { sem 𝓛 (LendsIf bson_row string_row self.entry result value.String self.old) }
         ensures value { option_map (λ x. x.now) result ≡ string_of self.old }
@@ -44,14 +44,14 @@ impl Bson {
         String::kind_mut(self)
     }
 
-    /// The elements of an `Array`.
+    /// Returns the elements of an `Array`.
     pub fn as_array(&self) -> Option<&Array>
         ensures { option_copied result ≡ array_of self.now }
     {
         Array::kind(self)
     }
 
-    /// The elements of an `Array`, to write.
+    /// Returns the elements of an `Array`, to write.
     pub fn as_array_mut(&mut self) -> Option<&mut Array>
         ensures* writes_back { sem 𝓛 (LendsIf bson_row array_row self.entry result value.Array self.old) }
         ensures value { option_map (λ x. x.now) result ≡ array_of self.old }
@@ -59,14 +59,14 @@ impl Bson {
         Array::kind_mut(self)
     }
 
-    /// The document of a `Document`.
+    /// Returns the document of a `Document`.
     pub fn as_document(&self) -> Option<&Document>
         ensures { option_copied result ≡ document_of self.now }
     {
         Document::kind(self)
     }
 
-    /// The document of a `Document`, to write.
+    /// Returns the document of a `Document`, to write.
     pub fn as_document_mut(&mut self) -> Option<&mut Document>
         ensures* writes_back { sem 𝓛 (LendsIf bson_row document_row self.entry result value.Document self.old) }
         ensures value { option_map (λ x. x.now) result ≡ document_of self.old }
@@ -74,14 +74,14 @@ impl Bson {
         Document::kind_mut(self)
     }
 
-    /// The boolean of a `Boolean`.
+    /// Returns the boolean of a `Boolean`.
     pub fn as_bool(&self) -> Option<bool>
         ensures { result ≡ boolean_of self.now }
     {
         bool::kind(self).copied()
     }
 
-    /// Some for `Null`, which holds nothing.
+    /// Returns `Some` for `Null`, which has no contents.
     pub fn as_null(&self) -> Option<()>
         ensures { IsSome result ↔ (self.now ≡ value.Null) }
     {
@@ -91,35 +91,35 @@ impl Bson {
         }
     }
 
-    /// The number of an `Int32`.
+    /// Returns the number of an `Int32`.
     pub fn as_i32(&self) -> Option<i32>
         ensures { result ≡ int32_of self.now }
     {
         i32::kind(self).copied()
     }
 
-    /// The number of an `Int64`.
+    /// Returns the number of an `Int64`.
     pub fn as_i64(&self) -> Option<i64>
         ensures { result ≡ int64_of self.now }
     {
         i64::kind(self).copied()
     }
 
-    /// The timestamp of a `Timestamp`.
+    /// Returns the timestamp of a `Timestamp`.
     pub fn as_timestamp(&self) -> Option<Timestamp>
         ensures { result ≡ timestamp_of self.now }
     {
         Timestamp::kind(self).copied()
     }
 
-    /// The id of an `ObjectId`.
+    /// Returns the id of an `ObjectId`.
     pub fn as_object_id(&self) -> Option<ObjectId>
         ensures { result ≡ object_id_of self.now }
     {
         ObjectId::kind(self).copied()
     }
 
-    /// The id of an `ObjectId`, to write.
+    /// Returns the id of an `ObjectId`, to write.
     pub fn as_object_id_mut(&mut self) -> Option<&mut ObjectId>
         ensures* writes_back { sem 𝓛 (LendsIf bson_row object_id_row self.entry result value.ObjectId self.old) }
         ensures value { option_map (λ x. x.now) result ≡ object_id_of self.old }
@@ -127,14 +127,14 @@ impl Bson {
         ObjectId::kind_mut(self)
     }
 
-    /// The moment of a `DateTime`.
+    /// Returns the date-time of a `DateTime`.
     pub fn as_datetime(&self) -> Option<&DateTime>
         ensures { option_copied result ≡ date_of self.now }
     {
         DateTime::kind(self)
     }
 
-    /// The moment of a `DateTime`, to write.
+    /// Returns the date-time of a `DateTime`, to write.
     pub fn as_datetime_mut(&mut self) -> Option<&mut DateTime>
         ensures* writes_back { sem 𝓛 (LendsIf bson_row date_row self.entry result value.DateTime self.old) }
         ensures value { option_map (λ x. x.now) result ≡ date_of self.old }
@@ -142,7 +142,7 @@ impl Bson {
         DateTime::kind_mut(self)
     }
 
-    /// The text of a `Symbol`.
+    /// Returns the text of a `Symbol`.
     pub fn as_symbol(&self) -> Option<&str>
         ensures { option_copied result ≡ bytes_of symbol_of self.now }
     {
@@ -152,7 +152,7 @@ impl Bson {
         }
     }
 
-    /// The text of a `Symbol`, to write.
+    /// Returns the text of a `Symbol`, to write.
     pub fn as_symbol_mut(&mut self) -> Option<&mut String>
         ensures* writes_back { sem 𝓛 (LendsIf bson_row string_row self.entry result value.Symbol self.old) }
         ensures value { option_map (λ x. x.now) result ≡ symbol_of self.old }
@@ -163,7 +163,7 @@ impl Bson {
         }
     }
 
-    /// The pointer of a `DbPointer`.
+    /// Returns the pointer of a `DbPointer`.
     pub fn as_db_pointer(&self) -> Option<&DbPointer>
         ensures { option_copied result ≡ db_pointer_of self.now }
     {

@@ -210,7 +210,7 @@ impl Bson {
         Ok(Bson::Array(values.collect(alloc)?))
     }
 
-    /// The value, or `Null` where there is none.
+    /// Makes the value, or `Null` if there is none.
     pub fn from_option(option: Option<Bson>) -> Bson
         ensures { result ≡ unwrap_or option value.Null }
     {

@@ -48,7 +48,8 @@ impl Document {
     ghost use Rattle.std.specs.Prelude.{◌≡◌, []};
     ghost use Rattle.bson.specs.View.{contents};
 
-    /// A document of no pairs, which takes its memory from `alloc` and has taken none yet.
+    /// Makes a document without pairs, which takes its memory from `alloc` and has not allocated
+    /// yet.
     pub fn new(alloc: Global) -> Document
         ensures { contents result ≡ [] }
     {

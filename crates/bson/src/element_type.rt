@@ -8,7 +8,7 @@ use bson_scalar::scalar_ref::Element;
 use bson_types::spec::ElementType;
 
 impl Bson {
-    /// The element type that the value is stored with (BSON 1.1): that of its kind's own name, and
+    /// Returns the element type that stores the value (BSON 1.1): that of its kind's own name, and
     /// `EmbeddedDocument` for a `Document`.
     pub fn element_type(&self) -> ElementType
         ensures { result ≡ element_type_of self.now }

@@ -44,7 +44,7 @@ pub struct Fault {
     pub left: usize,
 }
 
-/// The fault of this kind at the first of these bytes, the last of the input.
+/// Makes the fault of this kind at the first of these bytes, the last of the input.
 pub fn fault_at(kind: FaultKind, bytes: &[u8]) -> Fault
     ensures { result ≡ at kind bytes.now }
 {

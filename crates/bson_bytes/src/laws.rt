@@ -9,50 +9,53 @@ ghost use Rattle.bson_bytes.specs.Writing.{document_bytes, as_written, Cause, Fi
 ghost use Rattle.bson_bytes.specs.Writing.{TypedDocument, NestsPairs};
 ghost use Rattle.bson_model.specs.Value.{Pairs};
 
-/// Bytes are those of a document just if reading them gives it. So what is no document is read as
-/// a fault.
+/// Proves that bytes are those of a document if and only if reading them returns it. So what is no
+/// document is read as a fault.
 pub fn reading_is_grammar()
     ensures { (keys : DuplicateKeys) (d : ℕ) (bytes : List ℕ) (ps : Pairs) → ((i : ℕ) → slice_index bytes i < 256)
         → (reads_in keys d bytes ≡ Ok ps) ↔ IsReadIn keys d bytes ps }
 {}
 
-/// Bytes that are read where no key may stand twice are read as the same document where any may.
+/// Proves that bytes that are read without duplicate keys are read as the same document if
+/// duplicate keys are allowed.
 pub fn refusing_keys_changes_no_document()
     ensures { (keys : DuplicateKeys) (d : ℕ) (bytes : List ℕ) (ps : Pairs) → IsReadIn keys d bytes ps
         → IsRead d bytes ps }
 {}
 
-/// The place of a fault is one of the bytes, or their end.
+/// Proves that the position of a fault is one of the bytes, or their end.
 pub fn fault_stands_in_the_bytes()
     ensures { (keys : DuplicateKeys) (d : ℕ) (bytes : List ℕ) (f : Fault) → reads_in keys d bytes ≡ Err f
         → f.left ≤ length bytes }
 {}
 
-/// No document's bytes begin another's, and no bytes stand for two.
+/// Proves that no document's bytes begin another's, and that no bytes are those of two.
 pub fn one_document()
     ensures { (keys : DuplicateKeys) (d : ℕ) (a b x y : List ℕ) (ps qs : Pairs) → IsDocument keys d a ps
         → IsDocument keys d b qs → a ++ x ≡ b ++ y → (a ≡ b) × (ps ≡ qs) }
 {}
 
-/// What a document is written as is read back as that document: the same keys in the same order,
-/// the same numbers, patterns and options, and each binary under the subtype that its byte names.
+/// Proves that the bytes of a document are read back as that document: the same keys in the same
+/// order, the same numbers, patterns and options, and each binary under the subtype that its byte
+/// names.
 pub fn written_is_read()
     ensures { (d : ℕ) (ps : Pairs) → FitsDocument ps → TypedDocument ps → NestsPairs ps d
         → IsRead (suc d) (document_bytes ps) (as_written ps) }
 {}
 
-/// Documents that are written as the same bytes are read back as the same.
+/// Proves that documents that are written as the same bytes are read back as the same.
 pub fn written_is_one()
     ensures { (d : ℕ) (ps qs : Pairs) → FitsDocument ps → FitsDocument qs → TypedDocument ps → TypedDocument qs
         → NestsPairs ps d → NestsPairs qs d → document_bytes ps ≡ document_bytes qs → as_written ps ≡ as_written qs }
 {}
 
-/// Where each part of a document fits, none fails for a cause.
+/// Proves that a document whose parts all fit does not fail for a cause.
 pub fn what_fits_has_no_cause()
     ensures { (ps : Pairs) (c : Cause) → FitsDocument ps → DocumentFails c ps → ⊥ }
 {}
 
-/// A document fails for one cause at most: that of the first of its parts that has no bytes.
+/// Proves that a document fails for one cause at most: that of the first of its parts that has no
+/// bytes.
 pub fn first_cause_is_one()
     ensures { (ps : Pairs) (c e : Cause) → DocumentFails c ps → DocumentFails e ps → c ≡ e }
 {}

@@ -118,7 +118,7 @@ pub fn zero_at(bytes: &[u8]) -> Result<&[u8], Fault>
     }
 }
 
-/// The bytes before the first 0, and those behind it.
+/// Splits the bytes at the first 0: the bytes before it, and those after it.
 pub fn split_zero(bytes: &[u8]) -> Option<(&[u8], &[u8])>
     ensures given { option_map (λ p. (p.0.now, p.1.now)) result ≡ split_zero bytes.now }
     ensures shorter { IfSome result (λ x. length x.1.now ≤ length bytes.now) }
@@ -131,7 +131,7 @@ pub fn split_zero(bytes: &[u8]) -> Option<(&[u8], &[u8])>
     None
 }
 
-/// Whether no byte is 0.
+/// Returns whether no byte is 0.
 pub fn is_free(bytes: &[u8]) -> bool
     ensures { result ≡ is_free bytes.now }
 {
@@ -219,6 +219,7 @@ pub fn text_at(bytes: &[u8]) -> Result<(&str, &[u8]), Fault>
     Ok((utf8_at(text, place)?, rest))
 }
 
+/// Returns the element type whose tag is the byte, or `None` if the byte is not a tag.
 pub fn kind_of(tag: u8) -> Option<ElementType>
     ensures { result ≡ kind_of tag }
 {

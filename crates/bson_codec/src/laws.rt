@@ -5,21 +5,21 @@ ghost use Rattle.bson_codec.specs.Documents.{Dump, EndsAt, EndsInside, IsOfBytes
 ghost use Rattle.bson_codec.specs.declared.documents.Run.{Run};
 ghost use Rattle.bson_codec.specs.declared.run_end.RunFault.{RunFault};
 
-/// Law: the same bytes are one dump, with one output, one report and one pair of counts.
+/// Proves that the same bytes are one dump, with one output, one report and one pair of counts.
 pub fn one_dump()
     ensures { (run : Run) (bytes output other told tells : List ℕ) (number count refused left : ℕ)
         → Dump run bytes output told number refused → Dump run bytes other tells count left
         → (output ≡ other) × (told ≡ tells) × (number ≡ count) × (refused ≡ left) }
 {}
 
-/// Law: the output of a dump, and its report, are UTF-8.
+/// Proves that the output of a dump, and its report, are UTF-8.
 pub fn dumps_are_utf8()
     ensures { (run : Run) (bytes output told : List ℕ) (number refused : ℕ)
         → Dump run bytes output told number refused → IsUtf8 output × IsUtf8 told }
 {}
 
-/// Law: a run that ends inside the same bytes ends at one document, for one error. It has one
-/// output and one report before that document, and the bytes are not a dump.
+/// Proves that a run that ends inside the same bytes ends at one document, for one error. It has
+/// one output and one report before that document, and the bytes are not a dump.
 pub fn one_end()
     ensures end { (run : Run) (all output other told tells : List ℕ) (number count refused left start place : ℕ)
         (fault cause : RunFault) → EndsInside run all output told fault number refused start
@@ -30,8 +30,8 @@ pub fn one_end()
         → EndsInside run all output told fault number refused start → ⊥ }
 {}
 
-/// Law: a run that ends for an error of its bytes ends inside them. Its output and its report are
-/// those of the documents before the end.
+/// Proves that a run that ends for an error of its bytes ends inside them. Its output and its
+/// report are those of the documents before the end.
 pub fn ends_are_inside()
     ensures { (run : Run) (all : List ℕ) (after had holds told tells : Option (List ℕ)) (fault : RunFault)
         (number refused start : ℕ) → EndsAt run (Some all) after had holds told tells fault number refused start

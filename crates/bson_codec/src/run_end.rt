@@ -97,7 +97,7 @@ fn at_place(
 }
 
 impl RunFault {
-    /// What is wrong, in words for people.
+    /// Returns what is wrong, in words for people.
     pub fn message(self) -> &'static str
         ensures { result.now ≡ words_of self }
     {

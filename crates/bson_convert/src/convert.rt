@@ -48,7 +48,7 @@ pub fn convert(alloc: Global, mode: Mode, bytes: &[u8]) -> Result<Vec<u8>, Error
     convert_with(alloc, default_options(), mode, bytes)
 }
 
-/// What is done where no options are given: finite doubles are refused.
+/// Returns the options of a call without options: finite doubles are rejected.
 pub fn default_options() -> Options
     ensures { result ≡ default_options }
 {

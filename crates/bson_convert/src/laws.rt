@@ -7,8 +7,8 @@ ghost use Rattle.bson.specs.declared.extjson.options.Options.{Options};
 ghost use Rattle.bson_convert.specs.Convert.{ConvertsIn, IsCanonicalText, newline};
 ghost use Rattle.bson_convert.specs.declared.mode.Mode.TheVariants.{Canonical};
 
-/// Values with one normal form have one canonical text. Conversion to the canonical form gives it,
-/// followed by a newline, unless it nests deeper than a text may.
+/// Proves that values with one normal form have one canonical text. Conversion to the canonical
+/// form gives it, followed by a newline, unless it nests deeper than a text may.
 pub fn canonical_texts_are_one()
     ensures one { (options : Options) (bytes other : List ℕ) (a : IsCanonicalText options bytes)
         (b : IsCanonicalText options other) → normal_form a.value ≡ normal_form b.value → bytes ≡ other }

@@ -21,7 +21,7 @@ pub enum Mode {
 }
 
 impl Mode {
-    /// The mode of this name: `canonical`, `relaxed` or `show`.
+    /// Returns the mode with this name: `canonical`, `relaxed` or `show`.
     pub fn from_name(name: &str) -> Option<Mode>
         ensures named { IfSome result (λ mode. name.now ≡ name_of mode) }
         ensures other { result ≡ None → (mode : Mode) → name.now ≡ name_of mode → ⊥ }
@@ -35,7 +35,8 @@ impl Mode {
     }
 }
 
-/// The mode that the words after the program's name ask for: its name, and no other word.
+/// Returns the mode that the arguments after the program's name request: its name, and nothing
+/// else.
 pub fn mode_of(words: &[String]) -> Option<Mode>
     ensures named { IfSome result (λ mode. map string_bytes words.now ≡ name_of mode ∷ []) }
     ensures other { result ≡ None → (mode : Mode) → map string_bytes words.now ≡ name_of mode ∷ [] → ⊥ }

@@ -22,7 +22,7 @@ pub enum NoBytes {
 }
 
 impl NoBytes {
-    /// What a program says of it.
+    /// Returns the message of a program for this error.
     pub fn message(self) -> &'static str
         ensures { result.now ≡ words_without self }
     {

@@ -27,7 +27,7 @@ pub fn words_given<R: Env + AllocGlobal>(rt: &R) -> Result<Option<Vec<String>>, 
     }
 }
 
-/// The status, once the line was given to standard error. Where that takes nothing, the status
+/// Writes the line to standard error, and returns the status. Where that takes nothing, the status
 /// alone tells.
 pub fn exit_with<R: Eprint>(rt: &R, line: &str, status: u8) -> ExitCode
     ensures { exit_status result ≡ status }

@@ -48,22 +48,22 @@ impl DateTime {
     /// The first moment: 2^63 milliseconds before 1970-01-01T00:00:00Z.
     pub const MIN: DateTime = DateTime { millis: i64::MIN };
 
-    /// A builder with nothing set.
+    /// Makes a builder with no field set.
     pub fn builder() -> DateTimeBuilder<NoYear, NoMonth, NoDay>
         ensures { result ≡ unset }
     {
         DateTimeBuilder::default()
     }
 
-    /// The moment so many milliseconds after 1970-01-01T00:00:00Z, or before it where the number is
-    /// negative.
+    /// Makes the date-time this number of milliseconds after 1970-01-01T00:00:00Z, or before it if
+    /// the number is negative.
     pub fn from_millis(millis: i64) -> DateTime
         ensures { result ≡ millis }
     {
         DateTime { millis }
     }
 
-    /// The milliseconds since 1970-01-01T00:00:00Z, negative before it.
+    /// Returns the milliseconds since 1970-01-01T00:00:00Z, negative before it.
     pub fn timestamp_millis(self) -> i64
         ensures value { result ≡ self }
 
@@ -75,7 +75,7 @@ impl DateTime {
         self.millis
     }
 
-    /// The sum with so many milliseconds, cut to `MIN` and `MAX`.
+    /// Adds this number of milliseconds, and cuts the sum to `MIN` and `MAX`.
     pub fn saturating_add_millis(self, millis: i64) -> DateTime
         ensures { result ≡ saturate_signed w64 (self +ℤ millis) }
     {
@@ -86,7 +86,8 @@ impl DateTime {
         }
     }
 
-    /// The exact sum with the whole milliseconds of a duration, but no later than `MAX`.
+    /// Adds the whole milliseconds of a duration exactly, but returns no date-time later than
+    /// `MAX`.
     pub fn saturating_add_duration(self, duration: Duration) -> DateTime
         ensures { result ≡ sum_with self duration }
     {
@@ -96,7 +97,7 @@ impl DateTime {
         }
     }
 
-    /// The exact time since `earlier`, or `None` where that is later than this moment.
+    /// Returns the exact time since `earlier`, or `None` if `earlier` is later than this date-time.
     pub fn checked_duration_since(self, earlier: DateTime) -> Option<Duration>
         ensures none { IsNone result ↔ (self <ℤ earlier) }
         ensures value { IfSome result (λ d. pos (as_nanos d) ≡ nanos_of_millis (self -ℤ earlier)) }
@@ -107,7 +108,7 @@ impl DateTime {
         Some(Duration::from_millis(self.millis.abs_diff(earlier.millis)))
     }
 
-    /// The exact time since `earlier`, or zero where that is later than this moment.
+    /// Returns the exact time since `earlier`, or zero if `earlier` is later than this date-time.
     pub fn saturating_duration_since(self, earlier: DateTime) -> Duration
         ensures { pos (as_nanos result) ≡ nanos_of_millis (millis_since self earlier) }
     {

@@ -42,14 +42,14 @@ impl Model for Decimal128 {
 }
 
 impl Decimal128 {
-    /// The decimal with these 16 bytes, the lowest first. Every pattern is taken.
+    /// Makes the decimal with these 16 bytes, the lowest first. Every pattern is taken.
     pub fn from_bytes(bytes: [u8; 16]) -> Decimal128
         ensures { result ≡ bytes }
     {
         Decimal128 { bytes }
     }
 
-    /// The 16 bytes, the lowest first.
+    /// Returns the 16 bytes, the lowest first.
     pub fn bytes(&self) -> [u8; 16]
         ensures same { result ≡ self.now }
         ensures ranged { IsPattern self.now }

@@ -19,7 +19,7 @@ ghost use Rattle.bson_distinct.specs.Double.{DoubleAt};
 ghost use Rattle.bson_distinct.specs.declared.arrangement.Arrangement.{Arrangement};
 ghost use Rattle.bson_distinct.specs.declared.arrangement.Arrangement.TheVariants.{FirstPlaces, Ascending};
 
-/// A value with a key that stands twice has no unique keys, and one path to the first such key;
+/// Proves that a value with a duplicate key has no unique keys, and one path to the first such key;
 /// each value that has no unique keys has one.
 pub fn one_double()
     ensures twice { (j : Json) (path : List PathSegment) → DoubleAt j path → ¬ HasUniqueKeys j }
@@ -27,8 +27,8 @@ pub fn one_double()
     ensures some { (j : Json) → ¬ HasUniqueKeys j → (path : List PathSegment) × DoubleAt j path }
 {}
 
-/// What a text is arranged as is read as the text is: by first places as a tree in the order of the
-/// text, and in either arrangement as `serde_json`'s tree.
+/// Proves that the normalized text is read as the text is: by first places as a tree in the order
+/// of the text, and in either arrangement as `serde_json`'s tree.
 pub fn arranged_texts_read_alike()
     ensures in_order { (text written : List ℕ) → IsArrangedText FirstPlaces text written
         → read_kept written ≡ read_kept text }
@@ -36,16 +36,16 @@ pub fn arranged_texts_read_alike()
         → read written ≡ read text }
 {}
 
-/// An arranged tree has each key of an object once and nests no deeper than the tree; arranged again
-/// it is the same.
+/// Proves that an arranged tree has each key of an object once and nests no deeper than the tree;
+/// arranged again it is the same.
 pub fn arranged_once()
     ensures unique { (a : Arrangement) (j : Json) → HasUniqueKeys (arranged a j) }
     ensures no_deeper { (a : Arrangement) (j : Json) → depth (arranged a j) ≤ depth j }
     ensures again { (a : Arrangement) (j : Json) → arranged a (arranged a j) ≡ arranged a j }
 {}
 
-/// An arranged object has each key at its first place or by ascending bytes, with what stands last at
-/// it in the object, arranged.
+/// Proves that an arranged object has each key at its first place or by ascending bytes, with what
+/// stands last at it in the object, arranged.
 pub fn arranged_places()
     ensures first { (ms : Members) → keys (arranged_members FirstPlaces ms no_members) ≡ first_places (keys ms) }
     ensures ascending { (ms : Members)
@@ -54,7 +54,7 @@ pub fn arranged_places()
         → get_member k (arranged_members a ms no_members) ≡ option_map (arranged a) (get_member k ms) }
 {}
 
-/// A text means the values that the text means which it is arranged as: by first places in the order
+/// Proves that a text means the values that its normalized text means: by first places in the order
 /// of the text, and in either arrangement by default.
 pub fn arranged_texts_mean_alike()
     ensures in_order { (D : Doubles) (text written : List ℕ) (v : Value) → IsArrangedText FirstPlaces text written

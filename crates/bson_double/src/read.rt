@@ -24,7 +24,7 @@ pub enum DoubleError {
     OutOfRange,
 }
 
-/// Whether the double of a pattern is neither an infinity nor a NaN.
+/// Returns whether the double of a pattern is neither an infinity nor a NaN.
 pub fn is_finite(pattern: u64) -> bool
     ensures { result ≡ is_finite pattern }
 {

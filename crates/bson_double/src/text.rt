@@ -106,8 +106,8 @@ fn push_unsigned(text: &mut ArrayString<32>, pattern: u64)
     push_digits(text, written, written.len() as u64 + power);
 }
 
-/// The text of a finite double: its sign, and its shortest decimal. That is the decimal of the
-/// fewest digits whose nearest double it is, and of those the one nearest to it. The text has a
+/// Returns the text of a finite double: its sign, and its shortest decimal. That is the decimal of
+/// the fewest digits whose nearest double it is, and of those the one nearest to it. The text has a
 /// point with a digit on each side, as `12.5`, `1.0` and `0.001`, or one digit before the point and
 /// an exponent, as `1e16` and `5e-324`: where more than 16 digits would stand before the point, or
 /// more than 4 zeros between it and the first digit. It is a number of RFC 8259.

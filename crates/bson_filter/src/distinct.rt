@@ -14,8 +14,8 @@ const FEW: usize = 32;
 // Digests of keys are sums of powers of this odd number.
 const BASE: u64 = 0x9E37_79B9_7F4A_7C15;
 
-/// Whether no two of the keys are equal. Of many that do not ascend the digests are put in order,
-/// and the keys only where these do not tell all of them apart.
+/// Returns whether no two of the keys are equal. Of many that do not ascend the digests are put in
+/// order, and the keys only where these do not tell all of them apart.
 pub fn are_distinct(alloc: Global, keys: &mut [&str]) -> bool
     ensures { IsTrue result ↔ AreDistinct (map (λ k. k.now) keys.old) }
 {

@@ -22,9 +22,9 @@ const FIRST_PART: usize = 64;
 
 const FIRST_STARTS: usize = 16;
 
-/// The bytes of the compact text in the form of the value that the text means, each document's keys
-/// in the order of the text, at every depth. It is written as the text is read, with no value in
-/// memory.
+/// Writes the compact text of the value that the text denotes in the form, with the keys of each
+/// document in the order of the text, at every depth. It is written as the text is read, with no
+/// value in memory.
 ///
 /// # Errors
 ///
@@ -56,8 +56,8 @@ pub fn filter_text(
     Ok(writer.out.into_inner())
 }
 
-/// [`filter_text`] with each document's keys in ascending order of bytes, and of a key that stands
-/// twice the last value.
+/// Writes what [`filter_text`] writes, with the keys of each document in ascending order of bytes;
+/// the last value of a duplicate key wins.
 ///
 /// # Errors
 ///
@@ -89,8 +89,9 @@ pub fn sort_text(
     Ok(writer.text)
 }
 
-/// The bytes of the text that shows the value that the text means by default, each document's keys
-/// in ascending order of bytes: it is written as the text is read, with no value in memory.
+/// Writes the text that shows the value that the text denotes by default, with the keys of each
+/// document in ascending order of bytes: it is written as the text is read, with no value in
+/// memory.
 ///
 /// # Errors
 ///
@@ -108,7 +109,7 @@ pub fn show_text(
     show_by(alloc, doubles, Arrangement::Ascending, text, scratch)
 }
 
-/// [`show_text`] with each document's keys in the order of the text.
+/// Writes what [`show_text`] writes, with the keys of each document in the order of the text.
 ///
 /// # Errors
 ///

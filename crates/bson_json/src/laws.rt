@@ -18,8 +18,9 @@ ghost use Rattle.bson_json.specs.Characters.{IsUnescapedCharacter};
 ghost use Rattle.bson_json.specs.Corners.{Accepts, Refuses};
 ghost use Rattle.bson_json.specs.Grammar.{AreChars, IsJson, IsJsonOf, IsNumber, IsUnescaped};
 
-/// The kit's reader finds a value in a text if and only if the grammar gives the text that value, and
-/// it nests at most 127 deep. The same holds for every other bound. Each text has at most one value.
+/// Proves that the kit's reader finds a value in a text if and only if the grammar gives the text
+/// that value, and it nests at most 127 deep. The same holds for every other bound. Each text has
+/// at most one value.
 pub fn reading_is_the_grammar()
     ensures tree { (text : List ℕ) (j : Json)
         → (json_of text ≡ Some j) ↔ (IsJson text j × (depth j ≤ max_depth)) }
@@ -28,32 +29,31 @@ pub fn reading_is_the_grammar()
     ensures one { (text : List ℕ) (j k : Json) → IsJson text j → IsJson text k → j ≡ k }
 {}
 
-/// `serde_json` reads a tree of a text if and only if the grammar gives the text a value with that
-/// tree. A text means the values that this tree means.
+/// Proves that `serde_json` reads a tree of a text if and only if the grammar gives the text a
+/// value with that tree. A text means the values that this tree means.
 pub fn texts_mean_by_the_grammar()
     ensures read { (text : List ℕ) (t : Data) → (read text ≡ Some t) ↔ IsJsonOf text t }
     ensures means { (D : Doubles) (text : List ℕ) (v : Value)
         → MeansByDefault D text v ↔ ((t : Data) × IsJsonOf text t × HasMeaningIn D t v) }
 {}
 
-/// The kit's reader of numbers reads all of a text if and only if the grammar has this number. Its
-/// reader of strings reads bytes after a quotation mark if and only if chars that denote them come
-/// first, and then a quotation mark.
+/// Proves that the kit's reader of numbers reads all of a text if and only if the grammar has this
+/// number. Its reader of strings reads bytes after a quotation mark if and only if chars that
+/// denote them come first, and then a quotation mark.
 pub fn parts_are_the_grammar()
     ensures numbers { (text : List ℕ) → (after_number text ≡ Some []) ↔ IsNumber text }
     ensures strings { (after bytes : List ℕ) → (content plain after ≡ Some bytes)
         ↔ ((text : List ℕ) × (rest : List ℕ) × (after ≡ text ++ 0x22 ∷ rest) × AreChars text bytes) }
 {}
 
-/// A text in UTF-8 has unescaped bytes alone if and only if it is the UTF-8 of characters that RFC
-/// 8259 lets a string have unescaped.
+/// Proves that a text in UTF-8 has unescaped bytes alone if and only if it is the UTF-8 of
+/// characters that RFC 8259 lets a string have unescaped.
 pub fn unescaped_is_by_character()
     ensures { (text : List ℕ) → (IsUtf8 text × AllByRecursion IsUnescaped text)
         ↔ ((cs : List ℕ) × AllByRecursion IsUnescapedCharacter cs × (encode_utf8_all cs ≡ text)) }
 {}
 
-/// The texts at the edges of the grammar have a value or have none, as `Accepts` and `Refuses` list
-/// them.
+/// Proves which texts at the edges of the grammar have a value, and which have none.
 pub fn corner_cases()
     ensures accepts { Accepts }
     ensures refuses { Refuses }

@@ -8,15 +8,16 @@ ghost use Rattle.bson_legacy.specs.Modern.{modern, modern_object};
 ghost use Rattle.bson_legacy.specs.Text.{IsModernText};
 ghost use Rattle.bson_legacy.specs.Version1.{HasNoShape, IsTextOfVersion2, IsVersion1, IsVersion2};
 
-/// An object of a shape of v1 is the object of v2 for which it stands; every other object keeps its
-/// keys; and a tree of v2 stays.
+/// Proves that an object of a shape of v1 is the object of v2 for which it stands; every other
+/// object keeps its keys; and a tree of v2 stays.
 pub fn version_1_is_rewritten()
     ensures shape { (ms : Members) (t : Json) → IsVersion1 ms t → modern (object ms) ≡ t }
     ensures other { (ms : Members) → HasNoShape ms → modern (object ms) ≡ object (modern_object ms) }
     ensures stays { (j : Json) → IsVersion2 j → modern j ≡ j }
 {}
 
-/// A text of v2 means what the text in its place means, in the order of its keys and by default.
+/// Proves that a text of v2 means what the text in its place means, in the order of its keys and by
+/// default.
 pub fn version_2_keeps_its_value()
     ensures in_order { (D : Doubles) (text written : List ℕ) (v : Value) → IsModernText text written
         → IsTextOfVersion2 text → (HasMeaningInOrder D written v ↔ HasMeaningInOrder D text v) }

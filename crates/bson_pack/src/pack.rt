@@ -17,9 +17,9 @@ use std::alloc::Global;
 // A longer text is read with memory of its own, which is freed with its reader.
 const LONG: usize = 1 << 16;
 
-/// The canonical bytes of the document that the text means, its keys in the order of the text, at
-/// every depth, and of a key that stands twice the last value at the first place: they are written
-/// as the text is read, with no value in memory.
+/// Encodes the document that the text denotes as canonical bytes, with its keys in the order of the
+/// text, at every depth, and the last value of a duplicate key at its first position: they are
+/// written as the text is read, with no value in memory.
 ///
 /// # Errors
 ///

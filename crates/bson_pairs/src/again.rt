@@ -36,7 +36,7 @@ fn options() -> Options
     }
 }
 
-/// The text of the document that the bytes are: canonical, its keys in their own order.
+/// Returns the text of the document that the bytes encode: canonical, its keys in their own order.
 pub fn decode_bytes(alloc: Global, bytes: &[u8], depth: usize) -> Result<String, NotAgain>
     // It is that of the one document that they are in the grammar.
     ensures ok { (ps : Pairs) → IsRead depth bytes.now ps
@@ -54,7 +54,7 @@ pub fn decode_bytes(alloc: Global, bytes: &[u8], depth: usize) -> Result<String,
     }
 }
 
-/// A text to bytes, and those to a text.
+/// Converts a text to bytes, and those to a text.
 pub fn text_again(alloc: Global, text: &str, depth: usize) -> Result<String, NotAgain>
     // The canonical text of a document, its keys in order, comes back.
     ensures same { (ps : Pairs) → IsTextInOrder Finite Canonical (document ps) text.now → ComesBack ps → Nests depth ps
@@ -70,7 +70,7 @@ pub fn text_again(alloc: Global, text: &str, depth: usize) -> Result<String, Not
     decode_bytes(alloc, bytes.as_slice(), depth)
 }
 
-/// Bytes to a text, and that to bytes.
+/// Converts bytes to a text, and that to bytes.
 pub fn bytes_again(alloc: Global, bytes: &[u8], depth: usize) -> Result<Vec<u8>, NotAgain>
     // The bytes that a document is written as come back.
     ensures same { (ps : Pairs) → IsCanonical depth bytes.now ps → ComesBack ps

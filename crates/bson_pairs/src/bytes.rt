@@ -27,7 +27,7 @@ pub enum NoText {
     OutOfMemory,
 }
 
-/// The canonical text of the document that the bytes are.
+/// Returns the canonical text of the document that the bytes encode.
 pub fn text_of_bytes(alloc: Global, bytes: &[u8], depth: usize) -> Result<String, NoText>
     // It is the text of the one document that they are in the grammar.
     ensures ok { IfOk result (λ text. (ps : Pairs) × IsRead depth bytes.now ps
@@ -58,7 +58,7 @@ pub enum NoBytes {
     NoBytes(ser::Error),
 }
 
-/// The bytes of the document that the text means.
+/// Returns the bytes of the document that the text denotes.
 pub fn bytes_of_text(alloc: Global, text: &[u8]) -> Result<Vec<u8>, NoBytes>
     // They are the canonical bytes of a document that the text means, and are read back as it.
     ensures ok { IfOk result (λ out. (ps : Pairs) × HasTextMeaning text.now (document ps)

@@ -17,8 +17,9 @@ use bson::Bson;
 use bson::extjson::{Form, Options, WriteError};
 use std::alloc::Global;
 
-/// Whether the canonical texts of two values are equal. Of plain values, in which no document has a
-/// wrapper key of its own, they are equal exactly if the values' normal forms are the same.
+/// Returns whether the canonical texts of two values are equal. Of plain values, in which no
+/// document has a wrapper key of its own, they are equal exactly if the values' normal forms are
+/// the same.
 ///
 /// A value that holds a finite double other than zero, at any depth, is refused as `FiniteDouble`,
 /// and running out of memory is `OutOfMemory`.
@@ -33,9 +34,9 @@ pub fn have_one_text(alloc: Global, left: &Bson, right: &Bson) -> Result<bool, W
     Ok(first == second)
 }
 
-/// Whether the texts of two values in a form are equal, with the doubles that the options name. Of
-/// plain values they are equal exactly if the values' normal forms are the same, narrowed in the
-/// relaxed form.
+/// Returns whether the texts of two values in a form are equal, with the doubles that the options
+/// name. Of plain values they are equal exactly if the values' normal forms are the same, narrowed
+/// in the relaxed form.
 ///
 /// With `Doubles::Finite` each value has a text: only running out of memory may come in its place.
 pub fn have_one_text_with(

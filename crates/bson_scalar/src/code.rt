@@ -11,14 +11,14 @@ use json::Writer;
 use serde_json::{Map, Value};
 use std::alloc::{AllocError, Global};
 
-/// Whether an object of these two keys, by ascending key, is code with its scope.
+/// Returns whether an object with these two keys, in ascending order, is code with its scope.
 pub fn is_code_with_scope(key: &str, other: &str) -> bool
     ensures { result ≡ (bytes_eq key.now (codes "$code") && bytes_eq other.now (codes "$scope")) }
 {
     key == "$code" && is_scope(other)
 }
 
-/// Whether a scope stands at the key, where code stands beside it.
+/// Returns whether the key is that of a scope, next to code.
 pub fn is_scope(key: &str) -> bool
     ensures { result ≡ bytes_eq key.now (codes "$scope") }
 {

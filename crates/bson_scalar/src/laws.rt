@@ -9,29 +9,29 @@ ghost use Rattle.bson_scalar.specs.Laws.{HasTextIn, AllWritable, ReadsBackIn};
 ghost use Rattle.bson_scalar.specs.TreeText.{IsDouble, float_text};
 ghost use Rattle.bson_scalar.specs.declared.form.Doubles.{Doubles};
 
-/// What reading a tree gives is its one meaning; what is read is writable.
+/// Proves that what reading a tree returns is its one meaning; what is read is writable.
 pub fn reading()
     ensures meaning { Meaning }
     ensures one { OneMeaning }
     ensures form { ReadForm }
 {}
 
-/// What writing a scalar gives is the grammar's tree of its normal form, exactly for a writable
-/// one; of doubles these are the zeros, infinities and NaNs.
+/// Proves that writing a scalar returns the grammar's tree of its normal form, and that exactly the
+/// writable scalars have one; of doubles these are the zeros, infinities and NaNs.
 pub fn writing()
     ensures tree { Tree }
     ensures writable { Writable }
     ensures text { HasText }
 {}
 
-/// What is written reads back as the normal form, narrowed in the relaxed form.
+/// Proves that what is written reads back as the normal form, narrowed in the relaxed form.
 pub fn round_trip()
     ensures back { ReadsBack }
     ensures normal { NormalAgain }
     ensures as_read { AsReadAgain }
 {}
 
-/// The same in each mode of doubles; in the mode `Finite` every scalar is writable.
+/// Proves the laws above in each mode of doubles; in the mode `Finite` every scalar is writable.
 pub fn each_mode()
     ensures meaning { (m : Doubles) → MeaningIn m }
     ensures one { (m : Doubles) → OneMeaningIn m }
@@ -43,7 +43,8 @@ pub fn each_mode()
     ensures back { (m : Doubles) → ReadsBackIn m }
 {}
 
-/// The text of a finite double that is written as a JSON number is its shortest decimal.
+/// Proves that the text of a finite double that is written as a JSON number is its shortest
+/// decimal.
 pub fn number_texts()
     ensures { (x : Float) → IsDouble x → IsDoubleText (to_bits binary64 x) (float_text x) }
 {}

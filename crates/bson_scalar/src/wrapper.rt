@@ -47,7 +47,7 @@ fn is_ordinary(key: &str) -> bool
     bytes.is_empty() || bytes[0] != b'$'
 }
 
-/// The wrapper of a key.
+/// Returns the wrapper of a key.
 pub fn wrapper_named(key: &str) -> Option<Wrapper>
     ensures { result ≡ wrapper_of key.now }
 {

@@ -77,7 +77,7 @@ impl<V: Drop> Drop for SmallPairs<V> {
 }
 
 impl<V> SmallPairs<V> {
-    /// A store of no pairs, which has taken no memory yet.
+    /// Makes a store without pairs, which has not allocated yet.
     pub fn new(alloc: Global) -> SmallPairs<V>
         ensures { result ≡ [] }
     {
@@ -87,7 +87,7 @@ impl<V> SmallPairs<V> {
         }
     }
 
-    /// The allocator that the store takes its memory from.
+    /// Returns the allocator of the store.
     pub fn allocator(&self) -> Global {
         *self.pairs.allocator()
     }
@@ -109,7 +109,7 @@ impl<V: Drop> SmallPairs<V> {
         })
     }
 
-    /// The pairs by value, in their order. The index is dropped.
+    /// Returns the pairs by value, in their order. The index is dropped.
     pub fn into_pairs(self) -> IntoIter<V>
         ensures pairs { result ≡ self }
         ensures distinct { HasDistinctKeys self }

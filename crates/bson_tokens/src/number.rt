@@ -7,8 +7,8 @@ ghost use Rattle.serde_json.specs.View.{number_view};
 use fast_float::Numeral;
 use serde_json::Number;
 
-/// The number that a token of JSON stands for: an integer where it is one of 64 bits, and else the
-/// nearest double. None where that is not finite.
+/// Returns the number that a token of JSON denotes: an integer if it is one of 64 bits, and
+/// otherwise the nearest double. None where that is not finite.
 pub fn number(text: &str) -> Option<Number>
     ensures { option_map number_view result ≡ number_of text.now }
 {

@@ -2,8 +2,8 @@
 ghost use Rattle.std.specs.Prelude.{◌≡◌};
 ghost use Rattle.bson_tokens.specs.Prefix.{prefix};
 
-/// The first sixteen bytes of the key as one number, with zeros for those that are missing: of keys
-/// whose numbers differ, that with the greater number is greater by bytes.
+/// Returns the first sixteen bytes of the key as one number, with zeros for missing bytes: if the
+/// numbers of two keys differ, the key with the greater number is greater by bytes.
 pub fn prefix_of(key: &[u8]) -> u128
     ensures { result ≡ prefix key.now 16 }
 {

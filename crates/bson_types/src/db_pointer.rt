@@ -20,7 +20,7 @@ pub struct DbPointer {
 impl DbPointer {
     ghost use Rattle.bson_types.specs.DbPointer.{namespace_of, id_of};
 
-    /// The pointer to the document of this id in this collection.
+    /// Makes the pointer to the document with this id in this collection.
     pub fn new(namespace: String, id: ObjectId) -> DbPointer
         ensures namespace { namespace_of result ≡ string_bytes namespace }
         ensures id { id_of result ≡ id }
@@ -28,21 +28,21 @@ impl DbPointer {
         DbPointer { namespace, id }
     }
 
-    /// The name of the collection.
+    /// Returns the name of the collection.
     pub fn namespace(&self) -> &str
         ensures { result.now ≡ namespace_of self.now }
     {
         self.namespace.as_str()
     }
 
-    /// The id of the document.
+    /// Returns the id of the document.
     pub fn id(&self) -> ObjectId
         ensures { result ≡ id_of self.now }
     {
         self.id
     }
 
-    /// The name and the id, without a copy of the name.
+    /// Returns the name and the id, without a copy of the name.
     pub fn into_parts(self) -> (String, ObjectId)
         ensures namespace { string_bytes result.0 ≡ namespace_of self }
         ensures id { result.1 ≡ id_of self }

@@ -77,14 +77,14 @@ impl Model for ObjectId {
 }
 
 impl ObjectId {
-    /// The id of these bytes.
+    /// Makes the id with these bytes.
     pub fn from_bytes(bytes: [u8; 12]) -> ObjectId
         ensures { result ≡ bytes }
     {
         ObjectId { bytes }
     }
 
-    /// The id of these seconds since 1970-01-01T00:00:00Z, process id and counter.
+    /// Makes the id of these seconds since 1970-01-01T00:00:00Z, process id and counter.
     pub fn from_parts(seconds: u32, process_id: [u8; 5], counter: [u8; 3]) -> ObjectId
         ensures { result ≡ to_be_bytes w32 seconds ++ process_id ++ counter }
     {
@@ -120,7 +120,7 @@ impl ObjectId {
         }
     }
 
-    /// The moment of the id's seconds.
+    /// Returns the date-time of the id's seconds.
     pub fn timestamp(&self) -> DateTime
         ensures { result ≡ oid_millis self.now }
     {
@@ -129,7 +129,7 @@ impl ObjectId {
         DateTime::from_millis(seconds as i64 * 1000)
     }
 
-    /// The 12 bytes.
+    /// Returns the 12 bytes.
     pub fn bytes(&self) -> [u8; 12]
         ensures value { result ≡ self.now }
         ensures ranged { IsObjectId self.now }

@@ -78,14 +78,14 @@ impl PackedBitVector {
         PackedBitVector::new(with_zero_bits(bytes, padding), Some(padding))
     }
 
-    /// The bytes.
+    /// Returns the bytes.
     pub fn as_bytes(&self) -> &[u8]
         ensures { result.now ≡ packed_bytes self.now }
     {
         self.bytes.as_slice()
     }
 
-    /// How many of the lowest bits of the last byte are ignored: 0 to 7.
+    /// Returns how many of the lowest bits of the last byte are ignored: 0 to 7.
     pub fn padding(&self) -> u8
         ensures value { result ≡ packed_padding self.now }
         ensures small { result < 8 }

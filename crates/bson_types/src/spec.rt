@@ -62,7 +62,7 @@ pub enum ElementType {
 impl ElementType {
     ghost use Rattle.bson_types.specs.Tags.{tag_of};
 
-    /// The type whose tag is the byte, or None where the byte is no tag.
+    /// Returns the type whose tag is the byte, or `None` if the byte is not a tag.
     pub fn from(tag: u8) -> Option<ElementType>
         ensures { (t : ElementType) → (result ≡ Some t) ↔ (tag_of t ≡ tag) }
     {
@@ -92,7 +92,7 @@ impl ElementType {
         })
     }
 
-    /// The byte that stands for the type.
+    /// Returns the byte that stands for the type.
     pub fn tag(&self) -> u8
         ensures { result ≡ tag_of self.now }
     {

@@ -88,7 +88,7 @@ impl Model for Uuid {
 impl Uuid {
     ghost use Rattle.bson_types.specs.Orders.{IsInvalidUuidString};
 
-    /// The UUID of these bytes.
+    /// Makes the UUID with these bytes.
     pub fn from_bytes(bytes: [u8; 16]) -> Uuid
         ensures { result ≡ bytes }
     {
@@ -117,7 +117,7 @@ impl Uuid {
         }
     }
 
-    /// The 16 bytes.
+    /// Returns the 16 bytes.
     pub fn bytes(&self) -> [u8; 16]
         ensures value { result ≡ self.now }
         ensures ranged { IsUuid self.now }

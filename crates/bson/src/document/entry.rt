@@ -78,7 +78,7 @@ impl Document {
         }
     }
 
-    /// The entry of the key, which takes no memory.
+    /// Returns the entry of the key, without an allocation.
     pub fn entry(&mut self, key: String) -> Entry<'_>
         ensures key { entry_key result ≡ string_bytes key }
         ensures same_document { (entry_document result).ghost_name ≡ self.entry.ghost_name }
@@ -106,7 +106,7 @@ impl<'a> Entry<'a> {
     ghost use Rattle.bson.specs.declared.bson.Bson.{Bson};
     ghost use Rattle.bson.specs.Entry.{entry_key, entry_value, entry_lends};
 
-    /// The key that was asked for.
+    /// Returns the key of the entry.
     pub fn key(&self) -> &str
         ensures { result.now ≡ entry_key self.now }
     {
@@ -166,7 +166,7 @@ impl<'a> OccupiedEntry<'a> {
     ghost use Rattle.std.specs.Borrow.{sem};
     ghost use Rattle.bson.specs.Entry.{Occupied, entry_key, entry_value, occupied_lends};
 
-    /// The key that was asked for.
+    /// Returns the key of the entry.
     pub fn key(&self) -> &str
         ensures { result.now ≡ entry_key (Occupied self.now) }
     {

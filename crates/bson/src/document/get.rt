@@ -12,7 +12,7 @@ use crate::bson::Bson;
 use bson_store::PairStore;
 
 impl Document {
-    /// The number of pairs, which is the number of keys: no key stands twice.
+    /// Returns the number of pairs, which is the number of keys: no key is a duplicate.
     pub fn len(&self) -> usize
         ensures len { result ≡ length (contents self.now) }
         ensures distinct { HasDistinctKeys (contents self.now) }
@@ -20,14 +20,14 @@ impl Document {
         self.pairs.len()
     }
 
-    /// Whether the document has no pair.
+    /// Returns whether the document has no pairs.
     pub fn is_empty(&self) -> bool
         ensures { IsTrue result ↔ (contents self.now ≡ []) }
     {
         self.len() == 0
     }
 
-    /// The value at the key.
+    /// Returns the value at the key.
     pub fn get(&self, key: &str) -> Option<&Bson>
         ensures { option_copied result ≡ value_of key.now (contents self.now) }
     {
@@ -37,8 +37,8 @@ impl Document {
         }
     }
 
-    /// The value at the key, to be written. A write changes that value, and nothing else of the
-    /// document.
+    /// Returns the value at the key, to be written. A write changes that value, and nothing else of
+    /// the document.
     pub fn get_mut(&mut self, key: &str) -> Option<&mut Bson>
         ensures* writes_back { sem 𝓛 (LendsValue self.entry self.old key.now result) }
         ensures value { option_map (λ x. x.now) result ≡ value_of key.now (contents self.old) }
@@ -49,14 +49,14 @@ impl Document {
         }
     }
 
-    /// Whether the document has the key.
+    /// Returns whether the document has the key.
     pub fn contains_key(&self, key: &str) -> bool
         ensures { result ≡ is_some (value_of key.now (contents self.now)) }
     {
         self.get(key).is_some()
     }
 
-    /// Whether the document has the key, and null there.
+    /// Returns whether the value at the key is null.
     pub fn is_null(&self, key: &str) -> bool
         ensures { IsTrue result ↔ (value_of key.now (contents self.now) ≡ Some Null) }
     {

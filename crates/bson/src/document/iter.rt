@@ -133,7 +133,7 @@ impl Document {
     ghost use Rattle.bson.specs.Iter.{pairs_left, keys_left, values_left};
     ghost use Rattle.bson.specs.View.{contents};
 
-    /// The pairs in their order, each as a key and a value.
+    /// Iterates over the pairs in their order, each as a key and a value.
     pub fn iter(&self) -> Iter<'_>
         ensures { pairs_left result ≡ contents self.now }
     {
@@ -142,14 +142,14 @@ impl Document {
         }
     }
 
-    /// The keys in their order.
+    /// Iterates over the keys in their order.
     pub fn keys(&self) -> Keys<'_>
         ensures { keys_left result ≡ keys (contents self.now) }
     {
         Keys { pairs: self.iter() }
     }
 
-    /// The values in the order of their keys.
+    /// Iterates over the values in the order of their keys.
     pub fn values(&self) -> Values<'_>
         ensures { values_left result ≡ values (contents self.now) }
     {

@@ -35,7 +35,7 @@ impl Document {
     ghost use Rattle.bson.specs.Changes.{ChangesEach};
     ghost use Rattle.bson.specs.Place.{place_document, place_index, RestsWithoutPlace};
 
-    /// The pair at a place, from 0, its value to be written. None past the last pair.
+    /// Returns the pair at an index, from 0, with its value to write. None past the last pair.
     ///
     /// Nothing is promised of the document after this call, also where it answers None: its
     /// contract can't say so in this form. [`Document::change_index`] and [`Document::place_mut`]
@@ -90,7 +90,7 @@ impl Document {
         }
     }
 
-    /// The place of a pair, from 0. None past the last pair.
+    /// Returns a guard for the pair at an index, from 0. None past the last pair.
     pub fn place_mut(&mut self, at: usize) -> Option<PlaceMut<'_>>
         ensures* unchanged_at_none { sem 𝓛 (RestsWithoutPlace self.entry self.old result) }
         ensures same_document { IfSome result (λ p. (place_document p).ghost_name ≡ self.entry.ghost_name) }
@@ -109,7 +109,7 @@ impl Document {
 impl<'a> PlaceMut<'a> {
     ghost use Rattle.bson.specs.Place.{place_document, place_index, place_lends};
 
-    /// The key of the pair.
+    /// Returns the key of the pair.
     pub fn key(&self) -> &String
         ensures { Some (string_bytes result.now)
             ≡ slice_get (keys (contents (place_document self.now).now)) (place_index self.now) }
@@ -117,8 +117,8 @@ impl<'a> PlaceMut<'a> {
         self.document.pairs.key_at(self.at)
     }
 
-    /// The value of the pair, to be written. A write changes that value, and nothing else of the
-    /// document.
+    /// Returns the value of the pair, to be written. A write changes that value, and nothing else
+    /// of the document.
     pub fn into_value(self) -> &'a mut Bson
         ensures* writes_back { sem 𝓛 (place_lends self.entry result) }
         ensures value { Some result.now

@@ -54,7 +54,7 @@ impl<'a, V> Model for Iter<'a, V> {
 }
 
 impl<V: Drop> SmallPairs<V> {
-    /// The pairs in their order.
+    /// Iterates over the pairs in their order.
     pub fn iter(&self) -> Iter<'_, V>
         ensures pairs { result ≡ self.now }
         ensures distinct { HasDistinctKeys self.now }
@@ -67,7 +67,7 @@ impl<V: Drop> SmallPairs<V> {
         }
     }
 
-    /// The pairs by ascending key, by the keys' bytes.
+    /// Iterates over the pairs in ascending order of the bytes of their keys.
     ///
     /// The walk takes no memory. It goes by the index, or from pair to pair where the keys ascend.
     /// Among sixteen pairs or fewer, whose keys don't, it looks at each for the next one.
