@@ -1,5 +1,5 @@
 //! Texts in the order that each document has its keys in.
-ghost use Rattle.std.specs.Prelude.{◌≡◌, ◌-◌, ◌<◌, ◌++◌, ℕ, List, IfOk, OnOk, OnErr, Err, true, false, string_bytes};
+ghost use Rattle.std.specs.Prelude.{◌≡◌, ◌-◌, ◌*◌, ◌<◌, ◌≤◌, ◌++◌, ℕ, length, List, IfOk, OnOk, OnErr, Err, true, false, string_bytes};
 ghost use Rattle.std.specs.Prelude.{vec_capacity, vec_len};
 ghost use Rattle.bson_scalar.specs.declared.form.Doubles.TheVariants.{Finite};
 ghost use Rattle.bson_scalar.specs.declared.write_error.WriteError.{WriteError};
@@ -61,11 +61,9 @@ impl Bson {
     /// Appends the text of [`Bson::to_text_in_order`] to `out`. On an error `out` has the bytes that
     /// it had.
     ///
-    /// If the value is direct, it fails for want of memory only if `out` has too little room. The
-    /// room of a vector is its capacity without its length. Too little is less than one byte for
-    /// each byte of the text's tokens and one for each token, so twice the length of the text is
-    /// enough. The texts of four kinds are first made in memory of their own. A value is direct if
-    /// it contains none of them:
+    /// If the value is direct, it runs out of memory only if `out` has too little room: twice the
+    /// length of the text is enough. The room of a vector is its capacity without its length. A value
+    /// is direct unless it contains one of these, whose texts are first made in memory of their own:
     ///
     /// - a binary;
     /// - a decimal;
@@ -99,6 +97,8 @@ impl Bson {
         // With enough room memory is never wanting.
         ensures room { IsDirect form (bson_view self.now) → result ≡ Err WriteError.OutOfMemory
             → vec_capacity out.old - vec_len out.old < value_room options.doubles form (bson_view self.now) }
+        ensures twice { (s : List ℕ) → IsTextInOrder options.doubles form (bson_view self.now) s
+            → InRange (bson_view self.now) → value_room options.doubles form (bson_view self.now) ≤ 2 * length s }
         ensures ranged { OnOk result (InRange (bson_view self.now)) }
         ensures distinct { OnOk result (AllDistinct (bson_view self.now)) }
         ensures writable { OnOk result (writable_in options.doubles (bson_view self.now) ≡ true) }

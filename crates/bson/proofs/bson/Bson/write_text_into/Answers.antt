@@ -1,6 +1,7 @@
 use Rattle.bson.specs.View.{bson_view}
 use Rattle.bson.proofs.OrderedTexts.{appended_is, nothing_appended, appended_writable, appended_finite}
 use Rattle.bson.proofs.Stopped.{never_finite}
+use Rattle.bson.proofs.Twice.{room_twice}
 use Rattle.bson.proofs.bson.Bson.write_text_into.Goals as goal
 
 pub returns-clause-text : goal.returns-clause-text
@@ -26,3 +27,7 @@ returns-clause-finite c =
 
 pub returns-clause-every : goal.returns-clause-every
 returns-clause-every c = never_finite c.args.options.doubles c.append_text.result c.append_text.ensures.every
+
+pub returns-clause-twice : goal.returns-clause-twice
+returns-clause-twice c =
+    λ s text ranged. room_twice c.args.options.doubles c.args.form (bson_view c.args.self.now) s text ranged
