@@ -20,7 +20,7 @@ use Rattle.bson_scalar.specs.declared.form.Doubles.TheVariants.{Special, Finite}
 use Rattle.bson_model.specs.Fault.{MeansNothingIn}
 use Rattle.bson_model.specs.Reading.{reads_in, reads_members_in, reads_wrapper_in, reads_scope_in}
 use Rattle.bson_model.specs.Reading.{scalar_value, code_at, scope_value}
-use Rattle.bson_model.specs.Value.{Value, Pairs}
+use Rattle.bson_model.specs.Value.{Pairs}
 use Rattle.bson_model.specs.Value as model
 use Rattle.bson_model.proofs.Offered.{means_from_in, means_to_in}
 use Rattle.bson_place.specs.Place.{IsWrapperFaultIn, IsOpen, lone, code_with_scope}
