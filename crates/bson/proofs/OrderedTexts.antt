@@ -20,7 +20,7 @@ use Rattle.bson_order.specs.Written.{WrittenInOrder}
 use Rattle.bson_order.proofs.Offered.{default_written, has_no_float, one_written, ordered_text, written_from}
 use Rattle.bson_order.proofs.Offered.{writable_is}
 use Rattle.bson.specs.KeyOrders.{writes_by}
-use Rattle.bson.specs.Texts.{GivesText, Appends, IsTextInOrder}
+use Rattle.bson.specs.Texts.{GivesText, AppendsText, IsTextInOrder}
 use Rattle.bson.specs.declared.extjson.key_order.KeyOrder.TheVariants.{AsGiven}
 use Rattle.bson.proofs.KeyOrders.{as_given_is}
 
@@ -74,23 +74,23 @@ module _ (D : Doubles) (f : Form) (v : Value) where
   -- ---- after other bytes
 
   module _ (old new : List ℕ) where
-    pub appended_is : (r : Result (Unit {0}) WriteError) → Appends r (writes_by AsGiven D f v) old new → OnOk r (InRange v)
+    pub appended_is : (r : Result (Unit {0}) WriteError) → AppendsText r (writes_by AsGiven D f v) old new → OnOk r (InRange v)
         → OnOk r (AllDistinct v) → IfOk r (λ _. (s : List ℕ) × IsTextInOrder D f v s × (new ≡ old ++ s))
     appended_is (Ok done) g ranged distinct =
         (text_of g.0, text_of_tree g.0 (text_of g.0) g.1 refl ranged distinct, g.2)
     appended_is (Err e) g ranged distinct = tt
 
-    pub nothing_appended : (r : Result (Unit {0}) WriteError) → Appends r (writes_by AsGiven D f v) old new
+    pub nothing_appended : (r : Result (Unit {0}) WriteError) → AppendsText r (writes_by AsGiven D f v) old new
         → OnErr r (new ≡ old)
     nothing_appended (Ok done) g = tt
     nothing_appended (Err e) g = g.1
 
-    pub appended_writable : (r : Result (Unit {0}) WriteError) → Appends r (writes_by AsGiven D f v) old new
+    pub appended_writable : (r : Result (Unit {0}) WriteError) → AppendsText r (writes_by AsGiven D f v) old new
         → OnOk r (writable_in D v ≡ true)
     appended_writable (Ok done) g = is_writable g.0 g.1
     appended_writable (Err e) g = tt
 
-    pub appended_finite : (r : Result (Unit {0}) WriteError) → Appends r (writes_by AsGiven D f v) old new
+    pub appended_finite : (r : Result (Unit {0}) WriteError) → AppendsText r (writes_by AsGiven D f v) old new
         → r ≡ Err FiniteDouble → writable_in D v ≡ false
     appended_finite (Ok done) g e = cc
     appended_finite (Err OutOfMemory) g e = cc

@@ -56,9 +56,9 @@ GivesText (Ok s) written = (t : Data) × (written ≡ Ok t) × (string_bytes s �
 GivesText (Err e) written = Stops e written
 
 -- the same of a text after other bytes, which stay alone where there is none
-abbrev pub Appends : Result (Unit {0}) WriteError → Result Data Refusal → List ℕ → List ℕ → Type 0
-Appends (Ok done) written old new = (t : Data) × (written ≡ Ok t) × (new ≡ old ++ text_of t)
-Appends (Err e) written old new = Stops e written × (new ≡ old)
+abbrev pub AppendsText : Result (Unit {0}) WriteError → Result Data Refusal → List ℕ → List ℕ → Type 0
+AppendsText (Ok done) written old new = (t : Data) × (written ≡ Ok t) × (new ≡ old ++ text_of t)
+AppendsText (Err e) written old new = Stops e written × (new ≡ old)
 
 -- why a value is not written: where finite doubles are, for running out of memory alone
 abbrev pub MayStop : Doubles → WriteError → Type 0

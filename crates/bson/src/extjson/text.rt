@@ -11,7 +11,7 @@ ghost use Rattle.bson_model.specs.Normal.{InRange, ItemsInRange, PairsInRange};
 ghost use Rattle.bson_order.specs.Distinct.{AllDistinct, ItemsDistinct, PairsDistinct};
 ghost use Rattle.bson_store.specs.Pairs.{HasDistinctKeys};
 ghost use Rattle.bson.specs.KeyOrders.{ordered, writes_by, writes_items_by, writes_pairs_by};
-ghost use Rattle.bson.specs.Texts.{Prints, GivesText, Appends, MayStop};
+ghost use Rattle.bson.specs.Texts.{Prints, GivesText, AppendsText, MayStop};
 ghost use Rattle.bson.specs.IsScalar.{IsScalar};
 ghost use Rattle.bson.specs.Room.{is_direct as is_direct_scalar, IsDirect, ValuesDirect, PairsDirect};
 ghost use Rattle.bson.specs.Room.{written_room, value_room, values_room, pairs_room, SpendsOrStops};
@@ -75,7 +75,7 @@ pub(crate) fn append_text(
     value: &Bson,
     out: &mut Vec<u8>,
 ) -> Result<(), WriteError>
-    ensures written { Appends result (writes_by AsGiven doubles form (bson_view value.now)) out.old.items out.new.items }
+    ensures written { AppendsText result (writes_by AsGiven doubles form (bson_view value.now)) out.old.items out.new.items }
     ensures ranged { OnOk result (InRange (bson_view value.now)) }
     ensures distinct { OnOk result (AllDistinct (bson_view value.now)) }
     ensures every { IfErr result (MayStop doubles) }
