@@ -124,7 +124,7 @@ module _ (D : Doubles) where
   two_nothing k d l e true h o none =
       let keys = and_parts _ _ h in
       let coded : (IsOpen (member k d (member l e no_members)) → ⊥) → MeansNothingIn D (object_of_two k d l e)
-          → code_at k d l (reads_scope_in D e) ≡ Err wrong_shape =
+      → code_at k d l (reads_scope_in D e) ≡ Err wrong_shape =
       rw (key_is k _ keys.0, key_is l _ keys.1) (code_nothing d e) in
       coded o none
   two_nothing k d l e false h o none = other_keys k d l (reads_scope_in D e) h
