@@ -27,7 +27,7 @@ modes_numbered = (refl, refl, refl, refl)
 -- ---- options
 
 -- the struct with these fields
-options_with : (doubles key_order duplicate_keys v1 : ℕ) → CallOptions
+abbrev options_with : (doubles key_order duplicate_keys v1 : ℕ) → CallOptions
 options_with doubles key_order duplicate_keys v1 = record {
   size = 24;
   doubles = doubles;

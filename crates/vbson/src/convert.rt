@@ -4,7 +4,7 @@ ghost use Rattle.serde_json.specs.Data.{Data};
 ghost use Rattle.bson.specs.declared.extjson.options.Options.{Options};
 ghost use Rattle.bson_model.specs.Means.{MeansIn};
 ghost use Rattle.bson_model.specs.Value as model;
-ghost use Rattle.bson_convert.specs.Convert.{Converts, IsRefusedIn, newline};
+ghost use Rattle.bson_convert.specs.Convert.{IsRefusedIn, newline};
 ghost use Rattle.bson.specs.TextMeaning.{IsNoText, IsTextOf};
 ghost use Rattle.bson_convert.specs.declared.mode.Mode.{Mode};
 ghost use Rattle.vbson.specs.Convert.{HasNoMeaningIn, IsBad, IsBadId, IsCauseIn};

@@ -54,8 +54,8 @@ pub extern "C" fn vbson_same_nonnull(
 }
 
 /// Computes the hash of the value of a text. Texts that `vbson_same_nonnull` finds the same have one
-/// hash: /// the value's words in SipHash-1-3 with both keys 0. Whoever chooses the texts can choose many of
-/// one hash.
+/// hash: the value's words in SipHash-1-3 with both keys 0. Whoever chooses the texts can choose
+/// many of one hash.
 #[unsafe(no_mangle)]
 pub extern "C" fn vbson_hash_nonnull(
     alloc: Global,
