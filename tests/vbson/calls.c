@@ -247,6 +247,26 @@ static void same(void) {
     CHECK(vbson_same(0, TEXT("1"), TEXT("{\"$oid\":\"\"}")) == VBSON_BAD_OBJECT_ID);
 }
 
+static void canonical(void) {
+    static const char *const texts[] = {"{\"a\":{\"$numberInt\":\"1\"},\"b\":[true]}", "{\"b\":[true],\"a\":{\"$numberInt\":\"1\"}}",
+        "{\"a\":1,\"b\":[true]}", "{\"$numberDouble\":\"1.5\"}", "{\"$numberDouble\":\"1.50\"}", "null", "null ", " null", "null\n",
+        "\"\\u0061\"", "\"a\"", "{\"a\":null,\"a\":null}", "1.5", "", "!", "{\"$oid\":\"\"}", "{\"$numberInt\":1}"};
+    static const uint32_t none[] = {VBSON_KEEP_ORDER, VBSON_REJECT_DUPLICATE_KEYS, VBSON_DOUBLES | VBSON_LEGACY, 16, UINT32_MAX};
+    for (size_t i = 0; i < sizeof texts / sizeof *texts; i++)
+        for (uint32_t flags = 0; flags <= VBSON_DOUBLES; flags++) {
+            vbson_buffer out = VBSON_BUFFER_INIT;
+            int is_own = vbson_convert_with(VBSON_CANONICAL, flags, TEXT(texts[i]), &out) == VBSON_OK && out.len == strlen(texts[i])
+                && memcmp(out.bytes, texts[i], out.len) == 0;
+            CHECK(vbson_is_canonical_text(flags, TEXT(texts[i])) == (is_own ? VBSON_OK : VBSON_NOT_CANONICAL));
+            vbson_buffer_free(&out);
+        }
+    CHECK(vbson_is_canonical_text(0, TEXT(texts[0])) == VBSON_OK && vbson_is_canonical_text(0, TEXT(texts[1])) == VBSON_NOT_CANONICAL);
+    CHECK(vbson_is_canonical_text(VBSON_DOUBLES, TEXT(texts[3])) == VBSON_OK && vbson_is_canonical_text(0, TEXT(texts[3])) == VBSON_NOT_CANONICAL);
+    CHECK(vbson_is_canonical_text(VBSON_DOUBLES, TEXT(texts[4])) == VBSON_NOT_CANONICAL);
+    for (size_t i = 0; i < sizeof none / sizeof *none; i++)
+        CHECK(vbson_is_canonical_text(none[i], TEXT("null")) == VBSON_INVALID_ARGUMENT && vbson_is_canonical_text(none[i], TEXT("!")) == VBSON_INVALID_ARGUMENT);
+}
+
 static void same_by_flags(void) {
     const char *price = "{\"a\":1,\"price\":12.5}", *other = "{\"price\":{\"$numberDouble\":\"12.50\"},\"a\":1}";
     const char *twice = "{\"a\":1,\"a\":2}", *within = "[{\"b\":{\"\\u0061\":1,\"a\":2}}]";
@@ -580,6 +600,7 @@ int main(void) {
     explain();
     errors();
     same();
+    canonical();
     same_by_flags();
     hash();
     same_documents();

@@ -14,7 +14,7 @@ use Rattle.bson_place.specs.Place.{PathSegment, path_of}
 use Rattle.bson_run.specs.Place.{IsExplanation, column_at, line_at, words_at}
 use Rattle.bson_run.specs.Words.{words_broken}
 use Rattle.bson_run.specs.declared.explain.Explanation.{Explanation}
-use Rattle.bson_run.specs.declared.explain.Explanation.TheVariants.{Syntax, Other}
+use Rattle.bson_run.specs.declared.explain.Explanation.TheVariants.{Difference, Syntax, Other}
 use Rattle.bson_run.specs.declared.explain.Explanation.TheVariants as explained
 use Rattle.vbson.specs.Convert.{options_of, status_for}
 use Rattle.vbson.specs.Path.{path_pairs}
@@ -29,33 +29,39 @@ use Rattle.vbson.specs.declared.explain.Rejection.{Rejection}
 abbrev pub code_in : Explanation → ℕ
 code_in (Syntax stop) = 2
 code_in (explained.Value place reason) = status_for place.now.reason
+code_in (Difference column) = 16
 code_in Other = 0
 
--- where a text stops to be JSON: the line and the column, from 1, and the bytes before it, which are not all; else 0
+-- where a text stops to be JSON, or to be canonical: the line and the column, from 1, and the bytes before it; else 0
 abbrev pub line_in : List ℕ → Explanation → ℕ
 line_in text (Syntax stop) = line_at stop.offset text
 line_in text (explained.Value place reason) = 0
+line_in text (Difference column) = 1
 line_in text Other = 0
 
 abbrev pub column_in : List ℕ → Explanation → ℕ
 column_in text (Syntax stop) = column_at stop.offset text
 column_in text (explained.Value place reason) = 0
+column_in text (Difference column) = column
 column_in text Other = 0
 
 abbrev pub offset_in : List ℕ → Explanation → ℕ
 offset_in text (Syntax stop) = min stop.offset (length text - 1)
 offset_in text (explained.Value place reason) = 0
+offset_in text (Difference column) = column - 1
 offset_in text Other = 0
 
 -- the path from the invalid value outward
 abbrev pub path_in : Explanation → List PathSegment
 path_in (Syntax stop) = []
 path_in (explained.Value place reason) = path_of place.now
+path_in (Difference column) = []
 path_in Other = []
 
 abbrev pub reason_in : Explanation → List ℕ
 reason_in (Syntax stop) = words_broken stop.rule
 reason_in (explained.Value place reason) = string_bytes reason
+reason_in (Difference column) = []
 reason_in Other = []
 
 -- the struct has this of an explanation of an error of the text, and these words as its message

@@ -204,6 +204,7 @@ fn code_of(found: &Explanation<'_>) -> u32
             Reason::BadObjectId(_) => status::BAD_OBJECT_ID,
             Reason::WrongShape(_) => status::NOT_EXTENDED_JSON,
         },
+        Explanation::Difference(_) => status::NOT_CANONICAL,
         Explanation::Other => status::OK,
     }
 }
@@ -214,6 +215,7 @@ fn line_in(found: &Explanation<'_>, text: &[u8]) -> usize
 {
     match found {
         Explanation::Syntax(stop) => stop.line(text),
+        Explanation::Difference(_) => 1,
         _ => 0,
     }
 }
@@ -224,6 +226,7 @@ fn column_in(found: &Explanation<'_>, text: &[u8]) -> usize
 {
     match found {
         Explanation::Syntax(stop) => stop.column(text),
+        Explanation::Difference(column) => *column,
         _ => 0,
     }
 }
@@ -234,6 +237,7 @@ fn offset_in(found: &Explanation<'_>, text: &[u8]) -> usize
 {
     match found {
         Explanation::Syntax(stop) => stop.offset.min(text.len().saturating_sub(1)),
+        Explanation::Difference(column) => column.saturating_sub(1),
         _ => 0,
     }
 }
@@ -255,6 +259,6 @@ fn reason_of<'a>(found: &'a Explanation<'_>) -> &'a str
     match found {
         Explanation::Syntax(stop) => stop.rule.message(),
         Explanation::Value(_, reason) => reason.as_str(),
-        Explanation::Other => "",
+        Explanation::Difference(_) | Explanation::Other => "",
     }
 }

@@ -68,7 +68,7 @@ def loaded():
         "version": [], "convert_with": [number, number, text, size, out(Buffer)],
         "convert_lines": [number, number, text, size, out(Lines)], "encode_lines": [number, text, size, out(Lines)],
         "decode_documents": [number, number, text, size, out(Documents)],
-        "explain": [number, text, size, out(Error)], "same": [number, text, size, text, size],
+        "is_canonical_text": [number, text, size], "explain": [number, text, size, out(Error)], "same": [number, text, size, text, size],
         "hash": [number, text, size, out(ctypes.c_uint64)], "same_documents": [number, text, size, text, size],
         "hash_document": [number, text, size, out(ctypes.c_uint64)],
         "is_document": [text, size], "explain_document": [number, text, size, out(Error)],

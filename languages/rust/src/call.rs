@@ -74,6 +74,7 @@ extern "C" {
     fn vbson_convert_with(mode: u32, flags: u32, text: *const u8, len: usize, out: *mut RawText) -> u32;
     fn vbson_explain(flags: u32, text: *const u8, len: usize, out: *mut RawError) -> u32;
     fn vbson_convert_lines(mode: u32, flags: u32, block: *const u8, len: usize, out: *mut RawLines) -> u32;
+    fn vbson_is_canonical_text(flags: u32, text: *const u8, len: usize) -> u32;
     fn vbson_same(flags: u32, a: *const u8, a_len: usize, b: *const u8, b_len: usize) -> u32;
     fn vbson_hash(flags: u32, text: *const u8, len: usize, out: *mut u64) -> u32;
     fn vbson_is_document(bytes: *const u8, len: usize) -> u32;
@@ -136,6 +137,7 @@ const ZERO_IN_REGEX: u32 = 12;
 const TOO_LONG: u32 = 13;
 const NOT_FOUND: u32 = 14;
 const UNEXPECTED_TYPE: u32 = 15;
+const NOT_CANONICAL: u32 = 16;
 
 /// The flag for finite doubles.
 pub const DOUBLES: u32 = 1;
@@ -168,9 +170,9 @@ fn expect_ok(status: u32) -> Result<(), ErrorKind> {
         ZERO_IN_KEY => Err(ErrorKind::ZeroInKey),
         ZERO_IN_REGEX => Err(ErrorKind::ZeroInRegex),
         TOO_LONG => Err(ErrorKind::TooLong),
-        // `Mode`, `Options` and `ReadOptions` have no other number, `MAX_LENGTH` is enough, and `compared` looks for DIFFERENT.
-        // The calls on raw documents look for the last two.
-        INVALID_ARGUMENT | BUFFER_TOO_SMALL | DIFFERENT | NOT_FOUND | UNEXPECTED_TYPE => unreachable!(),
+        // `Mode`, `Options` and `ReadOptions` have no other number, `MAX_LENGTH` is enough, and `answered` looks for DIFFERENT
+        // and NOT_CANONICAL. The calls on raw documents look for the last two.
+        INVALID_ARGUMENT | BUFFER_TOO_SMALL | DIFFERENT | NOT_CANONICAL | NOT_FOUND | UNEXPECTED_TYPE => unreachable!(),
         other => unreachable!("status {other}"),
     }
 }
@@ -288,18 +290,23 @@ fn left(call: impl FnOnce(*mut RawText) -> u32) -> Result<RawText, ErrorKind> {
 
 pub fn same(flags: u32, a: &[u8], b: &[u8]) -> Result<bool, ErrorKind> {
     // SAFETY: the slices are readable.
-    compared(|| unsafe { vbson_same(flags, a.as_ptr(), a.len(), b.as_ptr(), b.len()) })
+    answered(DIFFERENT, || unsafe { vbson_same(flags, a.as_ptr(), a.len(), b.as_ptr(), b.len()) })
 }
 
 pub fn same_documents(flags: u32, a: &[u8], b: &[u8]) -> Result<bool, ErrorKind> {
     // SAFETY: as above.
-    compared(|| unsafe { vbson_same_documents(flags, a.as_ptr(), a.len(), b.as_ptr(), b.len()) })
+    answered(DIFFERENT, || unsafe { vbson_same_documents(flags, a.as_ptr(), a.len(), b.as_ptr(), b.len()) })
 }
 
-fn compared(call: impl FnOnce() -> u32) -> Result<bool, ErrorKind> {
+pub fn is_canonical_text(flags: u32, text: &[u8]) -> Result<bool, ErrorKind> {
+    // SAFETY: the slice is readable.
+    answered(NOT_CANONICAL, || unsafe { vbson_is_canonical_text(flags, text.as_ptr(), text.len()) })
+}
+
+fn answered(no: u32, call: impl FnOnce() -> u32) -> Result<bool, ErrorKind> {
     wants_processor();
     match call() {
-        DIFFERENT => Ok(false),
+        status if status == no => Ok(false),
         status => expect_ok(status).map(|()| true),
     }
 }
