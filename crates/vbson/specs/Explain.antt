@@ -80,6 +80,7 @@ pub record IsError (text : List ℕ) (fault : Error) (out : Rejection) : Type 0 
   pub lies : IsExplanation text fault explanation
   pub said : Says text explanation (words_of fault ++ words_at text explanation) out
   pub utf8 : IsUtf8 (words_of fault ++ words_at text explanation)
+  pub reason_utf8 : IsUtf8 (reason_in explanation)
 
 -- ---- which text
 
@@ -136,6 +137,7 @@ pub record ArePartsOf (text : List ℕ) (it : Explanation) (parts : Parts) : Typ
   pub offset : parts.offset ≡ offset_in text it
   pub path : parts.path.items ≡ document_bytes (path_pairs (path_in it)) ++ newline
   pub reason : parts.reason.items ≡ reason_in it ++ newline
+  pub utf8 : IsUtf8 (reason_in it)
 
 -- the line without its end
 abbrev pub front : List ℕ → List ℕ

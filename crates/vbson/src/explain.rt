@@ -188,7 +188,7 @@ fn parts_of(alloc: Global, found: &Explanation<'_>, text: &[u8]) -> Result<Parts
 
 // The words, and a newline.
 pub(crate) fn line_of(alloc: Global, words: &str) -> Result<Vec<u8>, AllocError>
-    ensures { IfOk result (λ line. line.items ≡ words.now ++ newline) }
+    ensures { IfOk result (λ line. IsUtf8 words.now × (line.items ≡ words.now ++ newline)) }
 {
     let line = format!(in alloc; "{words}\n")?;
     Ok(line.into_bytes())
