@@ -8,7 +8,7 @@ _bson() {
             decode) own='--sort-keys --strict ' options='--sort-keys --strict --keep-going --jobs --output --help --version' ;;
             encode) modes='' mode=$it options='--sort-keys --strict --keep-going --jobs --output --help --version' ;;
             show) mode=$it options=${options/ --indent/} options=${options#"$own"} ;;
-            check) mode=$it options=${options#"$own"} options=${options/--sort-keys /} options=${options/ --indent/} options=${options/ --output/} ;;
+            check) mode=$it options=${options#"$own"} options=${options/--sort-keys /} options=${options/ --indent/} options=${options/ --output/} options=${options/ --no-double-keys/ --no-double-keys --canonical} ;;
             canonical | relaxed) mode=$it ;;
         esac
     done

@@ -57,7 +57,8 @@ enum vbson_status {
     VBSON_ZERO_IN_REGEX = 12,    /* the pattern or the options of a regular expression contain a 0 byte */
     VBSON_TOO_LONG = 13,         /* a part of the document is too long for BSON: 2^31 bytes or more */
     VBSON_NOT_FOUND = 14,        /* the document does not contain the key, or no element is left */
-    VBSON_UNEXPECTED_TYPE = 15   /* the value has another type */
+    VBSON_UNEXPECTED_TYPE = 15,  /* the value has another type */
+    VBSON_NOT_CANONICAL = 16     /* the input is not the canonical form of a value, byte for byte */
 };
 
 /* Returns a short message for a status. */
@@ -79,6 +80,7 @@ static inline const char *vbson_status_text(uint32_t status) {
     case VBSON_TOO_LONG: return "a part is too long for BSON";
     case VBSON_NOT_FOUND: return "not found";
     case VBSON_UNEXPECTED_TYPE: return "unexpected type";
+    case VBSON_NOT_CANONICAL: return "not canonical Extended JSON";
     default: return "no such status";
     }
 }
@@ -192,6 +194,17 @@ uint32_t vbson_convert_nonnull(uint32_t mode, const vbson_options *options, cons
 static inline uint32_t vbson_convert(uint32_t mode, const vbson_options *options, const uint8_t *text, size_t len,
         vbson_buffer *out) {
     return vbson_convert_nonnull(mode, vbson_options_or_init(options), text, len, out);
+}
+
+uint32_t vbson_is_canonical_text_nonnull(const vbson_options *options, const uint8_t *text, size_t len);
+
+/* Checks that the input is canonical: byte for byte the canonical form of its value, with keys in ascending order at every
+ * depth, and without a newline. Values that are equal in normal form have one such text, so it can be signed, hashed or
+ * compared in place of its value. VBSON_NOT_CANONICAL if the input is anything else, also if it is not Extended JSON.
+ * VBSON_DOUBLES_FINITE: finite doubles are accepted, as by vbson_convert. No other option is accepted.
+ * VBSON_INVALID_ARGUMENT, VBSON_NOT_CANONICAL, VBSON_OUT_OF_MEMORY. */
+static inline uint32_t vbson_is_canonical_text(const vbson_options *options, const uint8_t *text, size_t len) {
+    return vbson_is_canonical_text_nonnull(vbson_options_or_init(options), text, len);
 }
 
 /* Why input is rejected, and where. Free path, reason and message with vbson_buffer_free. */

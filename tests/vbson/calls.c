@@ -247,6 +247,29 @@ static void same(void) {
     CHECK(vbson_same(NULL, TEXT("1"), TEXT("{\"$oid\":\"\"}")) == VBSON_BAD_OBJECT_ID);
 }
 
+static void canonical(void) {
+    static const char *const texts[] = {"{\"a\":{\"$numberInt\":\"1\"},\"b\":[true]}", "{\"b\":[true],\"a\":{\"$numberInt\":\"1\"}}",
+        "{\"a\":1,\"b\":[true]}", "{\"$numberDouble\":\"1.5\"}", "{\"$numberDouble\":\"1.50\"}", "null", "null ", " null", "null\n",
+        "\"\\u0061\"", "\"a\"", "{\"a\":null,\"a\":null}", "1.5", "", "!", "{\"$oid\":\"\"}", "{\"$numberInt\":1}"};
+    static const uint32_t none[] = {AS_GIVEN, DISTINCT, FINITE | V1, 16};
+    for (size_t i = 0; i < sizeof texts / sizeof *texts; i++)
+        for (uint32_t fields = 0; fields <= FINITE; fields++) {
+            vbson_buffer out = VBSON_BUFFER_INIT;
+            int is_own = vbson_convert(VBSON_CANONICAL, with(fields), TEXT(texts[i]), &out) == VBSON_OK && out.len == strlen(texts[i])
+                && memcmp(out.bytes, texts[i], out.len) == 0;
+            CHECK(vbson_is_canonical_text(with(fields), TEXT(texts[i])) == (is_own ? VBSON_OK : VBSON_NOT_CANONICAL));
+            vbson_buffer_free(&out);
+        }
+    CHECK(vbson_is_canonical_text(NULL, TEXT(texts[0])) == VBSON_OK && vbson_is_canonical_text(NULL, TEXT(texts[1])) == VBSON_NOT_CANONICAL);
+    CHECK(vbson_is_canonical_text(with(FINITE), TEXT(texts[3])) == VBSON_OK);
+    CHECK(vbson_is_canonical_text(NULL, TEXT(texts[3])) == VBSON_NOT_CANONICAL);
+    CHECK(vbson_is_canonical_text(with(FINITE), TEXT(texts[4])) == VBSON_NOT_CANONICAL);
+    for (size_t i = 0; i < sizeof none / sizeof *none; i++) {
+        CHECK(vbson_is_canonical_text(with(none[i]), TEXT("null")) == VBSON_INVALID_ARGUMENT);
+        CHECK(vbson_is_canonical_text(with(none[i]), TEXT("!")) == VBSON_INVALID_ARGUMENT);
+    }
+}
+
 static void same_by_options(void) {
     const char *price = "{\"a\":1,\"price\":12.5}", *other = "{\"price\":{\"$numberDouble\":\"12.50\"},\"a\":1}";
     const char *twice = "{\"a\":1,\"a\":2}", *within = "[{\"b\":{\"\\u0061\":1,\"a\":2}}]";
@@ -639,6 +662,7 @@ int main(void) {
     explain();
     errors();
     same();
+    canonical();
     same_by_options();
     hash();
     same_documents();

@@ -127,6 +127,20 @@ def try_hashes():
     raises("a hash of nothing", vbson.NotJson, vbson.hash_of, "")
 
 
+def try_canonical():
+    one, other = '{"a":{"$numberDouble":"1.5"},"b":[null]}', '{"b":[null],"a":1.5}'
+    for text in (one, other, one + "\n", "null", " null", '{"a":1,"a":2}', "1.5", "", "{", b"\xff"):
+        for doubles in (True, False):
+            try:
+                wanted = vbson.convert(text, doubles=doubles, keep_order=False) == text
+            except vbson.Error:
+                wanted = False
+            want(f"canonical {text!r}", vbson.is_canonical_text(text, doubles=doubles, legacy=True, keep_order=False), wanted)
+    want("canonical bytes", vbson.is_canonical_text(memoryview(one.encode())), True)
+    raises("a number", TypeError, vbson.is_canonical_text, 5)
+    raises("doubles that are no bool", TypeError, lambda it: vbson.is_canonical_text("1", doubles=it), 1)
+
+
 def try_reading():
     """The options of what only reads, on texts and on documents."""
     price, other = '{"a":1,"price":12.5}', '{"price":{"$numberDouble":"12.50"},"a":1}'
@@ -370,6 +384,7 @@ try_texts()
 try_doubles()
 try_order()
 try_hashes()
+try_canonical()
 try_reading()
 try_machine()
 try_lines()

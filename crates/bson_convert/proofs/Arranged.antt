@@ -11,7 +11,7 @@ use Rattle.bson.specs.declared.extjson.options.Options.{Options}
 use Rattle.bson_convert.specs.Convert.{IsAccepted, IsRefusedIn}
 use Rattle.bson_convert.specs.declared.error.Error.{Error}
 use Rattle.bson_convert.specs.declared.error.Error.TheVariants.{CannotRead, CannotWrite, NotJson, NotExtendedJson}
-use Rattle.bson_convert.specs.declared.error.Error.TheVariants.{NoBytes, OutOfMemory}
+use Rattle.bson_convert.specs.declared.error.Error.TheVariants.{NoBytes, NotCanonical, OutOfMemory}
 
 module _ (o : Options) (bytes : List ℕ) (t : Data) (v : Value) (is : IsTextOf bytes t) (means : MeansIn o.doubles t v) where
   memory_alone : (f : Error) → IsRefusedIn o f bytes → f ≡ OutOfMemory
@@ -22,6 +22,7 @@ module _ (o : Options) (bytes : List ℕ) (t : Data) (v : Value) (is : IsTextOf 
       absurd (h.2.nothing v (subst (λ u. MeansIn o.doubles u v) (tree_one bytes t h.0 is h.1) means))
   memory_alone CannotRead h = absurd h
   memory_alone (NoBytes why) h = absurd h
+  memory_alone (NotCanonical column) h = absurd h
   memory_alone CannotWrite h = absurd h
 
   -- bytes that mean something are refused for want of memory alone
@@ -46,4 +47,5 @@ module _ (o : Options) (text arranged : List ℕ) (utf8 : IsUtf8 text) (same : r
   refused_alike OutOfMemory valid is = tt
   refused_alike CannotRead valid is = is
   refused_alike (NoBytes why) valid is = is
+  refused_alike (NotCanonical column) valid is = is
   refused_alike CannotWrite valid is = is

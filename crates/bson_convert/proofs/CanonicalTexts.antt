@@ -1,5 +1,5 @@
 -- Canonical texts: one for each normal form.
-use Rattle.std.proofs.Common.{◌≡◌, ℕ, List, ◌++◌, refl, sym, ◌∙◌, ap, subst}
+use Rattle.std.proofs.Common.{◌≡◌, ◌≢◌, ℕ, suc, List, ◌++◌, take, refl, sym, ◌∙◌, ap, subst}
 use Rattle.std.proofs.lemmas.List.{append_cancel_right}
 use Rattle.std.proofs.lemmas.Str.{IsUtf8-append}
 use Rattle.json.proofs.Printed.Utf8.{IsUtf8-are_ascii}
@@ -10,7 +10,10 @@ use Rattle.bson_model.specs.Normal.{normal_form}
 use Rattle.bson_model.specs.Written.{WrittenIn}
 use Rattle.bson.specs.TextMeaning.{IsTextOf}
 use Rattle.bson.specs.declared.extjson.options.Options.{Options}
-use Rattle.bson_convert.specs.Convert.{ConvertsIn, IsCanonicalText, newline}
+use Rattle.bson_convert.specs.Convert.{ConvertsIn, IsCanonicalText, IsRefusedIn, IsUncanonicalAt, IsUncanonicalIn, newline}
+use Rattle.bson_convert.specs.declared.error.Error.{Error}
+use Rattle.bson_convert.specs.declared.error.Error.TheVariants.{CannotRead, CannotWrite, NotJson, NotExtendedJson}
+use Rattle.bson_convert.specs.declared.error.Error.TheVariants.{NoBytes, NotCanonical, OutOfMemory}
 use Rattle.bson_convert.specs.declared.mode.Mode.TheVariants.{Canonical}
 use Rattle.bson_convert.proofs.Converting.{converts_one, text_converts}
 use Rattle.bson_convert.proofs.Newline.{read_then}
@@ -51,3 +54,22 @@ module _ (o : Options) where
       append_cancel_right text bytes newline
       (sym (converts_one o Canonical bytes (text ++ newline) (bytes ++ newline)
       (text_converts o Canonical bytes text (text ++ newline) is refl) c))
+
+  -- they are not, and differ from it behind so many bytes
+  pub uncanonical : (n : ℕ) (bytes text : List ℕ) → IsConvertedText o Canonical bytes text → take n bytes ≡ take n text
+      → take (suc n) bytes ≢ take (suc n) text → IsUncanonicalAt o (suc n) bytes
+  uncanonical n bytes text is same differ = record {
+    text = text;
+    converts = text_converts o Canonical bytes text (text ++ newline) is refl;
+    differ = record { before = n; counted = refl; same = same; differ = differ };
+  }
+
+  -- they have no such text
+  pub refused : (fault : Error) (bytes : List ℕ) → IsRefusedIn o fault bytes → IsUncanonicalIn o fault bytes
+  refused CannotRead bytes h = h
+  refused NotJson bytes h = h
+  refused (NotExtendedJson place) bytes h = h
+  refused (NoBytes why) bytes h = h
+  refused (NotCanonical column) bytes h = absurd h
+  refused OutOfMemory bytes h = h
+  refused CannotWrite bytes h = h

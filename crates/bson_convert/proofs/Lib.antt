@@ -3,6 +3,7 @@ mod Arranged
 mod CanonicalTexts
 mod Converting
 mod Deep
+mod Differences
 mod Newline
 pub mod Offered
 mod Rows

@@ -21,7 +21,8 @@ use Rattle.bson_convert.specs.declared.converted.Tried.TheVariants.{Written, Arr
 use Rattle.bson_convert.specs.declared.mode.Mode.{Mode}
 use Rattle.bson_convert.specs.declared.mode.Mode.TheVariants.{Canonical, Relaxed, Show}
 use Rattle.bson_convert.specs.declared.error.Error.{Error}
-use Rattle.bson_convert.specs.declared.error.Error.TheVariants.{NotJson, NotExtendedJson, OutOfMemory}
+use Rattle.bson_convert.specs.Difference.{DifferAt}
+use Rattle.bson_convert.specs.declared.error.Error.TheVariants.{NotJson, NotExtendedJson, NotCanonical, OutOfMemory}
 
 -- what is done where no options are given
 abbrev pub default_options : Options
@@ -105,6 +106,18 @@ IsRefused = IsRefusedIn default_options
 -- themselves and a newline
 abbrev pub IsCanonicalText : Options → List ℕ → Type 0
 IsCanonicalText o bytes = ConvertsIn o Canonical bytes (bytes ++ newline)
+
+-- the bytes mean a value, whose canonical text is another: they differ from it in the byte of this column, and in none
+-- before it
+pub record IsUncanonicalAt (o : Options) (column : ℕ) (bytes : List ℕ) : Type 0 where
+  pub text : List ℕ
+  pub converts : ConvertsIn o Canonical bytes (text ++ newline)
+  pub differ : DifferAt column bytes text
+
+-- what each fault says of bytes that are not canonical
+abbrev pub IsUncanonicalIn : Options → Error → List ℕ → Type 0
+IsUncanonicalIn o (NotCanonical column) bytes = IsUncanonicalAt o column bytes
+IsUncanonicalIn o fault bytes = IsRefusedIn o fault bytes
 
 -- ---- the text
 

@@ -1,4 +1,5 @@
 pub mod Convert
+pub mod Difference
 pub mod Run
 pub mod Words
 -- what public clauses cite of the crates below, so that a caller names this crate alone

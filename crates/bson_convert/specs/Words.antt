@@ -31,6 +31,7 @@ words_of error.CannotRead = codes "cannot read"
 words_of error.NotJson = codes "not JSON"
 words_of (error.NotExtendedJson place) = words_for place.reason
 words_of (error.NoBytes why) = words_without why
+words_of (error.NotCanonical column) = codes "not canonical Extended JSON"
 words_of error.OutOfMemory = codes "out of memory"
 words_of error.CannotWrite = codes "cannot write"
 
@@ -39,12 +40,13 @@ abbrev pub fault_for : Reason → Fault
 fault_for (reason.BadObjectId e) = fault.BadObjectId
 fault_for (reason.WrongShape message) = fault.NotExtendedJson
 
--- the kind of an error; missing bytes are not an error of a run
+-- the kind of an error; missing bytes and a text that is not canonical are not errors of a run
 abbrev pub fault_of : Error → Option Fault
 fault_of error.CannotRead = Some fault.CannotRead
 fault_of error.NotJson = Some fault.NotJson
 fault_of (error.NotExtendedJson place) = Some (fault_for place.reason)
 fault_of (error.NoBytes why) = None
+fault_of (error.NotCanonical column) = None
 fault_of error.OutOfMemory = Some fault.OutOfMemory
 fault_of error.CannotWrite = Some fault.CannotWrite
 

@@ -1,11 +1,12 @@
 //! Texts that are canonical.
-ghost use Rattle.std.specs.Prelude.{◌≡◌, ◌↔◌, IfOk, IsTrue, false};
-ghost use Rattle.bson_convert.specs.Convert.{IsCanonicalText};
+ghost use Rattle.std.specs.Prelude.{◌≡◌, ◌≢◌, ◌≤◌, ◌↔◌, suc, length, take, IfErr, IfOk, IsTrue, OnOk};
+ghost use Rattle.bson_convert.specs.Convert.{IsCanonicalText, IsUncanonicalIn};
 
-use crate::convert::text_with;
+use crate::convert::line_text;
 use crate::error::Error;
 use crate::mode::Mode;
 use bson::extjson::Options;
+use json::Scratch;
 use std::alloc::{AllocError, Global};
 
 /// Returns true if and only if the bytes are the canonical text of the value that they mean, with
@@ -28,23 +29,75 @@ use std::alloc::{AllocError, Global};
 pub fn is_canonical_text(alloc: Global, options: Options, bytes: &[u8]) -> Result<bool, AllocError>
     ensures { IfOk result (λ b. IsTrue b ↔ IsCanonicalText options bytes.now) }
 {
-    match text_with(alloc, options, Mode::Canonical, bytes) {
-        Ok(text) => Ok(text.as_slice() == bytes),
-        Err(error) => without_text(error),
+    match check_canonical(alloc, options, bytes) {
+        Ok(()) => Ok(true),
+        Err(error) => {
+            if error.is_memory() {
+                Err(AllocError)
+            } else {
+                Ok(false)
+            }
+        }
     }
 }
 
-// Bytes without a canonical text are not canonical.
-fn without_text(error: Error) -> Result<bool, AllocError>
-    ensures no { IfOk result (λ b. b ≡ false) }
-    ensures known { IfOk result (λ b. error ≡ Error.OutOfMemory → ⊥) }
+/// Checks that the bytes are canonical, as [`is_canonical_text`] does.
+///
+/// # Errors
+///
+/// - `NotCanonical`: the bytes mean a value, and are not its canonical text. It has the column of the
+///   first byte that differs.
+/// - `NotJson`: the bytes are not UTF-8, or `serde_json` reads no tree from them.
+/// - `NotExtendedJson`: the tree has no meaning. It has the tree's first fault.
+/// - `OutOfMemory`: an allocation failed.
+///
+/// ```
+/// let text = br#"{"n": 5}"#;
+/// if let Err(error) = check_canonical(alloc, Options::default(), text) {
+///     println!(rt; "{error:?}")?; // NotCanonical(6)
+/// }
+/// ```
+pub fn check_canonical(alloc: Global, options: Options, bytes: &[u8]) -> Result<(), Error>
+    ensures ok { OnOk result (IsCanonicalText options bytes.now) }
+    ensures accepts { IsCanonicalText options bytes.now → IfErr result (λ fault. fault ≡ Error.OutOfMemory) }
+    ensures fault { IfErr result (λ fault. IsUncanonicalIn options fault bytes.now) }
 {
-    match error {
-        Error::OutOfMemory => Err(AllocError),
-        Error::NotJson => Ok(false),
-        Error::NotExtendedJson(_) => Ok(false),
-        Error::NoBytes(_) => Ok(false),
-        Error::CannotRead => Ok(false),
-        Error::CannotWrite => Ok(false),
+    check_canonical_line(alloc, options, bytes, &mut Scratch::new(alloc))
+}
+
+/// Checks the bytes as [`check_canonical`] does, with memory that serves one text after another.
+///
+/// # Errors
+///
+/// The errors of [`check_canonical`].
+pub fn check_canonical_line(
+    alloc: Global,
+    options: Options,
+    bytes: &[u8],
+    scratch: &mut Scratch,
+) -> Result<(), Error>
+    ensures ok { OnOk result (IsCanonicalText options bytes.now) }
+    ensures accepts { IsCanonicalText options bytes.now → IfErr result (λ fault. fault ≡ Error.OutOfMemory) }
+    ensures fault { IfErr result (λ fault. IsUncanonicalIn options fault bytes.now) }
+{
+    let text = line_text(alloc, options, Mode::Canonical, bytes, scratch)?;
+    if text.as_slice() == bytes {
+        return Ok(());
     }
+    Err(Error::NotCanonical(common_len(bytes, text.as_slice()) + 1))
+}
+
+// How many bytes two texts have in common at their beginning.
+fn common_len(one: &[u8], other: &[u8]) -> usize
+    ensures short { result ≤ length one.now }
+    ensures common { take result one.now ≡ take result other.now }
+    ensures most { one.now ≢ other.now → take (suc result) one.now ≢ take (suc result) other.now }
+{
+    let most = one.len().min(other.len());
+    for at in 0..most {
+        if one[at] != other[at] {
+            return at;
+        }
+    }
+    most
 }

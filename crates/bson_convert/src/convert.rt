@@ -156,8 +156,8 @@ pub fn text_with(
     line_text(alloc, options, mode, bytes, &mut Scratch::new(alloc))
 }
 
-// [`text_with`] with the memory of a run.
-fn line_text(
+/// [`text_with`] with the memory of a run.
+pub(crate) fn line_text(
     alloc: Global,
     options: Options,
     mode: Mode,

@@ -24,6 +24,9 @@ pub enum Error {
     NotExtendedJson(Place),
     /// The text has a value, but that value has no BSON bytes.
     NoBytes(NoBytes),
+    /// The text has a value, and is not its canonical text: the column of the first byte that
+    /// differs, counted from 1.
+    NotCanonical(usize),
     /// An allocation failed.
     OutOfMemory,
     /// The writer failed, or accepted no byte.
@@ -31,7 +34,8 @@ pub enum Error {
 }
 
 impl Error {
-    /// Returns the kind of the error, as a run reports it, or `None` for `NoBytes`.
+    /// Returns the kind of the error, as a run reports it, or `None` for `NoBytes` and
+    /// `NotCanonical`.
     pub fn fault(&self) -> Option<Fault>
         ensures { result ≡ fault_of self.now }
     {
@@ -43,6 +47,7 @@ impl Error {
                 Reason::WrongShape(_) => Some(Fault::NotExtendedJson),
             },
             Error::NoBytes(_) => None,
+            Error::NotCanonical(_) => None,
             Error::OutOfMemory => Some(Fault::OutOfMemory),
             Error::CannotWrite => Some(Fault::CannotWrite),
         }
@@ -60,6 +65,7 @@ impl Error {
                 Reason::WrongShape(_) => "not Extended JSON",
             },
             Error::NoBytes(why) => why.message(),
+            Error::NotCanonical(_) => "not canonical Extended JSON",
             Error::OutOfMemory => "out of memory",
             Error::CannotWrite => "cannot write",
         }

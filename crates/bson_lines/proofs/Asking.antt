@@ -5,12 +5,13 @@ use Rattle.std.proofs.lemmas.List.{get_or-map, length-map}
 use Rattle.std.specs.List.{Contains}
 use Rattle.std.specs.Option.{IfSome, option_map_or}
 use Rattle.bson_run.specs.Words.{task_name}
+use Rattle.bson_run.specs.declared.order.Criterion.TheVariants.{Canonical, Valid}
 use Rattle.bson_run.specs.declared.order.Taking.{Taking}
 use Rattle.bson_run.specs.declared.order.Task.{Task}
 use Rattle.bson_run.specs.declared.order.Task.TheVariants.{Write, WriteInOrder, Check, Encode, EncodeInOrder}
 use Rattle.bson_run.specs.declared.order.Task.TheVariants.{Taken}
 use Rattle.bson_lines.specs.Flags.{has}
-use Rattle.bson_lines.specs.Order.{first_taken, in_order, is_option, AreGiven, one_more, IsAnswer, IsAskedBy, IsBehind}
+use Rattle.bson_lines.specs.Order.{first_taken, in_order, is_option, judged, AreGiven, one_more, IsAnswer, IsAskedBy, IsBehind}
 use Rattle.bson_lines.specs.Order.{command_of, IsDashed, IsJoined, IsNumbered, IsRefused, IsTaken, Takes}
 use Rattle.bson_lines.specs.declared.arguments.Given.{Given}
 use Rattle.bson_lines.specs.declared.arguments.Taken as arguments
@@ -26,7 +27,7 @@ use Rattle.bson_lines.specs.declared.order.Misuse.{Misuse}
 ordered_name : (task : Task) → task_name (in_order task) ≡ task_name task
 ordered_name (Write mode) = refl
 ordered_name (WriteInOrder mode) = refl
-ordered_name Check = refl
+ordered_name (Check criterion) = refl
 ordered_name Encode = refl
 ordered_name EncodeInOrder = refl
 ordered_name (Taken taking work) = refl
@@ -34,10 +35,20 @@ ordered_name (Taken taking work) = refl
 taken_name : (taking : Taking) (task : Task) → task_name (first_taken taking task) ≡ task_name task
 taken_name taking (Write mode) = refl
 taken_name taking (WriteInOrder mode) = refl
-taken_name taking Check = refl
+taken_name taking (Check Valid) = refl
+taken_name taking (Check Canonical) = refl
 taken_name taking Encode = refl
 taken_name taking EncodeInOrder = refl
 taken_name taking (Taken other work) = refl
+
+judged_name : (b : Bool) (task : Task) → task_name (judged b task) ≡ task_name task
+judged_name false task = refl
+judged_name true (Write mode) = refl
+judged_name true (WriteInOrder mode) = refl
+judged_name true (Check criterion) = refl
+judged_name true Encode = refl
+judged_name true EncodeInOrder = refl
+judged_name true (Taken taking work) = refl
 
 chosen_name : (b : Bool) (task : Task) → task_name (cond b task (in_order task)) ≡ task_name task
 chosen_name true task = refl
@@ -58,7 +69,9 @@ verb_there words o verb h e = subst (λ it. IfSome it (λ it. Contains words (ta
 answered : (words : List (List ℕ)) (given : Given) (asked : Asked) → AreGiven words given
     → IfSome given.task (λ verb. Contains words (task_name verb)) → IsAnswer given asked → IsAskedBy words asked
 answered words given (Run order) are h is = (
-  subst (Contains words) (sym (ap task_name is.task ∙ named _ _ is.verb)) (verb_there words given.task is.verb h is.is_verb),
+  subst (Contains words)
+      (sym (ap task_name is.task ∙ named _ _ (judged given.is_canonical is.verb) ∙ judged_name given.is_canonical is.verb))
+      (verb_there words given.task is.verb h is.is_verb),
   (given, are, is),
 )
 answered words given (Help command) are h is = absurd is

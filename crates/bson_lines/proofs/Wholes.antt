@@ -4,7 +4,7 @@ use Rattle.std.specs.Io.KnownBytes.{Keeps}
 use Rattle.bson_convert.specs.Run.{ReadsAll}
 use Rattle.bson_convert.specs.declared.error.Error.{Error}
 use Rattle.bson_convert.specs.declared.error.Error.TheVariants.{CannotRead, CannotWrite, NotJson, NotExtendedJson}
-use Rattle.bson_convert.specs.declared.error.Error.TheVariants.{NoBytes, OutOfMemory}
+use Rattle.bson_convert.specs.declared.error.Error.TheVariants.{NoBytes, NotCanonical, OutOfMemory}
 use Rattle.bson_run.specs.Place.{IsWhere}
 use Rattle.bson_lines.specs.Whole.{behind, IsUngiven, WholeFails, WholeRefused}
 use Rattle.bson_lines.specs.declared.order.Order.{Order}
@@ -23,6 +23,7 @@ module _ (order : Order) (mark bytes : List ℕ) (before after had holds : Optio
   fails NotJson place is lies = refused NotJson place is lies
   fails (NotExtendedJson at) place is lies = refused (NotExtendedJson at) place is lies
   fails (NoBytes why) place is lies = refused (NoBytes why) place is lies
+  fails (NotCanonical column) place is lies = refused (NotCanonical column) place is lies
 
   -- the text is refused for the fault, or memory was wanting for its words
   pub text_fails : (fault told : Error) (place : List ℕ) → IsUngiven order.options order.task fault (behind mark bytes)

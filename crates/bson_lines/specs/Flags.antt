@@ -1,11 +1,13 @@
 -- The options: which of them each command has, and which of them are given.
-use Rattle.std.specs.Prelude.{ℕ, Bool, true, false, List, codes, is_some, if◌then◌else◌}
+use Rattle.std.specs.Prelude.{ℕ, Bool, true, false, not, List, codes, is_some, if◌then◌else◌}
 use Rattle.bson_convert.specs.declared.mode.Mode.TheVariants.{Show}
+use Rattle.bson_run.specs.declared.order.Criterion.TheVariants as criterion
 use Rattle.bson_run.specs.declared.order.Task.{Task}
 use Rattle.bson_run.specs.declared.order.Task.TheVariants.{Write, Check, Encode}
 use Rattle.bson_lines.specs.declared.arguments.Given.{Given}
 use Rattle.bson_lines.specs.declared.order.Flag.{Flag}
-use Rattle.bson_lines.specs.declared.order.Flag.TheVariants.{SortKeys, Strict, Legacy, NoDoubleKeys, Indent, KeepGoing, Jobs, Output}
+use Rattle.bson_lines.specs.declared.order.Flag.TheVariants.{SortKeys, Strict, Legacy, NoDoubleKeys, Canonical, Indent, KeepGoing, Jobs}
+use Rattle.bson_lines.specs.declared.order.Flag.TheVariants.{Output}
 use Rattle.bson_lines.specs.declared.order.Input.{Input}
 use Rattle.bson_lines.specs.declared.order.Input.TheVariants.{Text, Documents}
 
@@ -19,16 +21,26 @@ is_form (Write Show) = false
 is_form (Write mode) = true
 is_form task = false
 
+-- what is read is only judged
+abbrev pub is_check : Task → Bool
+is_check (Check criterion) = true
+is_check task = false
+
 -- the task writes an output
 abbrev pub has_output : Task → Bool
-has_output Check = false
-has_output task = true
+has_output task = not (is_check task)
 
--- texts are read, and no bytes are written of them
+-- texts are read that need not be canonical, and no bytes are written of them
 abbrev pub reads_texts : Input → Task → Bool
 reads_texts Documents task = false
 reads_texts input Encode = false
+reads_texts input (Check criterion.Canonical) = false
 reads_texts input task = true
+
+-- texts are read, and only judged
+abbrev pub judges_texts : Input → Task → Bool
+judges_texts Documents task = false
+judges_texts input task = is_check task
 
 -- many documents are read
 abbrev pub reads_many : Input → Bool
@@ -43,6 +55,7 @@ accepts Strict Documents task = is_form task
 accepts Strict input task = true
 accepts Legacy input task = reads_texts input task
 accepts NoDoubleKeys input task = reads_texts input task
+accepts Canonical input task = judges_texts input task
 accepts Indent Text task = is_form task
 accepts Indent input task = false
 accepts KeepGoing input task = reads_many input
@@ -56,6 +69,7 @@ has SortKeys given = given.sorts_keys
 has Strict given = given.is_strict
 has Legacy given = given.is_legacy
 has NoDoubleKeys given = given.is_distinct
+has Canonical given = given.is_canonical
 has Indent given = is_some given.indent
 has KeepGoing given = given.keeps_going
 has Jobs given = is_some given.jobs
@@ -72,6 +86,7 @@ flag_name SortKeys = codes "--sort-keys"
 flag_name Strict = codes "--strict"
 flag_name Legacy = codes "--legacy"
 flag_name NoDoubleKeys = codes "--no-double-keys"
+flag_name Canonical = codes "--canonical"
 flag_name Indent = codes "--indent"
 flag_name KeepGoing = codes "--keep-going"
 flag_name Jobs = codes "--jobs"

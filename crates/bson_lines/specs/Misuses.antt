@@ -1,11 +1,14 @@
 -- What is told of arguments that the program does not accept.
 use Rattle.std.specs.Prelude.{ℕ, List, ◌++◌, codes}
 use Rattle.bson_run.specs.Words.{task_name}
+use Rattle.bson_run.specs.declared.order.Criterion.TheVariants.{Canonical}
 use Rattle.bson_run.specs.declared.order.Task.{Task}
+use Rattle.bson_run.specs.declared.order.Task.TheVariants.{Check}
 use Rattle.bson_lines.specs.Flags.{flag_name}
 use Rattle.bson_lines.specs.Messages.{escaped_name}
 use Rattle.bson_lines.specs.declared.order.Command.{Command}
 use Rattle.bson_lines.specs.declared.order.Command.TheVariants as command
+use Rattle.bson_lines.specs.declared.order.Flag.{Flag}
 use Rattle.bson_lines.specs.declared.order.Flag.TheVariants as flag
 use Rattle.bson_lines.specs.declared.order.Misuse.{Misuse}
 use Rattle.bson_lines.specs.declared.order.Misuse.TheVariants as misuse
@@ -18,11 +21,17 @@ command_name command.Lines = codes "bson lines"
 command_name command.Decode = codes "bson decode"
 command_name command.Encode = codes "bson encode"
 
--- a command with its mode
-abbrev pub full_name : Command → Task → List ℕ
-full_name command.Lines task = codes "lines " ++ task_name task
-full_name command.Decode task = codes "decode " ++ task_name task
-full_name other task = task_name task
+-- the mode that does not have an option, and behind it the option by which it does not
+abbrev pub mode_without : Flag → Task → List ℕ
+mode_without flag.Canonical task = task_name task
+mode_without option (Check Canonical) = codes "check --canonical"
+mode_without option task = task_name task
+
+-- a mode with its command
+abbrev pub full_name : Command → (mode : List ℕ) → List ℕ
+full_name command.Lines mode = codes "lines " ++ mode
+full_name command.Decode mode = codes "decode " ++ mode
+full_name other mode = mode
 
 abbrev pub kind_of_word : Command → List ℕ
 kind_of_word command.All = codes "command"
@@ -40,7 +49,8 @@ told_of it (misuse.Twice flag) word = codes "bson: " ++ flag_name flag ++ codes 
 told_of it (misuse.NoValue flag.Indent) word = codes "bson: --indent needs a number from 1 to 16"
 told_of it (misuse.NoValue flag.Jobs) word = codes "bson: --jobs needs a number from 1 to 9999"
 told_of it (misuse.NoValue flag) word = codes "bson: " ++ flag_name flag ++ codes " needs a file"
-told_of it (misuse.Unfit flag task) word = codes "bson: " ++ full_name it task ++ codes " does not accept " ++ flag_name flag
+told_of it (misuse.Unfit flag task) word =
+    codes "bson: " ++ full_name it (mode_without flag task) ++ codes " does not accept " ++ flag_name flag
 told_of it misuse.NoMode word = codes "bson: no " ++ kind_of_word it ++ codes " is given"
 told_of it misuse.ManyFiles word = codes "bson: one document is read from one file; `bson lines` reads several"
 told_of it misuse.NotUtf8 word = codes "bson: an argument is not UTF-8"

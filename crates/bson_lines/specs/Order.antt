@@ -4,6 +4,7 @@ use Rattle.std.specs.Prelude.{bytes_eq, ◌||◌, Contains, get_or, length, map,
 use Rattle.std.specs.Fmt.{decimal}
 use Rattle.std.specs.Option.{option_map_or}
 use Rattle.bson_run.specs.Words.{task_name}
+use Rattle.bson_run.specs.declared.order.Criterion.TheVariants.{Canonical, Valid}
 use Rattle.bson_run.specs.declared.order.OnRefusal.TheVariants.{KeepGoing, Stop}
 use Rattle.bson_run.specs.declared.order.Taking.{Taking}
 use Rattle.bson_run.specs.declared.order.Taking.TheVariants.{Distinct, Legacy, DistinctLegacy}
@@ -39,6 +40,12 @@ in_order (Write mode) = WriteInOrder mode
 in_order Encode = EncodeInOrder
 in_order task = task
 
+-- a check by the criterion that the option sets
+abbrev pub judged : (is_canonical : Bool) → Task → Task
+judged false task = task
+judged true (Check criterion) = Check Canonical
+judged true task = task
+
 -- what is looked for in a text before it is read: a key that stands twice, and version 1 of Extended JSON
 abbrev pub taking_of : (is_distinct is_legacy : Bool) → Option Taking
 taking_of true true = Some DistinctLegacy
@@ -46,11 +53,11 @@ taking_of true false = Some Distinct
 taking_of false true = Some Legacy
 taking_of false false = None
 
--- of texts that are taken so; bytes are made of texts that are not
+-- of texts that are taken so; bytes are made of texts that are not, and those that are to be canonical are not either
 abbrev pub first_taken : Taking → Task → Task
 first_taken taking (Write mode) = Taken taking (work.Write mode)
 first_taken taking (WriteInOrder mode) = Taken taking (work.WriteInOrder mode)
-first_taken taking Check = Taken taking work.Check
+first_taken taking (Check Valid) = Taken taking work.Check
 first_taken taking task = task
 
 -- all doubles have a text; or, if the run is strict, those of the specification
@@ -71,7 +78,8 @@ IsNoCount most word = (count : ℕ) → 0 < count → count ≤ most → word �
 -- the words that are options, each with its value in the word or behind it
 abbrev pub is_option : List ℕ → Bool
 is_option word = bytes_eq word (codes "--sort-keys") || bytes_eq word (codes "--strict") || bytes_eq word (codes "--legacy")
-    || bytes_eq word (codes "--no-double-keys") || bytes_eq word (codes "--keep-going") || bytes_eq word (codes "--indent")
+    || bytes_eq word (codes "--no-double-keys") || bytes_eq word (codes "--canonical")
+    || bytes_eq word (codes "--keep-going") || bytes_eq word (codes "--indent")
     || bytes_eq word (codes "--jobs") || bytes_eq word (codes "-o") || bytes_eq word (codes "--output")
     || bytes_eq word (codes "--help") || bytes_eq word (codes "-h") || bytes_eq word (codes "--version")
     || bytes_eq word (codes "-v") || bytes_eq word (codes "--")
@@ -112,6 +120,7 @@ given_of word given = record given {
   is_strict = bytes_eq word (codes "--strict") || given.is_strict;
   is_distinct = bytes_eq word (codes "--no-double-keys") || given.is_distinct;
   is_legacy = bytes_eq word (codes "--legacy") || given.is_legacy;
+  is_canonical = bytes_eq word (codes "--canonical") || given.is_canonical;
   next = if bytes_eq word (codes "--") then Name
       else (if bytes_eq word (codes "-o") || bytes_eq word (codes "--output") then Output
       else (if bytes_eq word (codes "--indent") then Indent
@@ -149,6 +158,7 @@ IsFirst given = given ≡ record given {
   is_strict = false;
   is_distinct = false;
   is_legacy = false;
+  is_canonical = false;
   indent = None;
   jobs = None;
   output = None;
@@ -205,6 +215,7 @@ pub record AllFit (given : Given) (task : Task) : Type 0 where
   pub strict : clashes flag.Strict given task ≡ false
   pub legacy : clashes flag.Legacy given task ≡ false
   pub no_double_keys : clashes flag.NoDoubleKeys given task ≡ false
+  pub canonical : clashes flag.Canonical given task ≡ false
   pub indent : clashes flag.Indent given task ≡ false
   pub keep_going : clashes flag.KeepGoing given task ≡ false
   pub jobs : clashes flag.Jobs given task ≡ false
@@ -233,7 +244,8 @@ awaited next = None
 -- the task of a verb with the options: keys keep their order, unless they are sorted or the run is strict
 abbrev pub task_of : Given → (verb : Task) → Task
 task_of given verb =
-    let task = if given.sorts_keys || given.is_strict then verb else in_order verb in
+    let it = judged given.is_canonical verb in
+    let task = if given.sorts_keys || given.is_strict then it else in_order it in
     option_map_or (λ taking. first_taken taking task) (taking_of given.is_distinct given.is_legacy) task
 
 -- the files, or the standard stream where none is given
@@ -246,7 +258,7 @@ pub record IsGiven (given : Given) (order : Order) : Type 0 where
   pub verb : Task
   pub is_verb : given.task ≡ Some verb
   pub ended : awaited given.next ≡ None
-  pub fits : Fits given verb
+  pub fits : Fits given (judged given.is_canonical verb)
   pub task : order.task ≡ task_of given verb
   pub options : order.options ≡ options_of given.is_strict
   pub on_refusal : order.on_refusal ≡ (if given.keeps_going then KeepGoing else Stop)
@@ -259,7 +271,7 @@ pub record IsGiven (given : Given) (order : Order) : Type 0 where
 abbrev pub IsWrongOf : Given → Misuse → Type 0
 IsWrongOf given (misuse.NoValue flag) = awaited given.next ≡ Some flag
 IsWrongOf given misuse.NoMode = given.task ≡ None
-IsWrongOf given why = (verb : Task) × (given.task ≡ Some verb) × IsMisfit given verb why
+IsWrongOf given why = (verb : Task) × (given.task ≡ Some verb) × IsMisfit given (judged given.is_canonical verb) why
 
 -- the answer to what was given, where no help was asked for: a run, or what is wrong
 abbrev pub IsAnswer : Given → Asked → Type 0

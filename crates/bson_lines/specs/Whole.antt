@@ -1,20 +1,24 @@
 -- What a run over one text does: all bytes of the input, behind a mark, are the text.
-use Rattle.std.specs.Prelude.{◌≡◌, ◌⊎◌, ℕ, List, [], Option, None, Some, IsUtf8, drop, length, nat_eq, if◌then◌else◌, string_bytes}
-use Rattle.std.specs.List.{starts_with}
+use Rattle.std.specs.Prelude.{◌≡◌, ◌⊎◌, ◌-◌, ℕ, List, [], Option, None, Some, IsUtf8, drop, length, nat_eq, take, if◌then◌else◌}
+use Rattle.std.specs.Prelude.{string_bytes}
+use Rattle.std.specs.List.{ends_with, starts_with}
 use Rattle.std.specs.Io.KnownBytes.{Appends, Keeps}
 use Rattle.bson.specs.declared.extjson.options.Options.{Options}
-use Rattle.bson_convert.specs.Convert.{ConvertsIn, IsRefusedIn}
+use Rattle.bson_convert.specs.Convert.{ConvertsIn, IsRefusedIn, IsUncanonicalIn, newline}
 use Rattle.bson_run.specs.Encode.{EncodesIn, EncodesInOrder, IsUnencodedIn, IsUnencodedInOrder}
 use Rattle.bson_run.specs.InOrder.{ConvertsInOrder}
-use Rattle.bson_run.specs.Lines.{WritesText}
+use Rattle.bson_run.specs.Lines.{ChecksIn, WritesText}
 use Rattle.bson_run.specs.Indent.{mode_of, ConvertsIndented, ConvertsInOrderIndented}
 use Rattle.bson_convert.specs.Run.{ReadsAll}
 use Rattle.bson_run.specs.Place.{IsWhere}
 use Rattle.bson_run.specs.Taken.{IsTakenAs, IsUntaken}
 use Rattle.bson_convert.specs.declared.error.Error.{Error}
-use Rattle.bson_convert.specs.declared.error.Error.TheVariants.{NotJson, OutOfMemory}
+use Rattle.bson_convert.specs.declared.error.Error.TheVariants.{NotCanonical, NotJson, OutOfMemory}
 use Rattle.bson_convert.specs.declared.mode.Mode.{Mode}
-use Rattle.bson_convert.specs.declared.mode.Mode.TheVariants.{Canonical, Show}
+use Rattle.bson_convert.specs.declared.mode.Mode.TheVariants.{Show}
+use Rattle.bson_run.specs.declared.order.Criterion.{Criterion}
+use Rattle.bson_run.specs.declared.order.Criterion.TheVariants as criterion
+use Rattle.bson_run.specs.declared.order.Criterion.TheVariants.{Valid}
 use Rattle.bson_run.specs.declared.order.Task.{Task}
 use Rattle.bson_run.specs.declared.order.Task.TheVariants.{Write, WriteInOrder, Check, Encode, EncodeInOrder}
 use Rattle.bson_run.specs.declared.order.Task.TheVariants.{Taken}
@@ -39,21 +43,35 @@ LaysInOrder o (Some n) Show text output = ConvertsInOrder o Show text output
 LaysInOrder o (Some n) mode text output =
     (form : _) × (mode ≡ mode_of form) × ConvertsInOrderIndented o form n text output
 
--- nothing, of a text that means a value
-abbrev pub Checks : Options → (text output : List ℕ) → Type 0
-Checks o text output = ((whole : List ℕ) × ConvertsIn o Canonical text whole) × (output ≡ [])
+-- the bytes before a newline at their end
+abbrev pub without_newline : List ℕ → List ℕ
+without_newline bytes = if ends_with nat_eq bytes newline then take (length bytes - 1) bytes else bytes
+
+-- what the criterion judges of a text; behind a canonical one a newline may stand
+abbrev pub judged_of : Criterion → List ℕ → List ℕ
+judged_of Valid text = text
+judged_of criterion.Canonical text = without_newline text
+
+-- nothing, of a text that the criterion accepts
+abbrev pub Checks : Options → Criterion → (text output : List ℕ) → Type 0
+Checks o criterion text output = ChecksIn o criterion (judged_of criterion text) × (output ≡ [])
+
+-- why it accepts none
+abbrev pub IsUnchecked : Options → Criterion → Error → List ℕ → Type 0
+IsUnchecked o Valid fault text = IsRefusedIn o fault text
+IsUnchecked o criterion.Canonical fault text = IsUncanonicalIn o fault (without_newline text)
 
 -- what is written of a text that was taken
 abbrev pub Works : Order → Work → (text output : List ℕ) → Type 0
 Works order (work.Write mode) text output = Lays order.options order.indent mode text output
 Works order (work.WriteInOrder mode) text output = LaysInOrder order.options order.indent mode text output
-Works order work.Check text output = Checks order.options text output
+Works order work.Check text output = Checks order.options Valid text output
 
 -- what is written of a text
 abbrev pub Gives : Order → Task → (text output : List ℕ) → Type 0
 Gives order (Write mode) text output = Lays order.options order.indent mode text output
 Gives order (WriteInOrder mode) text output = LaysInOrder order.options order.indent mode text output
-Gives order Check text output = Checks order.options text output
+Gives order (Check criterion) text output = Checks order.options criterion text output
 Gives order Encode text output = EncodesIn order.options text output
 Gives order EncodeInOrder text output = EncodesInOrder order.options text output
 Gives order (Taken taking work) text output =
@@ -61,6 +79,7 @@ Gives order (Taken taking work) text output =
 
 -- why nothing is: the text is refused, or what is read in its place
 abbrev pub IsUngiven : Options → Task → Error → List ℕ → Type 0
+IsUngiven o (Check criterion) fault text = IsUnchecked o criterion fault text
 IsUngiven o Encode fault text = IsUnencodedIn o fault text
 IsUngiven o EncodeInOrder fault text = IsUnencodedInOrder o fault text
 IsUngiven o (Taken taking work) fault text =
@@ -107,12 +126,18 @@ abbrev pub WholeFails : Order → Error → (place mark : List ℕ) → (before 
 WholeFails order OutOfMemory place mark before after had holds = Keeps had holds × (place ≡ [])
 WholeFails order fault place mark before after had holds = WholeRefused order fault place mark before after had holds
 
--- what each stop says of the bytes; only what is no JSON has a line
+-- what is no JSON has a line, and what is not canonical differs on the first
+abbrev pub HasLine : Error → (number : ℕ) → Type 0
+HasLine NotJson number = Unit {0}
+HasLine (NotCanonical column) number = number ≡ 1
+HasLine fault number = number ≡ 0
+
+-- what each stop says of the bytes
 abbrev pub WholeStops : Order → Stop → (name mark : List ℕ) → (before after had holds : Option (List ℕ)) → Type 0
 WholeStops order (Input it error) name mark before after had holds = (it.now ≡ name) × Keeps had holds
 WholeStops order (Output it error) name mark before after had holds =
     (it.now ≡ string_bytes order.output) × WholeUnwritten order mark before after
 WholeStops order (Text it number fault place) name mark before after had holds =
     (it.now ≡ name) × WholeFails order fault (string_bytes place) mark before after had holds
-    × ((fault ≡ NotJson) ⊎ (number ≡ 0))
+    × HasLine fault number
 WholeStops order other name mark before after had holds = ⊥

@@ -5,7 +5,7 @@ ghost use Rattle.bson_lines.specs.Order.{command_of, input_of, is_text};
 ghost use Rattle.bson_lines.specs.Order.{IsAnswer, IsAskedWrong, IsFirst, IsJoined, IsNumbered, IsStored, IsTaken, Sets, Takes};
 ghost use Rattle.bson_run.specs.Words.{task_name};
 
-use crate::choices::{awaited, first_taken, in_order, options_of, taking_of};
+use crate::choices::{awaited, first_taken, in_order, judged, options_of, taking_of};
 use crate::fits::misfit;
 use crate::order::{Asked, Command, Flag, Input, Misuse, Order, STANDARD, Wrong};
 use crate::values::{inputs_of, is_dashed, number, output_in};
@@ -29,6 +29,7 @@ pub struct Given {
     pub is_strict: bool,
     pub is_distinct: bool,
     pub is_legacy: bool,
+    pub is_canonical: bool,
     pub indent: Option<usize>,
     pub jobs: Option<usize>,
     pub output: Option<String>,
@@ -76,6 +77,7 @@ impl Given {
             is_strict: false,
             is_distinct: false,
             is_legacy: false,
+            is_canonical: false,
             indent: None,
             jobs: None,
             output: None,
@@ -106,6 +108,7 @@ impl Given {
             Flag::Strict => self.is_strict,
             Flag::Legacy => self.is_legacy,
             Flag::NoDoubleKeys => self.is_distinct,
+            Flag::Canonical => self.is_canonical,
             Flag::Indent => self.indent.is_some(),
             Flag::KeepGoing => self.keeps_going,
             Flag::Jobs => self.jobs.is_some(),
@@ -155,6 +158,7 @@ impl Given {
             "--strict" => Ok(set(&mut self.is_strict, Flag::Strict)),
             "--no-double-keys" => Ok(set(&mut self.is_distinct, Flag::NoDoubleKeys)),
             "--legacy" => Ok(set(&mut self.is_legacy, Flag::Legacy)),
+            "--canonical" => Ok(set(&mut self.is_canonical, Flag::Canonical)),
             "--doubles" | "--keep-order" => Ok(Taken::Wrong(Misuse::Former)),
             "help" => self.take_help(word),
             STANDARD | "lines" | "decode" | "encode" => self.take_name(word),
@@ -306,9 +310,10 @@ impl Given {
         if let Some(flag) = awaited(self.next) {
             return Ok(wrong(self.alloc, Misuse::NoValue(flag), command));
         }
-        let Some(task) = self.task else {
+        let Some(verb) = self.task else {
             return Ok(wrong(self.alloc, Misuse::NoMode, command));
         };
+        let task = judged(self.is_canonical, verb);
         if let Some(misuse) = misfit(&self, task) {
             return Ok(wrong(self.alloc, misuse, command));
         }

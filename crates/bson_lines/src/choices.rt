@@ -1,11 +1,11 @@
 //! What follows from the options that are given: the task, and which doubles have a text.
 ghost use Rattle.std.specs.Prelude.{◌≡◌};
-ghost use Rattle.bson_lines.specs.Order.{awaited, first_taken, in_order, options_of, taking_of};
+ghost use Rattle.bson_lines.specs.Order.{awaited, first_taken, in_order, judged, options_of, taking_of};
 
 use crate::arguments::Next;
 use crate::order::Flag;
 use bson::extjson::{Doubles, Options};
-use bson_run::order::{Taking, Task, Work};
+use bson_run::order::{Criterion, Taking, Task, Work};
 
 /// Returns the option that waits for its value.
 pub fn awaited(next: Next) -> Option<Flag>
@@ -43,6 +43,16 @@ pub fn in_order(task: Task) -> Task
     }
 }
 
+/// Returns the task whose check has the criterion that the option sets.
+pub fn judged(is_canonical: bool, task: Task) -> Task
+    ensures { result ≡ judged is_canonical task }
+{
+    match task {
+        Task::Check(_) if is_canonical => Task::Check(Criterion::Canonical),
+        other => other,
+    }
+}
+
 /// Returns what is looked for in a text before it is read.
 pub fn taking_of(is_distinct: bool, is_legacy: bool) -> Option<Taking>
     ensures { result ≡ taking_of is_distinct is_legacy }
@@ -62,7 +72,7 @@ pub fn first_taken(taking: Taking, task: Task) -> Task
     match task {
         Task::Write(mode) => Task::Taken(taking, Work::Write(mode)),
         Task::WriteInOrder(mode) => Task::Taken(taking, Work::WriteInOrder(mode)),
-        Task::Check => Task::Taken(taking, Work::Check),
+        Task::Check(Criterion::Valid) => Task::Taken(taking, Work::Check),
         other => other,
     }
 }

@@ -65,7 +65,7 @@ fn run_of(order: &Order) -> Run
             Task::WriteInOrder(Mode::Relaxed) => Line::TextInOrder(Form::Relaxed),
             Task::Write(Mode::Show) | Task::WriteInOrder(Mode::Show) => Line::Shown,
             // (bytes are made of texts alone)
-            Task::Check | Task::Encode | Task::EncodeInOrder | Task::Taken(..) => Line::Nothing,
+            Task::Check(_) | Task::Encode | Task::EncodeInOrder | Task::Taken(..) => Line::Nothing,
         },
         keep_going: order.on_refusal == OnRefusal::KeepGoing,
     }

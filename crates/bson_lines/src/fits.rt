@@ -6,7 +6,7 @@ ghost use Rattle.bson_lines.specs.Order.{AllFit, Fits, IsMisfit};
 use crate::arguments::Given;
 use crate::order::{Flag, Input, Misuse};
 use bson_convert::mode::Mode;
-use bson_run::order::Task;
+use bson_run::order::{Criterion, Task};
 
 /// Returns what is wrong with a mode and the given options, or `None` if they fit one another.
 pub fn misfit(given: &Given, task: Task) -> Option<Misuse>
@@ -38,6 +38,9 @@ fn unfit(given: &Given, task: Task) -> Option<Flag>
     }
     if clashes(Flag::NoDoubleKeys, given, task) {
         return Some(Flag::NoDoubleKeys);
+    }
+    if clashes(Flag::Canonical, given, task) {
+        return Some(Flag::Canonical);
     }
     if clashes(Flag::Indent, given, task) {
         return Some(Flag::Indent);
@@ -71,19 +74,28 @@ fn accepts(flag: Flag, input: Input, task: Task) -> bool
 {
     match flag {
         Flag::SortKeys if input == Input::Documents => is_form(task),
-        Flag::SortKeys | Flag::Output => task != Task::Check,
+        Flag::SortKeys | Flag::Output => !is_check(task),
         Flag::Strict => input != Input::Documents || is_form(task),
         Flag::Legacy | Flag::NoDoubleKeys => reads_texts(input, task),
+        Flag::Canonical => input != Input::Documents && is_check(task),
         Flag::Indent => input == Input::Text && is_form(task),
         Flag::KeepGoing | Flag::Jobs => input != Input::Text,
     }
 }
 
-// Returns whether texts are read, and no bytes are written of them.
+// Returns whether texts are read that need not be canonical, and no bytes are written of them.
 fn reads_texts(input: Input, task: Task) -> bool
     ensures { result ≡ flags.reads_texts input task }
 {
-    input != Input::Documents && task != Task::Encode
+    input != Input::Documents
+        && !matches!(task, Task::Encode | Task::Check(Criterion::Canonical))
+}
+
+// Returns whether what is read is only judged.
+fn is_check(task: Task) -> bool
+    ensures { result ≡ flags.is_check task }
+{
+    matches!(task, Task::Check(_))
 }
 
 // Returns whether a form of Extended JSON is written.

@@ -1,7 +1,7 @@
 //! What is told of arguments that the program does not accept.
 ghost use Rattle.std.specs.Prelude.{◌≡◌, ℕ, List, IfOk, string_bytes};
 ghost use Rattle.bson_lines.specs.Flags.{flag_name};
-ghost use Rattle.bson_lines.specs.Misuses.{command_name, full_name, kind_of_word, see, told_of};
+ghost use Rattle.bson_lines.specs.Misuses.{command_name, full_name, kind_of_word, mode_without, see, told_of};
 ghost use Rattle.bson_lines.specs.Messages.{escaped_name};
 ghost use Rattle.bson_convert.specs.Words.{name_of};
 ghost use Rattle.bson_run.specs.Words.{task_name};
@@ -10,7 +10,7 @@ ghost use Rattle.bson_run.specs.declared.order.Task.{Task};
 use crate::messages::escape_name;
 use crate::order::{Command, Flag, Misuse, Wrong};
 use bson_convert::mode::Mode;
-use bson_run::order::{Task, Work};
+use bson_run::order::{Criterion, Task, Work};
 use std::alloc::{AllocError, Global};
 
 /// Returns the line that names what is wrong with the arguments.
@@ -85,7 +85,8 @@ fn no_value(alloc: Global, flag: Flag) -> Result<String, AllocError>
 fn unfit(alloc: Global, command: Command, flag: Flag, task: Task) -> Result<String, AllocError>
     ensures { (word : List ℕ) → IfOk result (λ line. string_bytes line ≡ told_of command (Misuse.Unfit flag task) word) }
 {
-    let (name, option) = (full_name(alloc, command, task)?, flag_name(flag));
+    let name = full_name(alloc, command, mode_without(flag, task))?;
+    let option = flag_name(flag);
     format!(in alloc; "bson: {name} does not accept {option}")
 }
 
@@ -97,11 +98,10 @@ fn see(alloc: Global, command: Command) -> Result<String, AllocError>
     format!(in alloc; " (see {name} --help)")
 }
 
-// Returns a command with its mode.
-fn full_name(alloc: Global, command: Command, task: Task) -> Result<String, AllocError>
-    ensures { IfOk result (λ name. string_bytes name ≡ full_name command task) }
+// Returns a mode with its command.
+fn full_name(alloc: Global, command: Command, mode: &str) -> Result<String, AllocError>
+    ensures { IfOk result (λ name. string_bytes name ≡ full_name command mode.now) }
 {
-    let mode = task_name(task);
     match command {
         Command::Lines => format!(in alloc; "lines {mode}"),
         Command::Decode => format!(in alloc; "decode {mode}"),
@@ -131,13 +131,23 @@ fn kind_of_word(command: Command) -> &'static str
     }
 }
 
+// Returns the mode that does not have an option, and behind it the option by which it does not.
+fn mode_without(flag: Flag, task: Task) -> &'static str
+    ensures { result.now ≡ mode_without flag task }
+{
+    match task {
+        Task::Check(Criterion::Canonical) if flag != Flag::Canonical => "check --canonical",
+        other => task_name(other),
+    }
+}
+
 // Returns the name of a task.
 fn task_name(task: Task) -> &'static str
     ensures { result.now ≡ task_name task }
 {
     match task {
         Task::Write(mode) | Task::WriteInOrder(mode) => mode_name(mode),
-        Task::Check | Task::Taken(_, Work::Check) => "check",
+        Task::Check(_) | Task::Taken(_, Work::Check) => "check",
         Task::Encode | Task::EncodeInOrder => "encode",
         Task::Taken(_, Work::Write(mode)) | Task::Taken(_, Work::WriteInOrder(mode)) => mode_name(
             mode,
@@ -165,6 +175,7 @@ fn flag_name(flag: Flag) -> &'static str
         Flag::Strict => "--strict",
         Flag::Legacy => "--legacy",
         Flag::NoDoubleKeys => "--no-double-keys",
+        Flag::Canonical => "--canonical",
         Flag::Indent => "--indent",
         Flag::KeepGoing => "--keep-going",
         Flag::Jobs => "--jobs",

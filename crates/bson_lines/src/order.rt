@@ -1,6 +1,7 @@
 //! What the arguments ask for.
 ghost use Rattle.std.specs.Prelude.{◌≡◌, ◌⊎◌, ◌↔◌, IfOk, IsTrue, map, string_bytes};
 ghost use Rattle.bson_lines.specs.Order.{IsAskedBy};
+ghost use Rattle.bson_run.specs.declared.order.Criterion.{Criterion};
 ghost use Rattle.bson_run.specs.declared.order.Taking.{Taking};
 
 use crate::arguments::{Given, Taken};
@@ -84,6 +85,8 @@ pub enum Flag {
     Legacy,
     /// `--no-double-keys`.
     NoDoubleKeys,
+    /// `--canonical`.
+    Canonical,
     /// `--indent N`.
     Indent,
     /// `--keep-going`.
@@ -135,9 +138,10 @@ impl Order {
     /// Whether what is read is only judged.
     pub fn writes_nothing(&self) -> bool
         ensures { IsTrue result
-            ↔ ((self.now.task ≡ Task.Check) ⊎ ((taking : Taking) × (self.now.task ≡ Task.Taken taking Work.Check))) }
+            ↔ (((criterion : Criterion) × (self.now.task ≡ Task.Check criterion))
+            ⊎ ((taking : Taking) × (self.now.task ≡ Task.Taken taking Work.Check))) }
     {
-        self.task == Task::Check || matches!(self.task, Task::Taken(_, Work::Check))
+        matches!(self.task, Task::Check(_) | Task::Taken(_, Work::Check))
     }
 }
 

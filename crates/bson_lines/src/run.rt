@@ -14,6 +14,7 @@ use crate::whole::convert_whole;
 use bson_codec::run_end::RunEnd;
 use bson_convert::error;
 use bson_run::lines::{Counts, LineRun};
+use bson_run::order::{Criterion, Task};
 use std::alloc::Global;
 use std::fs;
 use std::fs::{File, Metadata};
@@ -21,7 +22,7 @@ use std::io::{Error, IsTerminal};
 use std::os::unix::fs::MetadataExt;
 use std::rt::Stderr;
 
-/// What may stand before the one text of a named file.
+/// What may stand before the one text of a named file, unless that has to be canonical.
 const BYTE_ORDER_MARK: &[u8] = b"\xef\xbb\xbf";
 
 /// Why a run could not go on, with the name of the file that it happened at; `-` is a standard
@@ -169,7 +170,7 @@ fn run_text<'a>(
     reader: &mut Counted<'_, Source>,
     sink: &mut Sink,
 ) -> Result<Counts, Stop<'a>> {
-    let mark = if name == STANDARD {
+    let mark = if name == STANDARD || order.task == Task::Check(Criterion::Canonical) {
         b"".as_slice()
     } else {
         BYTE_ORDER_MARK

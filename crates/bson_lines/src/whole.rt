@@ -3,14 +3,15 @@ ghost use Rattle.std.specs.Prelude.{◌≡◌, ◌≢◌, ◌⊎◌, IfOk, IfErr
 ghost use Rattle.bson_convert.specs.Convert.{IsRefusedIn};
 ghost use Rattle.bson_run.specs.Accepted.{HasOutput, IsUtf8Accepted};
 ghost use Rattle.bson_run.specs.Indent.{mode_of};
-ghost use Rattle.bson_run.specs.Lines.{WritesText};
+ghost use Rattle.bson_run.specs.Lines.{ChecksIn, WritesText};
 ghost use Rattle.bson_run.specs.Place.{IsStop, IsWhere};
-ghost use Rattle.bson_lines.specs.Whole.{behind, Checks, Gives, IsUngiven, Lays, LaysInOrder, WholeDone};
-ghost use Rattle.bson_lines.specs.Whole.{WholeStops, Works};
+ghost use Rattle.bson_lines.specs.Whole.{behind, Checks, Gives, HasLine, IsUnchecked, IsUngiven, Lays, LaysInOrder};
+ghost use Rattle.bson_lines.specs.Whole.{WholeDone, WholeStops, Works, judged_of, without_newline};
 
 use crate::order::Order;
 use crate::run::Stop;
-use bson::extjson::Form;
+use bson::extjson::{Form, Options};
+use bson_convert::canonical::check_canonical;
 use bson_convert::convert::convert_with;
 use bson_convert::converted::refuse;
 use bson_convert::error::Error;
@@ -21,7 +22,7 @@ use bson_run::accepted::Accepted;
 use bson_run::encode::{encode_in_order, encode_with};
 use bson_run::explain::explain_under;
 use bson_run::indented::{convert_in_order_indented, convert_indented};
-use bson_run::order::{Task, Work};
+use bson_run::order::{Criterion, Task, Work};
 use bson_run::stop;
 use bson_run::taken::take_as;
 use std::alloc::{AllocError, Global};
@@ -31,8 +32,8 @@ use std::io::{Read, Write};
 const LONG: usize = 1 << 24;
 
 /// Converts the one text of the file of this name, which the reader has behind this mark, or
-/// without it. Where it is refused, the stop has the line of what is no JSON, and no line (0) for
-/// any other fault; the cause of a failed reader or writer is its own to tell.
+/// without it. Where it is refused, the stop has the line of what is no JSON or not canonical, and
+/// no line (0) for any other fault; the cause of a failed reader or writer is its own to tell.
 pub fn convert_whole<'a, R: Read, W: Write>(
     alloc: Global,
     order: &'a Order,
@@ -89,7 +90,7 @@ fn accept(alloc: Global, order: &Order, bytes: &[u8]) -> Result<Accepted, Error>
     match order.task {
         Task::Write(mode) => accept_text(alloc, order, mode, bytes),
         Task::WriteInOrder(mode) => accept_in_order(alloc, order, mode, bytes),
-        Task::Check => check(alloc, order, bytes),
+        Task::Check(criterion) => check(alloc, order, criterion, bytes),
         Task::Encode => Ok(Accepted::Output(encode_with(alloc, order.options, bytes)?)),
         Task::EncodeInOrder => {
             Ok(Accepted::Output(encode_in_order(alloc, order.options, bytes)?))
@@ -120,7 +121,7 @@ fn accept_modern(
     match work {
         Work::Write(mode) => Ok(Accepted::Arranged(mode, modern)),
         Work::WriteInOrder(mode) => Ok(Accepted::ArrangedInOrder(mode, modern)),
-        Work::Check => check(alloc, order, modern.as_bytes()),
+        Work::Check => check(alloc, order, Criterion::Valid, modern.as_bytes()),
     }
 }
 
@@ -133,7 +134,7 @@ fn accept_taken(alloc: Global, order: &Order, work: Work, bytes: &[u8]) -> Resul
     match work {
         Work::Write(mode) => accept_text(alloc, order, mode, bytes),
         Work::WriteInOrder(mode) => accept_in_order(alloc, order, mode, bytes),
-        Work::Check => check(alloc, order, bytes),
+        Work::Check => check(alloc, order, Criterion::Valid, bytes),
     }
 }
 
@@ -172,14 +173,44 @@ fn accept_in_order(
     }
 }
 
-// Nothing, of a text that means a value.
-fn check(alloc: Global, order: &Order, bytes: &[u8]) -> Result<Accepted, Error>
-    ensures ok { IfOk result (HasOutput order.now.options (Checks order.now.options bytes.now)) }
+// Nothing, of a text that the criterion accepts.
+fn check(
+    alloc: Global,
+    order: &Order,
+    criterion: Criterion,
+    bytes: &[u8],
+) -> Result<Accepted, Error>
+    ensures ok { IfOk result (HasOutput order.now.options (Checks order.now.options criterion bytes.now)) }
     ensures utf8 { IfOk result IsUtf8Accepted }
-    ensures fault { IfErr result (λ fault. IsRefusedIn order.now.options fault bytes.now) }
+    ensures fault { IfErr result (λ fault. IsUnchecked order.now.options criterion fault bytes.now) }
 {
-    convert_with(alloc, order.options, Mode::Canonical, bytes)?;
+    judge(alloc, order.options, criterion, bytes)?;
     Ok(Accepted::Output(Vec::new(alloc)))
+}
+
+// Judges a text by a criterion. A canonical text may have a newline at its end.
+fn judge(alloc: Global, options: Options, criterion: Criterion, bytes: &[u8]) -> Result<(), Error>
+    ensures ok { OnOk result (ChecksIn options criterion (judged_of criterion bytes.now)) }
+    ensures fault { IfErr result (λ fault. IsUnchecked options criterion fault bytes.now) }
+{
+    match criterion {
+        Criterion::Valid => {
+            convert_with(alloc, options, Mode::Canonical, bytes)?;
+            Ok(())
+        }
+        Criterion::Canonical => check_canonical(alloc, options, strip_newline(bytes)),
+    }
+}
+
+// The bytes before a newline at their end.
+fn strip_newline(bytes: &[u8]) -> &[u8]
+    ensures { result.now ≡ without_newline bytes.now }
+{
+    if bytes.ends_with(b"\n") {
+        &bytes[..bytes.len() - 1]
+    } else {
+        bytes
+    }
 }
 
 // The form that is laid out over several lines, and by how many spaces.
@@ -196,11 +227,11 @@ fn layout(order: &Order, mode: Mode) -> Option<(Form, usize)>
     }
 }
 
-// At which line the text was refused, why, and where.
+// At which line the text was refused, why, and where. A canonical text has one line.
 fn refusal_of(alloc: Global, task: Task, fault: Error, text: &[u8]) -> (u64, Error, String)
     ensures fault { (result.1 ≡ fault) ⊎ (result.1 ≡ Error.OutOfMemory) }
     ensures place { IsWhere text.now result.1 (string_bytes result.2) }
-    ensures line { (result.1 ≡ Error.NotJson) ⊎ (result.0 ≡ 0) }
+    ensures line { HasLine result.1 result.0 }
 {
     match place_of(alloc, task, &fault, text) {
         Ok((line, place)) => (line, fault, place),
@@ -214,11 +245,12 @@ fn place_of(
     fault: &Error,
     text: &[u8],
 ) -> Result<(u64, String), AllocError>
-    ensures line { IfOk result (λ at. (fault.now ≡ Error.NotJson) ⊎ (at.0 ≡ 0)) }
+    ensures line { IfOk result (λ at. HasLine fault.now at.0) }
     ensures place { IfOk result (λ at. IsWhere text.now fault.now (string_bytes at.1)) }
 {
     match fault {
         Error::NotJson => stop_of(alloc, text),
+        Error::NotCanonical(_) => Ok((1, explain_under(alloc, task, fault, text)?)),
         _ => Ok((0, explain_under(alloc, task, fault, text)?)),
     }
 }

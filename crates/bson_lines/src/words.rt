@@ -47,6 +47,7 @@ Reads one JSON document from FILE or standard input as MongoDB Extended JSON v2,
   --strict                accepts of all doubles only zeros, infinities and NaNs; keys are written in ascending order
   --legacy                also reads three objects of Extended JSON v1
   --no-double-keys        rejects input in which an object has a duplicate key, at any depth
+  --canonical             (check) accepts only canonical JSON, byte for byte as `canonical --sort-keys` writes it
   --indent N              (canonical, relaxed) writes the document over several lines, with N spaces for each bracket
   -o FILE, --output FILE  (not check) writes the output to FILE, as a whole at the end
 
@@ -63,6 +64,7 @@ reports. Blank lines are counted, and write nothing.
   --strict                accepts of all doubles only zeros, infinities and NaNs; keys are written in ascending order
   --legacy                also reads three objects of Extended JSON v1
   --no-double-keys        rejects a line in which an object has a duplicate key, at any depth
+  --canonical             (check) accepts only canonical JSON, byte for byte as `canonical --sort-keys` writes it
   --keep-going            skips a rejected line and reports it; without it the run ends there
   --jobs N                converts N parts of named files at a time, with GNU parallel
   -o FILE, --output FILE  (not check) writes the output to FILE, as a whole at the end
@@ -138,6 +140,8 @@ a regular expression has a 0 byte. Each part must have fewer than 2^31 bytes. By
                           keys of a scope stay as they are
   --no-double-keys        (not decode, encode) rejects input in which an object has a duplicate key, at any depth, and
                           reports the path to the first one; keys are compared after their escapes are decoded
+  --canonical             (check, lines check) accepts only canonical JSON with keys in ascending order, byte for byte as
+                          `canonical --sort-keys` writes it, with its newline or without; not with the two options above
   --indent N              (canonical, relaxed) writes a document over several lines, one for each member and element,
                           with N spaces for each bracket, N from 1 to 16; it reads as exactly the same tree
   --keep-going            (lines, decode, encode) skips a rejected line or document and reports it; a rejected BSON

@@ -1,9 +1,11 @@
 //! `json TEXT`, `json wide TEXT`: whether a text is JSON. A wide text has a number out of range.
 //! `is_canonical TEXT`: whether a text is the canonical text of its value, with finite doubles.
+//! `check_canonical TEXT`: the same, and why it is not.
 use crate::answer::Answer;
 use crate::stop::{Outcome, Stop};
 use bson::extjson::{Doubles, Options};
-use bson_convert::canonical::is_canonical_text;
+use bson_convert::canonical::{check_canonical, is_canonical_text};
+use bson_convert::error::Error;
 use bson_json::text::is_json;
 use std::alloc::Global;
 
@@ -24,5 +26,18 @@ pub(crate) fn is_canonical(alloc: Global, text: &str, out: &mut Answer) -> Outco
         return Err(Stop::OutOfMemory);
     };
     out.text(if canonical { "true" } else { "false" });
+    Ok(())
+}
+
+pub(crate) fn check(alloc: Global, text: &str, out: &mut Answer) -> Outcome {
+    let options = Options {
+        doubles: Doubles::Finite,
+    };
+    match check_canonical(alloc, options, text.as_bytes()) {
+        Ok(()) => out.text("canonical"),
+        Err(Error::OutOfMemory) => return Err(Stop::OutOfMemory),
+        Err(Error::NotCanonical(column)) => out.put(&column),
+        Err(error) => out.text(error.message()),
+    }
     Ok(())
 }

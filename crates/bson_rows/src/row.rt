@@ -46,6 +46,7 @@ fn called(alloc: Global, row: &str, out: &mut Answer) -> Outcome {
         "id" => ids::call(alloc, rest, out),
         "json" => json_texts::call(alloc, rest, out),
         "is_canonical" => json_texts::is_canonical(alloc, rest, out),
+        "check_canonical" => json_texts::check(alloc, rest, out),
         "uuid" => binaries::uuid_call(alloc, rest, out),
         "binary" => binaries::call(alloc, rest, out),
         "bytes" => bytes::call(alloc, rest, out),

@@ -18,7 +18,7 @@ use Rattle.bson_convert.specs.Convert.{IsRefusedIn}
 use Rattle.bson_run.specs.Encode.{EncodesIn, EncodesInOrder, FailsAlone, FailsFor, IsBytesOf}
 use Rattle.bson_run.specs.Encode.{IsUnencodedFor, IsUnencodedIn, IsUnencodedInOrder, MeansKept}
 use Rattle.bson_run.specs.LinesSteps.{Options, Error, CannotRead, NotJson, NotExtendedJson, NoBytes, OutOfMemory}
-use Rattle.bson_run.specs.LinesSteps.{CannotWrite}
+use Rattle.bson_run.specs.LinesSteps.{CannotWrite, NotCanonical}
 use Rattle.bson_convert.specs.declared.no_bytes.NoBytes.TheVariants.{NoDocument, ZeroInKey, ZeroInRegex, TooLong}
 
 -- ---- a value
@@ -40,6 +40,7 @@ fails_for (NoBytes NoDocument) value ps is h = absurd h
 fails_for (NoBytes ZeroInKey) value ps is h = record { pairs = ps; meaning = sym is; fails = h }
 fails_for (NoBytes ZeroInRegex) value ps is h = record { pairs = ps; meaning = sym is; fails = h }
 fails_for (NoBytes TooLong) value ps is h = record { pairs = ps; meaning = sym is; fails = h }
+fails_for (NotCanonical column) value ps is h = absurd h
 fails_for OutOfMemory value ps is h = tt
 fails_for CannotWrite value ps is h = h
 
@@ -70,6 +71,7 @@ module _ (P : Value → Type 0) (value : Value) (h : P value) where
   unencoded_by (NoBytes ZeroInKey) f = fails_by _ f
   unencoded_by (NoBytes ZeroInRegex) f = fails_by _ f
   unencoded_by (NoBytes TooLong) f = fails_by _ f
+  unencoded_by (NotCanonical column) f = absurd f
   unencoded_by OutOfMemory f = tt
   unencoded_by CannotWrite f = f
 
@@ -142,6 +144,7 @@ module _ (o : Options) (text : List ℕ) where
   told NotJson f = absurd f
   told (NotExtendedJson place) f = absurd f
   told (NoBytes why) f = f
+  told (NotCanonical column) f = f
   told OutOfMemory f = tt
   told CannotWrite f = f
 
@@ -150,6 +153,7 @@ module _ (o : Options) (text : List ℕ) where
   told_kept NotJson f = absurd f
   told_kept (NotExtendedJson place) f = absurd f
   told_kept (NoBytes why) f = f
+  told_kept (NotCanonical column) f = f
   told_kept OutOfMemory f = tt
   told_kept CannotWrite f = f
 
@@ -167,6 +171,7 @@ module _ (o : Options) (text : List ℕ) where
   unread NotJson f = f
   unread (NotExtendedJson place) f = f
   unread (NoBytes why) f = absurd f
+  unread (NotCanonical column) f = f
   unread OutOfMemory f = f
   unread CannotWrite f = f
 
@@ -175,6 +180,7 @@ module _ (o : Options) (text : List ℕ) where
   unread_kept NotJson f = f
   unread_kept (NotExtendedJson place) f = f
   unread_kept (NoBytes why) f = absurd f
+  unread_kept (NotCanonical column) f = f
   unread_kept OutOfMemory f = f
   unread_kept CannotWrite f = f
 

@@ -14,7 +14,8 @@ use Rattle.bson_place.specs.Place.{dotted, path_of}
 use Rattle.bson_place.specs.declared.place.Place.{Place}
 use Rattle.bson_convert.specs.declared.error.Error.{Error}
 use Rattle.bson_convert.specs.declared.error.Error.TheVariants as errors
-use Rattle.bson_run.specs.Place.{IsExplanation, IsOfNoText, IsWhere, at_path, column_at, cut_at, shown, told_as, words_at}
+use Rattle.bson_run.specs.Place.{IsExplanation, IsOfNoText, IsWhere, at_difference, at_path, column_at, cut_at, shown, told_as}
+use Rattle.bson_run.specs.Place.{words_at}
 use Rattle.bson_run.specs.declared.explain.Explanation.{Explanation}
 use Rattle.bson_run.specs.declared.explain.Explanation.TheVariants as explained
 
@@ -45,6 +46,7 @@ other_where text errors.CannotRead h = refl
 other_where text errors.NotJson h = absurd h
 other_where text (errors.NotExtendedJson place) h = absurd h
 other_where text (errors.NoBytes why) h = refl
+other_where text (errors.NotCanonical column) h = absurd h
 other_where text errors.OutOfMemory h = refl
 other_where text errors.CannotWrite h = refl
 
@@ -58,6 +60,8 @@ where_from text fault (explained.Value place reason) h =
       h.1.1,
       ap (λ t. at_path (told_as (dotted (path_of place.now))) ++ codes " (" ++ t ++ codes ")") h.1.2,
     )
+where_from text fault (explained.Difference column) h =
+    subst (λ (f : Error). IsWhere text f (at_difference column)) (sym h) refl
 where_from text fault explained.Other h = other_where text fault h
 
 -- ---- words as they are told

@@ -1,4 +1,5 @@
 pub mod AcceptedTexts
+mod Checked
 pub mod EncodeLaws
 mod Explaining
 mod Indenting

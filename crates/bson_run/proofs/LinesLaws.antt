@@ -12,7 +12,7 @@ use Rattle.bson_run.specs.Lines.{blank, written, passed_over, IsStoppedIn, IsSto
 use Rattle.bson_run.specs.LinesSteps.{Options, IsOpen, IsJudged, IsTold, HaveSameOutcomes, TakesLine}
 use Rattle.bson_run.specs.LinesSteps.{Progress, Takes, Ends, Reached, Stopped, StopsWithin, StopsLast}
 use Rattle.bson_run.specs.LinesSteps.{Error, CannotRead, NotJson, NotExtendedJson, NoBytes, OutOfMemory}
-use Rattle.bson_run.specs.LinesSteps.{CannotWrite, Gathered, OnRefusal, Task}
+use Rattle.bson_run.specs.LinesSteps.{CannotWrite, Gathered, NotCanonical, OnRefusal, Task}
 use Rattle.bson_run.specs.declared.order.OnRefusal.TheVariants.{Stop}
 
 -- a newline ends what stands before it
@@ -41,6 +41,7 @@ judged_bad o task CannotRead text h other = h
 judged_bad o task NotJson text h other = h
 judged_bad o task (NotExtendedJson place) text h other = h
 judged_bad o task (NoBytes why) text h other = h
+judged_bad o task (NotCanonical column) text h other = h
 judged_bad o task OutOfMemory text h other = absurd (other refl)
 judged_bad o task CannotWrite text h other = h
 
@@ -51,6 +52,7 @@ stopped_at o task on_refusal CannotRead held n line others is h = h
 stopped_at o task on_refusal NotJson held n line others is h = (is, h)
 stopped_at o task on_refusal (NotExtendedJson place) held n line others is h = (is, h)
 stopped_at o task on_refusal (NoBytes why) held n line others is h = (is, h)
+stopped_at o task on_refusal (NotCanonical column) held n line others is h = (is, h)
 stopped_at o task on_refusal OutOfMemory held n line others is h = h
 stopped_at o task on_refusal CannotWrite held n line others is h = h
 
@@ -66,6 +68,7 @@ refused_stops o task on_refusal fault e text h (inr p) =
     of_fault NotJson h = (p.0, h)
     of_fault (NotExtendedJson place) h = (p.0, h)
     of_fault (NoBytes why) h = (p.0, h)
+    of_fault (NotCanonical column) h = (p.0, h)
     of_fault OutOfMemory h = tt
     of_fault CannotWrite h = h
 

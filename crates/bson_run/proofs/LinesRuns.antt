@@ -11,7 +11,7 @@ use Rattle.bson_run.specs.LinesSteps.{Options, CannotWriteBoth, IsOpen, IsStart,
 use Rattle.bson_run.specs.LinesSteps.{Progress, Takes, Ends, Reached, Stopped, StopsWithin, StopsLast, Running, Complete}
 use Rattle.bson_convert.specs.Run.{WritesBeginning, WritesPart}
 use Rattle.bson_run.specs.LinesSteps.{Error, CannotRead, NotJson, NotExtendedJson, NoBytes, OutOfMemory}
-use Rattle.bson_run.specs.LinesSteps.{CannotWrite, Gathered, OnRefusal, Task}
+use Rattle.bson_run.specs.LinesSteps.{CannotWrite, Gathered, NotCanonical, OnRefusal, Task}
 use Rattle.bson_run.proofs.LinesLaws.{open_nil, reached}
 
 left_at_end : (after : Option (List ℕ)) → IsAtEnd after → left_of after ≡ []
@@ -111,6 +111,7 @@ module _ {o : Options} {task : Task} {on_refusal : OnRefusal} where
   fails NotJson = stops NotJson
   fails (NotExtendedJson place) = stops (NotExtendedJson place)
   fails (NoBytes why) = stops (NoBytes why)
+  fails (NotCanonical column) = stops (NotCanonical column)
   fails OutOfMemory = stops OutOfMemory
   fails CannotWrite =
       λ before after had holds told tells bytes output verdicts s u count held given stopped written reported.

@@ -1,5 +1,6 @@
 -- What is written of a text is one output, and what has no bytes has none for one cause.
 use Rattle.std.proofs.Common.{◌≡◌, ◌⊎◌, inl, inr, ℕ, List, ◌++◌, Some, None, refl, ap, sym, ◌∙◌, subst}
+use Rattle.std.proofs.lemmas.List.{append_cancel_right}
 use Rattle.std.specs.Prelude.{IsUtf8}
 use Rattle.serde_json.specs.Read.{read}
 use Rattle.bson.proofs.Offered.{tree_one}
@@ -16,6 +17,8 @@ use Rattle.bson_place.specs.declared.place.Place.{Place}
 use Rattle.bson_scalar.specs.TreeText.{tree_text}
 use Rattle.bson_scalar.specs.declared.form.Form.TheVariants as form
 use Rattle.bson_convert.specs.Convert.{ConvertsIn, IsAccepted, IsOutputIn, IsRefusedIn, newline}
+use Rattle.bson_convert.proofs.Offered.{no_difference, one_difference}
+use Rattle.bson_convert.specs.Difference.{DifferAt}
 use Rattle.bson_convert.specs.declared.error.Error.TheVariants.{NotExtendedJson, NoBytes}
 use Rattle.bson_convert.specs.declared.mode.Mode.{Mode}
 use Rattle.bson_convert.specs.declared.mode.Mode.TheVariants.{Canonical, Relaxed, Show}
@@ -25,8 +28,11 @@ use Rattle.bson_run.proofs.EncodeLaws.{ascending_one, in_order_one, kept_one, sa
 use Rattle.bson_run.proofs.OneRead.{blank_taken, blank_turned, one_taken}
 use Rattle.bson_run.specs.Encode.{FailsFor, HasNoBytesFor, IsBytesOf, IsNoDocument, MeansKept}
 use Rattle.bson_run.specs.InOrder.{ConvertsInOrder, IsOutputInOrder}
-use Rattle.bson_run.specs.Lines.{IsBlank, IsWithoutBytes, WorksIn, WritesIn}
+use Rattle.bson_run.specs.Lines.{ChecksIn, IsBlank, IsUncanonicalFor, IsWithoutBytes, WorksIn, WritesIn}
 use Rattle.bson_run.specs.Taken.{IsTakenAs, IsTurnedAway}
+use Rattle.bson_run.specs.declared.order.Criterion.{Criterion}
+use Rattle.bson_run.specs.declared.order.Criterion.TheVariants as criterion
+use Rattle.bson_run.specs.declared.order.Criterion.TheVariants.{Valid}
 use Rattle.bson_run.specs.declared.order.Task.{Task}
 use Rattle.bson_run.specs.declared.order.Task.TheVariants.{Write, WriteInOrder, Check, Encode, EncodeInOrder, Taken}
 use Rattle.bson_run.specs.declared.order.Work.{Work}
@@ -45,7 +51,7 @@ Turned task place text = ⊥
 pub one_read : (task : Task) (text a b : List ℕ) → Reads task text a → Reads task text b → a ≡ b
 one_read (Write mode) text a b x y = x ∙ sym y
 one_read (WriteInOrder mode) text a b x y = x ∙ sym y
-one_read Check text a b x y = x ∙ sym y
+one_read (Check criterion) text a b x y = x ∙ sym y
 one_read Encode text a b x y = x ∙ sym y
 one_read EncodeInOrder text a b x y = x ∙ sym y
 one_read (Taken taking work) text a b x y = one_taken taking text a b x y
@@ -53,7 +59,7 @@ one_read (Taken taking work) text a b x y = one_taken taking text a b x y
 pub blank_read : (task : Task) (text a : List ℕ) → IsBlank text → Reads task text a → a ≡ text
 blank_read (Write mode) text a h x = x
 blank_read (WriteInOrder mode) text a h x = x
-blank_read Check text a h x = x
+blank_read (Check criterion) text a h x = x
 blank_read Encode text a h x = x
 blank_read EncodeInOrder text a h x = x
 blank_read (Taken taking work) text a h x = blank_taken taking text a h x
@@ -61,7 +67,7 @@ blank_read (Taken taking work) text a h x = blank_taken taking text a h x
 pub turned_blank : (task : Task) (place : Place) (text : List ℕ) → IsBlank text → Turned task place text → ⊥
 turned_blank (Write mode) place text h x = x
 turned_blank (WriteInOrder mode) place text h x = x
-turned_blank Check place text h x = x
+turned_blank (Check criterion) place text h x = x
 turned_blank Encode place text h x = x
 turned_blank EncodeInOrder place text h x = x
 turned_blank (Taken taking work) place text h x = blank_turned taking place text h x
@@ -122,10 +128,14 @@ module _ (o : Options) where
   converts_in_order : (mode : Mode) (text out : List ℕ) → ConvertsInOrder o mode text out → IsAccepted o text
   converts_in_order mode text out x = by_default text x.value x.utf8 x.meaning
 
+  checks : (it : Criterion) (text : List ℕ) → ChecksIn o it text → IsAccepted o text
+  checks Valid text x = converts Canonical text x.0 x.1
+  checks criterion.Canonical text x = converts Canonical text (text ++ newline) x
+
   works : (it : Work) (text out : List ℕ) → WorksIn o it text out → IsAccepted o text
   works (work.Write mode) text out x = converts mode text out x
   works (work.WriteInOrder mode) text out x = converts_in_order mode text out x
-  works work.Check text out x = converts Canonical text x.0.0 x.0.1
+  works work.Check text out x = checks Valid text x.0
 
   pub no_text : (text : List ℕ) → IsAccepted o text → IsNoText text → ⊥
   no_text text (t, v, is, m) h =
@@ -195,7 +205,7 @@ module _ (o : Options) where
   pub one_written : (task : Task) (text a b : List ℕ) → WritesIn o task text a → WritesIn o task text b → a ≡ b
   one_written (Write mode) text a b x y = one_converted mode text a b x y
   one_written (WriteInOrder mode) text a b x y = one_in_order mode text a b x y
-  one_written Check text a b x y = x.1 ∙ sym y.1
+  one_written (Check criterion) text a b x y = x.1 ∙ sym y.1
   one_written Encode text a b x y = ascending_one o text b a y x
   one_written EncodeInOrder text a b x y = in_order_one o text b a y x
   one_written (Taken taking it) text a b x y =
@@ -207,7 +217,7 @@ module _ (o : Options) where
       → (read : List ℕ) × Reads task text read × IsAccepted o read
   written_read (Write mode) text a x = (text, refl, converts mode text a x)
   written_read (WriteInOrder mode) text a x = (text, refl, converts_in_order mode text a x)
-  written_read Check text a x = (text, refl, converts Canonical text x.0.0 x.0.1)
+  written_read (Check criterion) text a x = (text, refl, checks criterion text x.0)
   written_read Encode text a x = (text, refl, meant text (document x.pairs) x.meaning)
   written_read EncodeInOrder text a x =
       (text, refl, by_default text (document x.pairs) x.meaning.0 x.meaning.1)
@@ -235,8 +245,54 @@ module _ (o : Options) where
       → Reads task text text × IsAccepted o text
   without_read (Write mode) why text h = absurd h
   without_read (WriteInOrder mode) why text h = absurd h
-  without_read Check why text h = absurd h
+  without_read (Check criterion) why text h = absurd h
   without_read Encode why text h =
       (refl, fails_meant text why (fails_of (HasTextMeaningIn o.doubles text) why h))
   without_read EncodeInOrder why text h = (refl, fails_kept text why (fails_of (MeansKept o text) why h))
   without_read (Taken taking it) why text h = absurd h
+
+  -- ---- what is not canonical
+
+  pub uncanonical_read : (task : Task) (column : ℕ) (text : List ℕ) → IsUncanonicalFor o task column text
+      → Reads task text text × IsAccepted o text
+  uncanonical_read (Write mode) column text h = absurd h
+  uncanonical_read (WriteInOrder mode) column text h = absurd h
+  uncanonical_read (Check Valid) column text h = absurd h
+  uncanonical_read (Check criterion.Canonical) column text h = (refl, converts Canonical text (h.text ++ newline) h.converts)
+  uncanonical_read Encode column text h = absurd h
+  uncanonical_read EncodeInOrder column text h = absurd h
+  uncanonical_read (Taken taking it) column text h = absurd h
+
+  pub uncanonical_bytes : (task : Task) (column : ℕ) (why : without.NoBytes) (text : List ℕ) → IsUncanonicalFor o task column text
+      → IsWithoutBytes o task why text → ⊥
+  uncanonical_bytes (Write mode) column why text h x = h
+  uncanonical_bytes (WriteInOrder mode) column why text h x = h
+  uncanonical_bytes (Check criterion) column why text h x = x
+  uncanonical_bytes Encode column why text h x = h
+  uncanonical_bytes EncodeInOrder column why text h x = h
+  uncanonical_bytes (Taken taking it) column why text h x = h
+
+  pub uncanonical_written : (task : Task) (column : ℕ) (text a : List ℕ) → IsUncanonicalFor o task column text
+      → WritesIn o task text a → ⊥
+  uncanonical_written (Write mode) column text a h x = h
+  uncanonical_written (WriteInOrder mode) column text a h x = h
+  uncanonical_written (Check Valid) column text a h x = h
+  uncanonical_written (Check criterion.Canonical) column text a h x =
+      let ended = one_converted Canonical text (h.text ++ newline) (text ++ newline) h.converts x.0 in
+      no_difference column text h.text h.differ (sym (append_cancel_right h.text text newline ended))
+  uncanonical_written Encode column text a h x = h
+  uncanonical_written EncodeInOrder column text a h x = h
+  uncanonical_written (Taken taking it) column text a h x = h
+
+  pub one_column : (task : Task) (column other : ℕ) (text : List ℕ) → IsUncanonicalFor o task column text
+      → IsUncanonicalFor o task other text → column ≡ other
+  one_column (Write mode) column other text x y = absurd x
+  one_column (WriteInOrder mode) column other text x y = absurd x
+  one_column (Check Valid) column other text x y = absurd x
+  one_column (Check criterion.Canonical) column other text x y =
+      let ended = one_converted Canonical text (y.text ++ newline) (x.text ++ newline) y.converts x.converts in
+      let same : y.text ≡ x.text = append_cancel_right y.text x.text newline ended in
+      one_difference column other text x.text x.differ (subst (DifferAt other text) same y.differ)
+  one_column Encode column other text x y = absurd x
+  one_column EncodeInOrder column other text x y = absurd x
+  one_column (Taken taking it) column other text x y = absurd x

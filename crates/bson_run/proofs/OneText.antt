@@ -13,16 +13,17 @@ use Rattle.bson_place.specs.declared.place.Place.{Place}
 use Rattle.bson_convert.specs.Convert.{IsAccepted, IsRefusedIn}
 use Rattle.bson_convert.specs.declared.error.Error.{Error}
 use Rattle.bson_convert.specs.declared.error.Error.TheVariants.{CannotRead, NotJson, NotExtendedJson, NoBytes, OutOfMemory}
-use Rattle.bson_convert.specs.declared.error.Error.TheVariants.{CannotWrite}
+use Rattle.bson_convert.specs.declared.error.Error.TheVariants.{CannotWrite, NotCanonical}
 use Rattle.bson_convert.specs.declared.no_bytes.NoBytes as without
 use Rattle.bson_run.proofs.OneRead.{blank_text, not_taken, one_turned}
 use Rattle.bson_run.specs.Encode.{MeansKept}
-use Rattle.bson_run.specs.Lines.{IsBadLineIn, IsBlank, IsWithoutBytes, WritesIn}
+use Rattle.bson_run.specs.Lines.{IsBadLineIn, IsBlank, IsUncanonicalFor, IsWithoutBytes, WritesIn}
 use Rattle.bson_run.specs.Outcomes.{IsSameFault}
 use Rattle.bson_run.specs.declared.order.Task.{Task}
 use Rattle.bson_run.specs.declared.order.Task.TheVariants.{Write, WriteInOrder, Check, Encode, EncodeInOrder, Taken}
 use Rattle.bson_run.proofs.OneOutput.{Reads, Turned, blank_read, fails_of, fault_text, has_bytes, no_fault, no_text, one_kept, one_meant}
-use Rattle.bson_run.proofs.OneOutput.{one_read, one_written, same_cause, same_path, turned_blank, without_read, written_read}
+use Rattle.bson_run.proofs.OneOutput.{one_column, one_read, one_written, same_cause, same_path, turned_blank, uncanonical_bytes}
+use Rattle.bson_run.proofs.OneOutput.{uncanonical_read, uncanonical_written, without_read, written_read}
 
 -- what a text gives is one thing
 pub record Decided (o : Options) (task : Task) : Type 0 where
@@ -41,23 +42,25 @@ data View (o : Options) (task : Task) (text : List ℕ) : Error → Type 0 where
       → View o task text (NotExtendedJson place)
   turned : (place : Place) → Turned task place text → View o task text (NotExtendedJson place)
   bare : (why : without.NoBytes) → IsWithoutBytes o task why text → View o task text (NoBytes why)
+  differs : (column : ℕ) → IsUncanonicalFor o task column text → View o task text (NotCanonical column)
 
 view : (o : Options) (task : Task) (text : List ℕ) (fault : Error) → IsBadLineIn o task fault text
     → View o task text fault
 view o (Write mode) text NotJson h = unread text refl h.0 h.1
 view o (WriteInOrder mode) text NotJson h = unread text refl h.0 h.1
-view o Check text NotJson h = unread text refl h.0 h.1
+view o (Check criterion) text NotJson h = unread text refl h.0 h.1
 view o Encode text NotJson h = unread text refl h.0 h.1
 view o EncodeInOrder text NotJson h = unread text refl h.0 h.1
 view o (Taken taking it) text NotJson h = unread h.0.0 h.0.1 h.0.2 h.1
 view o (Write mode) text (NotExtendedJson place) h = meaningless place text refl h
 view o (WriteInOrder mode) text (NotExtendedJson place) h = meaningless place text refl h
-view o Check text (NotExtendedJson place) h = meaningless place text refl h
+view o (Check criterion) text (NotExtendedJson place) h = meaningless place text refl h
 view o Encode text (NotExtendedJson place) h = meaningless place text refl h
 view o EncodeInOrder text (NotExtendedJson place) h = meaningless place text refl h
 view o (Taken taking it) text (NotExtendedJson place) (inl h) = meaningless place h.0 h.1 h.2
 view o (Taken taking it) text (NotExtendedJson place) (inr h) = turned place h
 view o task text (NoBytes why) h = bare why h
+view o task text (NotCanonical column) h = differs column h
 view o task text CannotRead h = absurd h
 view o task text OutOfMemory h = absurd h
 view o task text CannotWrite h = absurd h
@@ -70,7 +73,7 @@ module _ (twice : (j : Json) (path : List PathSegment) → DoubleAt j path → �
   not_turned : (task : Task) (place : Place) (text a : List ℕ) → Turned task place text → Reads task text a → ⊥
   not_turned (Write mode) place text a h is = h
   not_turned (WriteInOrder mode) place text a h is = h
-  not_turned Check place text a h is = h
+  not_turned (Check criterion) place text a h is = h
   not_turned Encode place text a h is = h
   not_turned EncodeInOrder place text a h is = h
   not_turned (Taken taking it) place text a h is = not_taken twice taking place text a h is
@@ -79,7 +82,7 @@ module _ (twice : (j : Json) (path : List PathSegment) → DoubleAt j path → �
       → path_of place ≡ path_of other
   both_turned (Write mode) place other text x y = absurd x
   both_turned (WriteInOrder mode) place other text x y = absurd x
-  both_turned Check place other text x y = absurd x
+  both_turned (Check criterion) place other text x y = absurd x
   both_turned Encode place other text x y = absurd x
   both_turned EncodeInOrder place other text x y = absurd x
   both_turned (Taken taking it) place other text x y = one_turned one_double taking place other text x y
@@ -88,7 +91,7 @@ module _ (twice : (j : Json) (path : List PathSegment) → DoubleAt j path → �
       → IsWithoutBytes o task other text → why ≡ other
   both_bare (Write mode) why other text x y = absurd x
   both_bare (WriteInOrder mode) why other text x y = absurd x
-  both_bare Check why other text x y = absurd x
+  both_bare (Check criterion) why other text x y = absurd x
   both_bare Encode why other text x y =
       let P = HasTextMeaningIn o.doubles text in
       same_cause P (one_meant o text) no_cause one_cause why other (fails_of P why x) (fails_of P other y)
@@ -101,7 +104,7 @@ module _ (twice : (j : Json) (path : List PathSegment) → DoubleAt j path → �
       → IsWithoutBytes o task why text → ⊥
   not_bare (Write mode) why text a w h = h
   not_bare (WriteInOrder mode) why text a w h = h
-  not_bare Check why text a w h = h
+  not_bare (Check criterion) why text a w h = h
   not_bare Encode why text a w h =
       let P = HasTextMeaningIn o.doubles text in
       has_bytes P (one_meant o text) no_cause one_cause why a w (fails_of P why h)
@@ -133,6 +136,7 @@ module _ (twice : (j : Json) (path : List PathSegment) → DoubleAt j path → �
     viewed_written a fault w (turned place h) =
         let r = written_read o task text a w in not_turned task place text r.0 h r.1
     viewed_written a fault w (bare why h) = not_bare task why text a w h
+    viewed_written a fault w (differs column h) = uncanonical_written o task column text a h w
 
     accepted_blank : IsBlank text → (a : List ℕ) → Reads task text a → IsAccepted o a → ⊥
     accepted_blank blank a is (t, v, of, m) =
@@ -145,6 +149,8 @@ module _ (twice : (j : Json) (path : List PathSegment) → DoubleAt j path → �
     viewed_blank fault blank (turned place h) = turned_blank task place text blank h
     viewed_blank fault blank (bare why h) =
         let r = without_read o task why text h in accepted_blank blank text r.0 r.1
+    viewed_blank fault blank (differs column h) =
+        let r = uncanonical_read o task column text h in accepted_blank blank text r.0 r.1
 
     viewed : (fault cause : Error) → View o task text fault → View o task text cause → IsSameFault fault cause
     viewed fault cause (unread a x none some) (unread b y neither also) = tt
@@ -171,6 +177,21 @@ module _ (twice : (j : Json) (path : List PathSegment) → DoubleAt j path → �
     viewed fault cause (bare why h) (turned place k) =
         let r = without_read o task why text h in absurd (not_turned task place text text k r.0)
     viewed fault cause (bare why h) (bare other k) = both_bare task why other text h k
+    viewed fault cause (unread a x none some) (differs column h) =
+        let r = uncanonical_read o task column text h in absurd (apart text a r.0 x r.1 none)
+    viewed fault cause (meaningless place a x h) (differs column k) =
+        let r = uncanonical_read o task column text k in absurd (unmeant text a place r.0 x r.1 h)
+    viewed fault cause (turned place h) (differs column k) =
+        let r = uncanonical_read o task column text k in absurd (not_turned task place text text h r.0)
+    viewed fault cause (bare why h) (differs column k) = absurd (uncanonical_bytes o task column why text k h)
+    viewed fault cause (differs column h) (unread b y none some) =
+        let r = uncanonical_read o task column text h in absurd (apart text b r.0 y r.1 none)
+    viewed fault cause (differs column h) (meaningless place b y k) =
+        let r = uncanonical_read o task column text h in absurd (unmeant text b place r.0 y r.1 k)
+    viewed fault cause (differs column h) (turned place k) =
+        let r = uncanonical_read o task column text h in absurd (not_turned task place text text k r.0)
+    viewed fault cause (differs column h) (bare why k) = absurd (uncanonical_bytes o task column why text h k)
+    viewed fault cause (differs column h) (differs other k) = one_column o task column other text h k
 
   pub decided : (task : Task) → Decided o task
   decided task = record {

@@ -11,10 +11,10 @@ use Rattle.bson_run.specs.declared.rule.Rule.TheVariants as rule
 
 -- ---- names of tasks
 
-tasks_named : (task_name Check ≡ codes "check")
+tasks_named : ((criterion : _) → task_name (Check criterion) ≡ codes "check")
     × (task_name Encode ≡ codes "encode")
     × (task_name EncodeInOrder ≡ codes "encode")
-tasks_named = (refl, refl, refl)
+tasks_named = (λ criterion. refl, refl, refl)
 
 -- ---- words of rules of JSON
 

@@ -5,7 +5,7 @@ use Rattle.std.specs.Io.KnownBytes.{Appends, Consumes, IsAtEnd}
 use Rattle.bson.specs.declared.extjson.options.Options.{Options}
 use Rattle.bson_convert.specs.declared.error.Error.{Error}
 use Rattle.bson_convert.specs.declared.error.Error.TheVariants.{CannotRead, NotJson, NotExtendedJson, NoBytes, OutOfMemory}
-use Rattle.bson_convert.specs.declared.error.Error.TheVariants.{CannotWrite}
+use Rattle.bson_convert.specs.declared.error.Error.TheVariants.{CannotWrite, NotCanonical}
 use Rattle.bson_run.specs.Lines.{lines, left_of, text_of, DoneLinesIn, FailsAtIn, GivesIn, IsBadLineIn, IsStoppedAtIn, StopsAtIn}
 use Rattle.bson_run.specs.Lines.{WritesText}
 use Rattle.bson_run.specs.Outcomes.{IsOfText, StopsInside}
@@ -73,6 +73,14 @@ module _ (o : Options) (task : Task) (on_refusal : OnRefusal) where
     stops = stops;
     reason = subst (IsBadLineIn o task (NoBytes why)) is h;
   }
+  at_line (NotCanonical column) of held n [] h = absurd h
+  at_line (NotCanonical column) of held n (line ∷ others) (is, (stops, h)) = record {
+    line = line;
+    others = others;
+    parts = refl;
+    stops = stops;
+    reason = subst (IsBadLineIn o task (NotCanonical column)) is h;
+  }
   at_line CannotRead of held n all h = absurd of
   at_line OutOfMemory of held n all h = absurd of
   at_line CannotWrite of held n all h = absurd of
@@ -111,6 +119,8 @@ module _ (o : Options) (task : Task) (on_refusal : OnRefusal) where
       inside all after had holds told tells (NotExtendedJson place) number held of h
   stops_inside all after had holds told tells (NoBytes why) number held h of =
       inside all after had holds told tells (NoBytes why) number held of h
+  stops_inside all after had holds told tells (NotCanonical column) number held h of =
+      inside all after had holds told tells (NotCanonical column) number held of h
   stops_inside all after had holds told tells CannotRead number held h of = absurd of
   stops_inside all after had holds told tells OutOfMemory number held h of = absurd of
   stops_inside all after had holds told tells CannotWrite number held h of = absurd of

@@ -5,7 +5,7 @@ use Rattle.std.specs.Fmt.{decimal}
 use Rattle.std.specs.List.{starts_with}
 use Rattle.std.specs.Io.KnownBytes.{Appends, Consumes}
 use Rattle.bson.specs.declared.extjson.options.Options.{Options}
-use Rattle.bson_convert.specs.Convert.{ConvertsIn, IsRefusedIn, newline}
+use Rattle.bson_convert.specs.Convert.{ConvertsIn, IsCanonicalText, IsRefusedIn, IsUncanonicalAt, newline}
 use Rattle.bson_run.specs.Encode.{EncodesIn, EncodesInOrder, HasNoBytesIn, HasNoBytesInOrder}
 use Rattle.bson_run.specs.InOrder.{ConvertsInOrder}
 use Rattle.bson_run.specs.Place.{IsWhere}
@@ -14,11 +14,14 @@ use Rattle.bson_convert.specs.Run.{ReadsAll}
 use Rattle.bson_convert.specs.Words.{words_of}
 use Rattle.bson_convert.specs.declared.error.Error.{Error}
 use Rattle.bson_convert.specs.declared.error.Error.TheVariants.{CannotRead, NotJson, NotExtendedJson, NoBytes, OutOfMemory}
-use Rattle.bson_convert.specs.declared.error.Error.TheVariants.{CannotWrite}
+use Rattle.bson_convert.specs.declared.error.Error.TheVariants.{CannotWrite, NotCanonical}
 use Rattle.bson_convert.specs.declared.mode.Mode.TheVariants.{Canonical}
 use Rattle.bson_convert.specs.declared.no_bytes.NoBytes as without
 use Rattle.bson_run.specs.declared.gathered.Gathered.{Gathered}
 use Rattle.bson_run.specs.declared.lines.LineRun.{LineRun}
+use Rattle.bson_run.specs.declared.order.Criterion.{Criterion}
+use Rattle.bson_run.specs.declared.order.Criterion.TheVariants as criterion
+use Rattle.bson_run.specs.declared.order.Criterion.TheVariants.{Valid}
 use Rattle.bson_run.specs.declared.order.OnRefusal.{OnRefusal}
 use Rattle.bson_run.specs.declared.order.OnRefusal.TheVariants.{Stop}
 use Rattle.bson_run.specs.declared.order.Task.{Task}
@@ -55,18 +58,23 @@ text_of before line = if (before == 0) && starts_with (λ x y. x == y) line byte
 abbrev pub IsBlank : List ℕ → Type 0
 IsBlank text = All (λ x. (x ≡ 32) ⊎ ((x ≡ 9) ⊎ (x ≡ 13))) text
 
+-- the criterion accepts the text
+abbrev pub ChecksIn : Options → Criterion → List ℕ → Type 0
+ChecksIn o Valid text = (whole : List ℕ) × ConvertsIn o Canonical text whole
+ChecksIn o criterion.Canonical text = IsCanonicalText o text
+
 -- what is written of a text that was taken, where it is accepted
 abbrev pub WorksIn : Options → Work → List ℕ → List ℕ → Type 0
 WorksIn o (work.Write mode) text output = ConvertsIn o mode text output
 WorksIn o (work.WriteInOrder mode) text output = ConvertsInOrder o mode text output
-WorksIn o work.Check text output = ((whole : List ℕ) × ConvertsIn o Canonical text whole) × (output ≡ [])
+WorksIn o work.Check text output = ChecksIn o Valid text × (output ≡ [])
 
 -- what is written of a text that is accepted: its output in the mode, by ascending key or in the order of its keys, or
 -- nothing where it is only checked; or the bytes of its document
 abbrev pub WritesIn : Options → Task → List ℕ → List ℕ → Type 0
 WritesIn o (Write mode) text output = ConvertsIn o mode text output
 WritesIn o (WriteInOrder mode) text output = ConvertsInOrder o mode text output
-WritesIn o Check text output = ((whole : List ℕ) × ConvertsIn o Canonical text whole) × (output ≡ [])
+WritesIn o (Check criterion) text output = ChecksIn o criterion text × (output ≡ [])
 WritesIn o Encode text output = EncodesIn o text output
 WritesIn o EncodeInOrder text output = EncodesInOrder o text output
 WritesIn o (Taken taking work) text output =
@@ -90,6 +98,11 @@ IsWithoutBytes o Encode why text = HasNoBytesIn o why text
 IsWithoutBytes o EncodeInOrder why text = HasNoBytesInOrder o why text
 IsWithoutBytes o task why text = ⊥
 
+-- the text has a meaning, and is not canonical, where it is to be
+abbrev pub IsUncanonicalFor : Options → Task → (column : ℕ) → List ℕ → Type 0
+IsUncanonicalFor o (Check criterion.Canonical) column text = IsUncanonicalAt o column text
+IsUncanonicalFor o task column text = ⊥
+
 -- the text is none, or what is read in its place
 abbrev pub IsUnreadIn : Options → Task → List ℕ → Type 0
 IsUnreadIn o (Taken taking work) text =
@@ -108,6 +121,7 @@ abbrev pub IsBadLineIn : Options → Task → Error → List ℕ → Type 0
 IsBadLineIn o task NotJson text = IsUnreadIn o task text
 IsBadLineIn o task (NotExtendedJson place) text = IsMeaninglessIn o task place text
 IsBadLineIn o task (NoBytes why) text = IsWithoutBytes o task why text
+IsBadLineIn o task (NotCanonical column) text = IsUncanonicalFor o task column text
 IsBadLineIn o task other text = ⊥
 
 -- what is told of a refused line: its number, the fault and its place
@@ -217,6 +231,7 @@ IsStoppedIn o task on_refusal NotJson text = (on_refusal ≡ Stop) × IsUnreadIn
 IsStoppedIn o task on_refusal (NotExtendedJson place) text =
     (on_refusal ≡ Stop) × IsMeaninglessIn o task place text
 IsStoppedIn o task on_refusal (NoBytes why) text = (on_refusal ≡ Stop) × IsWithoutBytes o task why text
+IsStoppedIn o task on_refusal (NotCanonical column) text = (on_refusal ≡ Stop) × IsUncanonicalFor o task column text
 IsStoppedIn o task on_refusal OutOfMemory text = Unit {0}
 IsStoppedIn o task on_refusal CannotWrite text = ⊥
 

@@ -7,7 +7,7 @@ use Rattle.bson_convert.specs.Run.{WritesPart}
 pub use Rattle.bson.specs.declared.extjson.options.Options.{Options}
 pub use Rattle.bson_convert.specs.declared.error.Error.{Error}
 pub use Rattle.bson_convert.specs.declared.error.Error.TheVariants.{CannotRead, NotJson, NotExtendedJson, NoBytes, OutOfMemory}
-pub use Rattle.bson_convert.specs.declared.error.Error.TheVariants.{CannotWrite}
+pub use Rattle.bson_convert.specs.declared.error.Error.TheVariants.{CannotWrite, NotCanonical}
 pub use Rattle.bson_run.specs.declared.gathered.Gathered.{Gathered}
 pub use Rattle.bson_run.specs.declared.order.OnRefusal.{OnRefusal}
 pub use Rattle.bson_run.specs.declared.order.Task.{Task}

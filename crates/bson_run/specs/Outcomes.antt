@@ -3,7 +3,7 @@ use Rattle.std.specs.Prelude.{◌≡◌, ◌+◌, ℕ, List, [], ◌∷◌, ◌+
 use Rattle.bson.specs.declared.extjson.options.Options.{Options}
 use Rattle.bson_place.specs.Place.{path_of}
 use Rattle.bson_convert.specs.declared.error.Error.{Error}
-use Rattle.bson_convert.specs.declared.error.Error.TheVariants.{NotJson, NotExtendedJson, NoBytes}
+use Rattle.bson_convert.specs.declared.error.Error.TheVariants.{NotJson, NotExtendedJson, NoBytes, NotCanonical}
 use Rattle.bson_run.specs.Lines.{text_of, IsBadLineIn, OutcomesIn, Tells}
 use Rattle.bson_run.specs.declared.order.OnRefusal.{OnRefusal}
 use Rattle.bson_run.specs.declared.order.OnRefusal.TheVariants.{Stop}
@@ -14,6 +14,7 @@ abbrev pub IsOfText : Error → Type 0
 IsOfText NotJson = Unit {0}
 IsOfText (NotExtendedJson place) = Unit {0}
 IsOfText (NoBytes why) = Unit {0}
+IsOfText (NotCanonical column) = Unit {0}
 IsOfText other = ⊥
 
 -- the faults are the same, with the same path where there is one; the words for what was expected may differ
@@ -21,6 +22,7 @@ abbrev pub IsSameFault : Error → Error → Type 0
 IsSameFault NotJson NotJson = Unit {0}
 IsSameFault (NotExtendedJson place) (NotExtendedJson other) = path_of place ≡ path_of other
 IsSameFault (NoBytes why) (NoBytes other) = why ≡ other
+IsSameFault (NotCanonical column) (NotCanonical other) = column ≡ other
 IsSameFault fault other = ⊥
 
 -- verdicts on the same texts for the same faults; they differ only in what `Tells` leaves open: the column and the rule

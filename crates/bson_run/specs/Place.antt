@@ -17,7 +17,7 @@ use Rattle.bson_place.specs.declared.place.Place.{Place}
 use Rattle.bson_place.specs.declared.place.Reason.{Reason}
 use Rattle.bson_place.specs.declared.place.Reason.TheVariants.{BadObjectId, WrongShape}
 use Rattle.bson_convert.specs.declared.error.Error.{Error}
-use Rattle.bson_convert.specs.declared.error.Error.TheVariants.{NotJson, NotExtendedJson}
+use Rattle.bson_convert.specs.declared.error.Error.TheVariants.{NotJson, NotExtendedJson, NotCanonical}
 use Rattle.bson_run.specs.declared.explain.Explanation.{Explanation}
 use Rattle.bson_run.specs.declared.explain.Explanation.TheVariants as explained
 use Rattle.bson_run.specs.declared.rule.Rule.{Rule}
@@ -145,6 +145,10 @@ column_at offset bytes = suc (length (take_while (λ x. not (x == 10)) (reverse 
 abbrev pub at_column : ℕ → Rule → List ℕ
 at_column n rule = codes " at column " ++ decimal n ++ codes " (" ++ words_broken rule ++ codes ")"
 
+-- the column of the first byte in which a text differs from the canonical one
+abbrev pub at_difference : ℕ → List ℕ
+at_difference column = codes " at column " ++ decimal column
+
 -- where bytes that are no text stop to be one, and which rule they break
 abbrev pub IsStop : List ℕ → List ℕ → Type 0
 IsStop bytes words = (n : ℕ) × (rule : Rule) × Breaks bytes rule × (words ≡ at_column n rule)
@@ -153,6 +157,7 @@ IsStop bytes words = (n : ℕ) × (rule : Rule) × Breaks bytes rule × (words �
 abbrev pub IsOfNoText : Error → Type 0
 IsOfNoText NotJson = ⊥
 IsOfNoText (NotExtendedJson place) = ⊥
+IsOfNoText (NotCanonical column) = ⊥
 IsOfNoText other = Unit {0}
 
 -- why a text is refused: the rule that it breaks, or the place of its fault and the reason as it is told, or nothing
@@ -161,6 +166,7 @@ IsExplanation text fault (explained.Syntax stop) = (fault ≡ NotJson) × Breaks
 IsExplanation text fault (explained.Value place reason) =
     (fault ≡ NotExtendedJson place.now)
     × ((message : List ℕ) × IsReasonIn text place.now.reason message × (string_bytes reason ≡ told_as message))
+IsExplanation text fault (explained.Difference column) = fault ≡ NotCanonical column
 IsExplanation text fault explained.Other = IsOfNoText fault
 
 -- the words of an explanation
@@ -168,12 +174,14 @@ abbrev pub words_at : List ℕ → Explanation → List ℕ
 words_at text (explained.Syntax stop) = at_column (column_at stop.offset text) stop.rule
 words_at text (explained.Value place reason) =
     at_path (told_as (dotted (path_of place.now))) ++ codes " (" ++ string_bytes reason ++ codes ")"
+words_at text (explained.Difference column) = at_difference column
 words_at text explained.Other = []
 
 -- where the fault of a text lies in it; nothing for a fault that no text has
 abbrev pub IsWhere : List ℕ → Error → List ℕ → Type 0
 IsWhere text NotJson words = IsStop text words
 IsWhere text (NotExtendedJson place) words = IsPlaced text place words
+IsWhere text (NotCanonical column) words = words ≡ at_difference column
 IsWhere text other words = words ≡ []
 
 -- ---- for private clauses

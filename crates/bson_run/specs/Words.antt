@@ -17,7 +17,7 @@ work_name work.Check = codes "check"
 abbrev pub task_name : Task → List ℕ
 task_name (Write mode) = name_of mode
 task_name (WriteInOrder mode) = name_of mode
-task_name Check = codes "check"
+task_name (Check criterion) = codes "check"
 task_name Encode = codes "encode"
 task_name EncodeInOrder = codes "encode"
 task_name (Taken taking work) = work_name work

@@ -1,7 +1,8 @@
 //! Why a text is rejected, and where: as data, and in words.
 ghost use Rattle.std.specs.Prelude.{◌≡◌, ◌++◌, codes, ℕ, List, IfOk, string_bytes};
 ghost use Rattle.bson_place.specs.Place.{dotted, path_of};
-ghost use Rattle.bson_run.specs.Place.{IsExplanation, IsQuote, IsReasonIn, IsWhere, at_path, told_as, words_at};
+ghost use Rattle.bson_run.specs.Place.{IsExplanation, IsQuote, IsReasonIn, IsWhere, at_difference, at_path, told_as};
+ghost use Rattle.bson_run.specs.Place.{words_at};
 
 use crate::order::{Taking, Task};
 use crate::quoted::quote;
@@ -33,6 +34,9 @@ pub enum Explanation<'a> {
     /// A value is invalid: its place, and the reason as a message has it. That is what was expected,
     /// and the value in the text, in at most 300 characters.
     Value(&'a Place, String),
+    /// The text is valid, and not canonical: the column of the first byte that differs, from 1. It is
+    /// on the first line, since a canonical text has one.
+    Difference(usize),
     /// The error is not that of a text.
     Other,
 }
@@ -60,6 +64,7 @@ impl<'a> Explanation<'a> {
         match self {
             Explanation::Syntax(stop) => stop.message(alloc, text),
             Explanation::Value(place, reason) => place_text(alloc, place, reason.as_str()),
+            Explanation::Difference(column) => column_text(alloc, *column),
             Explanation::Other => Ok(String::new(alloc)),
         }
     }
@@ -76,6 +81,8 @@ impl<'a> Explanation<'a> {
 ///   first fault, with places in arrays counted from 0. The value is the one in the text, or its
 ///   first 60 characters and `..`. An object id has its own fault instead, and so has a duplicate
 ///   key. A fault of the whole text has no path.
+/// - `NotCanonical`: ` at column N`. The column, counted from 1, is that of the first byte that
+///   differs from the canonical text.
 ///
 /// A control character (`\u001b`) and a separator of lines (`\u2028`) or of paragraphs is written
 /// as its escape in JSON. It could break a line or control a terminal. A path or a message has at
@@ -153,8 +160,16 @@ fn explanation_in<'a>(
             let reason = told_reason(alloc, place, text, newer)?;
             Ok(Explanation::Value(place, reason))
         }
+        Error::NotCanonical(column) => Ok(Explanation::Difference(*column)),
         _ => Ok(Explanation::Other),
     }
+}
+
+// The words for a column.
+fn column_text(alloc: Global, column: usize) -> Result<String, AllocError>
+    ensures { IfOk result (λ words. string_bytes words ≡ at_difference column) }
+{
+    format!(in alloc; " at column {column}")
 }
 
 // The words for a place, and for the reason there.

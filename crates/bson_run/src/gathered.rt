@@ -4,22 +4,23 @@ ghost use Rattle.std.specs.Prelude.{OnOk, OnErr, None, Ok, IsTrue, ◌↔◌, st
 ghost use Rattle.std.specs.Prelude.{MatchOption, IfSome, IsUtf8, ◌≢◌, slice_index};
 ghost use Rattle.bson_run.specs.Lines.{IsBlank, IsBadLineIn, IsStoppedIn, Tells, WritesIn};
 ghost use Rattle.bson_convert.specs.Convert.{IsRefusedIn};
-ghost use Rattle.bson_run.specs.Lines.{told_at, text_held, text_of, WorksIn, WritesText};
+ghost use Rattle.bson_run.specs.Lines.{told_at, text_held, text_of, ChecksIn, WorksIn, WritesText};
 ghost use Rattle.bson_run.specs.LinesSteps.{Ends, HasRoom, HaveSameOutcomes, IsCountedOut};
 ghost use Rattle.bson_run.specs.LinesSteps.{IsJudged, IsOpen, IsStart, IsTold, StopsLast, StopsWithin};
 ghost use Rattle.bson_run.specs.LinesSteps.{Takes, TakesLine};
 ghost use Rattle.bson_run.specs.declared.order.OnRefusal.TheVariants.{Stop};
 ghost use Rattle.bson_run.specs.Place.{IsWhere};
 ghost use Rattle.bson_run.specs.declared.order.Task.{Task};
-ghost use Rattle.bson_run.specs.declared.order.Task.TheVariants.{Taken};
+ghost use Rattle.bson_run.specs.declared.order.Task.TheVariants.{Check, Taken};
 ghost use Rattle.bson.specs.declared.extjson.options.Options.{Options};
 
 use crate::encode::{encode_line_in_order, encode_with};
 use crate::explain::explain_under;
 use crate::in_order::convert_line_in_order;
-use crate::order::{OnRefusal, Taking, Task, Work};
+use crate::order::{Criterion, OnRefusal, Taking, Task, Work};
 use crate::taken::take_as;
 use bson::extjson::Options;
+use bson_convert::canonical::check_canonical_line;
 use bson_convert::convert::convert_line;
 use bson_convert::error::Error;
 use bson_convert::mode::Mode;
@@ -104,8 +105,8 @@ fn judge(
         Task::WriteInOrder(mode) => {
             Ok(Some(convert_line_in_order(alloc, options, mode, text, scratch)?))
         }
-        Task::Check => {
-            convert_line(alloc, options, Mode::Canonical, text, scratch)?;
+        Task::Check(criterion) => {
+            check(alloc, options, criterion, text, scratch)?;
             Ok(Some(Vec::new(alloc)))
         }
         Task::Encode => Ok(Some(encode_with(alloc, options, text)?)),
@@ -113,6 +114,27 @@ fn judge(
         Task::Taken(taking, work) => {
             Ok(Some(judge_taken(alloc, options, taking, work, text, scratch)?))
         }
+    }
+}
+
+// Checks a text that is not blank by a criterion.
+fn check(
+    alloc: Global,
+    options: Options,
+    criterion: Criterion,
+    text: &[u8],
+    scratch: &mut Scratch,
+) -> Result<(), Error>
+    requires { ¬ IsBlank text.now }
+    ensures ok { OnOk result (ChecksIn options criterion text.now) }
+    ensures fault { IfErr result (λ fault. IsJudged options (Check criterion) fault text.now) }
+{
+    match criterion {
+        Criterion::Valid => {
+            convert_line(alloc, options, Mode::Canonical, text, scratch)?;
+            Ok(())
+        }
+        Criterion::Canonical => check_canonical_line(alloc, options, text, scratch),
     }
 }
 

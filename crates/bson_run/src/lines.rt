@@ -25,7 +25,8 @@ const BLOCK: usize = 65536;
 /// ```
 /// let mut lines: &[u8] = b"1\n[\n";
 /// let (mut output, mut told) = (Vec::new(alloc), Vec::new(alloc));
-/// let mut run = LineRun::new(alloc, Task::Check, OnRefusal::KeepGoing);
+/// let task = Task::Check(Criterion::Valid);
+/// let mut run = LineRun::new(alloc, task, OnRefusal::KeepGoing);
 /// let counts = run.run(alloc, &mut lines, &mut output, &mut told);
 /// println!(rt; "{counts:?}")?; // Ok(Counts { lines: 2, refused: 1 })
 /// ```
@@ -42,7 +43,7 @@ pub struct Counts {
 /// ```
 /// let mut lines: &[u8] = br#"{"n": 1.5}"#;
 /// let (mut output, mut told) = (Vec::new(alloc), Vec::new(alloc));
-/// let mut run = LineRun::new(alloc, Task::Check, OnRefusal::Stop);
+/// let mut run = LineRun::new(alloc, Task::Check(Criterion::Valid), OnRefusal::Stop);
 /// if let Err(fault) = run.run(alloc, &mut lines, &mut output, &mut told) {
 ///     let place = run.place(alloc, &fault)?;
 ///     println!(rt; "line {}: {}{place}", run.number(), fault.message())?;
@@ -89,8 +90,8 @@ impl LineRun {
     /// `number` is that of the first line that was not done. All output of the lines before it was
     /// written, and nothing of the line itself.
     ///
-    /// - `NotJson`, `NotExtendedJson` or `NoBytes`: the line is rejected, and `on_refusal` stops
-    ///   the run.
+    /// - `NotJson`, `NotExtendedJson`, `NoBytes` or `NotCanonical`: the line is rejected, and
+    ///   `on_refusal` stops the run.
     /// - `CannotRead`: the reader failed, `Interrupted` too.
     /// - `CannotWrite`: the writer or the report failed, `Interrupted` too, or accepted no byte.
     ///   Either not all lines were reported, or all of them were and not all output was written.

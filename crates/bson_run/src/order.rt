@@ -22,14 +22,33 @@ pub enum Task {
     Write(Mode),
     /// The same, with the keys of each document in the order of the text.
     WriteInOrder(Mode),
-    /// It is only judged, and nothing is written.
-    Check,
+    /// It is only judged, by this criterion, and nothing is written.
+    Check(Criterion),
     /// The bytes of its document are written, its keys in ascending order; no newline behind them.
     Encode,
     /// The same, with the keys of each document in the order of the text.
     EncodeInOrder,
     /// This of the text that is taken so, where it is not refused.
     Taken(Taking, Work),
+}
+
+/// Which texts a check accepts.
+///
+/// ```
+/// let mut lines: &[u8] = br#"{"n": 5}"#;
+/// let (mut output, mut told) = (Vec::new(alloc), Vec::new(alloc));
+/// let task = Task::Check(Criterion::Canonical);
+/// let mut run = LineRun::new(alloc, task, OnRefusal::KeepGoing);
+/// drop(run.run(alloc, &mut lines, &mut output, &mut told));
+/// rt.print(str::from_utf8(&told)?)?;
+/// // bson: line 1: not canonical Extended JSON at column 6
+/// ```
+#[derive(Clone, Copy, PartialEq, Eq, Debug)]
+pub enum Criterion {
+    /// Those that mean a value.
+    Valid,
+    /// Those that are the canonical text of the value that they mean, with keys in ascending order.
+    Canonical,
 }
 
 /// What is looked for in a text before it is read.
@@ -80,7 +99,7 @@ impl Task {
         ensures other { result ≡ None → (task : Task) → name.now ≡ task_name task → ⊥ }
     {
         if name == "check" {
-            return Some(Task::Check);
+            return Some(Task::Check(Criterion::Valid));
         }
         if name == "encode" {
             return Some(Task::Encode);

@@ -15,7 +15,7 @@ use bson_run::in_order::convert_in_order;
 use bson_run::indent::indent_text;
 use bson_run::indented::{convert_in_order_indented, convert_indented};
 use bson_run::lines::LineRun;
-use bson_run::order::{OnRefusal, Taking, Task, Work};
+use bson_run::order::{Criterion, OnRefusal, Taking, Task, Work};
 use bson_run::stop::Stop;
 use bson_run::taken::take_as;
 use std::alloc::Global;
@@ -43,6 +43,7 @@ pub(crate) fn print(rt: &impl Print, alloc: Global) -> anyhow::Result<()> {
     rule(rt, alloc)?;
     explanation(rt, alloc)?;
     taken_call(rt, alloc)?;
+    criterion(rt, alloc)?;
     taking(rt, alloc)?;
     work(rt, alloc)
 }
@@ -184,7 +185,8 @@ fn error(rt: &impl Print, alloc: Global) -> anyhow::Result<()> {
 fn counts(rt: &impl Print, alloc: Global) -> anyhow::Result<()> {
     let mut lines: &[u8] = b"1\n[\n";
     let (mut output, mut told) = (Vec::new(alloc), Vec::new(alloc));
-    let mut run = LineRun::new(alloc, Task::Check, OnRefusal::KeepGoing);
+    let task = Task::Check(Criterion::Valid);
+    let mut run = LineRun::new(alloc, task, OnRefusal::KeepGoing);
     let counts = run.run(alloc, &mut lines, &mut output, &mut told);
     println!(rt; "{counts:?}")?; // Ok(Counts { lines: 2, refused: 1 })
     Ok(())
@@ -193,7 +195,7 @@ fn counts(rt: &impl Print, alloc: Global) -> anyhow::Result<()> {
 fn line_run(rt: &impl Print, alloc: Global) -> anyhow::Result<()> {
     let mut lines: &[u8] = br#"{"n": 1.5}"#;
     let (mut output, mut told) = (Vec::new(alloc), Vec::new(alloc));
-    let mut run = LineRun::new(alloc, Task::Check, OnRefusal::Stop);
+    let mut run = LineRun::new(alloc, Task::Check(Criterion::Valid), OnRefusal::Stop);
     if let Err(fault) = run.run(alloc, &mut lines, &mut output, &mut told) {
         let place = run.place(alloc, &fault)?;
         println!(rt; "line {}: {}{place}", run.number(), fault.message())?;
@@ -253,6 +255,17 @@ fn taken_call(rt: &impl Print, alloc: Global) -> anyhow::Result<()> {
     if let Ok(Some(newer)) = take_as(alloc, Taking::Legacy, text) {
         println!(rt; "{newer}")?; // {"$regularExpression":{"pattern":"^a","options":"i"}}
     }
+    Ok(())
+}
+
+fn criterion(rt: &impl Print, alloc: Global) -> anyhow::Result<()> {
+    let mut lines: &[u8] = br#"{"n": 5}"#;
+    let (mut output, mut told) = (Vec::new(alloc), Vec::new(alloc));
+    let task = Task::Check(Criterion::Canonical);
+    let mut run = LineRun::new(alloc, task, OnRefusal::KeepGoing);
+    drop(run.run(alloc, &mut lines, &mut output, &mut told));
+    rt.print(str::from_utf8(&told)?)?;
+    // bson: line 1: not canonical Extended JSON at column 6
     Ok(())
 }
 

@@ -1,7 +1,7 @@
 //! Extended JSON, from trees and texts, and why they mean nothing.
 use bson::extjson::{Doubles, Form, Options};
 use bson::{Bson, Document};
-use bson_convert::canonical::is_canonical_text;
+use bson_convert::canonical::{check_canonical, is_canonical_text};
 use bson_convert::convert::text_with;
 use bson_convert::mode::Mode;
 use bson_place::builder::Nothing;
@@ -24,6 +24,7 @@ pub(crate) fn print(rt: &impl Print, alloc: Global) -> anyhow::Result<()> {
     text_error(rt, alloc)?;
     text_with_call(rt, alloc)?;
     is_canonical_text_call(rt, alloc)?;
+    check_canonical_call(rt, alloc)?;
     place(rt, alloc)?;
     segment(rt, alloc)?;
     reason(rt, alloc)?;
@@ -151,6 +152,14 @@ fn is_canonical_text_call(rt: &impl Print, alloc: Global) -> anyhow::Result<()> 
     let one = is_canonical_text(alloc, options, br#"{"n":{"$numberInt":"5"}}"#)?;
     let other = is_canonical_text(alloc, options, br#"{"n": 5}"#)?;
     println!(rt; "{one} {other}")?; // true false
+    Ok(())
+}
+
+fn check_canonical_call(rt: &impl Print, alloc: Global) -> anyhow::Result<()> {
+    let text = br#"{"n": 5}"#;
+    if let Err(error) = check_canonical(alloc, Options::default(), text) {
+        println!(rt; "{error:?}")?; // NotCanonical(6)
+    }
     Ok(())
 }
 

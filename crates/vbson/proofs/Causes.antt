@@ -12,7 +12,7 @@ use Rattle.bson_place.specs.declared.place.Place.{Place}
 use Rattle.bson_convert.specs.Convert.{IsRefusedIn}
 use Rattle.bson_convert.specs.declared.error.Error.{Error}
 use Rattle.bson_convert.specs.declared.error.Error.TheVariants.{CannotRead, NotJson, NotExtendedJson, NoBytes, OutOfMemory}
-use Rattle.bson_convert.specs.declared.error.Error.TheVariants.{CannotWrite}
+use Rattle.bson_convert.specs.declared.error.Error.TheVariants.{CannotWrite, NotCanonical}
 use Rattle.bson_run.specs.Encode.{HasNoBytesFor}
 use Rattle.bson_convert.specs.declared.no_bytes.NoBytes as without
 use Rattle.bson_convert.specs.declared.no_bytes.NoBytes.TheVariants.{NoDocument, ZeroInKey, ZeroInRegex, TooLong}
@@ -58,6 +58,7 @@ causes o (NotExtendedJson place) bytes h = record {
   not_extended_json = λ is. of_place o IsBad place bytes h (is_bad _ place.reason h.2.reason is);
 }
 causes o (NoBytes why) bytes h = absurd h
+causes o (NotCanonical column) bytes h = absurd h
 causes o OutOfMemory bytes h = record {
   not_json = λ is. absurd (omega arith);
   bad_object_id = λ is. absurd (omega arith);
@@ -99,6 +100,7 @@ refused k o (NotExtendedJson place) text h =
     let r = reason_status place.reason in
     no_meaning k o (status_for place.reason) text (causes o (NotExtendedJson place) text h) r.0 r.1
 refused k o (NoBytes why) text h = absurd h
+refused k o (NotCanonical column) text h = absurd h
 refused k o OutOfMemory text h = no_meaning k o 5 text (causes o OutOfMemory text h) (omega arith) (omega arith)
 refused k o CannotWrite text h = absurd h
 
@@ -144,12 +146,14 @@ unencoded Ascending o CannotRead text h = absurd h
 unencoded Ascending o NotJson text h = refused Ascending o NotJson text h
 unencoded Ascending o (NotExtendedJson place) text h = refused Ascending o (NotExtendedJson place) text h
 unencoded Ascending o (NoBytes why) text h = without_bytes Ascending o why text h
+unencoded Ascending o (NotCanonical column) text h = absurd h
 unencoded Ascending o OutOfMemory text h = refused Ascending o OutOfMemory text h
 unencoded Ascending o CannotWrite text h = absurd h
 unencoded AsGiven o CannotRead text h = absurd h
 unencoded AsGiven o NotJson text h = refused AsGiven o NotJson text h
 unencoded AsGiven o (NotExtendedJson place) text h = refused AsGiven o (NotExtendedJson place) text h
 unencoded AsGiven o (NoBytes why) text h = without_bytes AsGiven o why text h
+unencoded AsGiven o (NotCanonical column) text h = absurd h
 unencoded AsGiven o OutOfMemory text h = refused AsGiven o OutOfMemory text h
 unencoded AsGiven o CannotWrite text h = absurd h
 
@@ -159,6 +163,7 @@ pub of_text : (k : KeyOrder) (o : Options) (fault : Error) (text : List ℕ) →
 of_text k o NotJson text h = tt
 of_text k o (NotExtendedJson place) text h = tt
 of_text k o (NoBytes why) text h = tt
+of_text k o (NotCanonical column) text h = tt
 of_text k o OutOfMemory text h = tt
 of_text Ascending o CannotRead text h = absurd h
 of_text Ascending o CannotWrite text h = absurd h

@@ -58,6 +58,7 @@ of_text o errors.CannotRead bytes h told none = h
 of_text o errors.NotJson bytes h told none = none
 of_text o (errors.NotExtendedJson place) bytes h told none = none
 of_text o (errors.NoBytes why) bytes h told none = h
+of_text o (errors.NotCanonical column) bytes h told none = h
 of_text o errors.OutOfMemory bytes h told none = told refl
 of_text o errors.CannotWrite bytes h told none = h
 
@@ -68,6 +69,7 @@ of_unread (Some taking) errors.CannotRead text h told none = h
 of_unread (Some taking) errors.NotJson text h told none = none
 of_unread (Some taking) (errors.NotExtendedJson place) text h told none = none
 of_unread (Some taking) (errors.NoBytes why) text h told none = h
+of_unread (Some taking) (errors.NotCanonical column) text h told none = h
 of_unread (Some taking) errors.OutOfMemory text h told none = told refl
 of_unread (Some taking) errors.CannotWrite text h told none = h
 
@@ -84,6 +86,7 @@ some_code : (text : List ℕ) (fault : Error) (it : Explanation) (n : ℕ) → I
     → n ≡ code_in it → n ≡ 0 → ⊥
 some_code text fault (explained.Syntax stop) n h told is zero = absurd (omega (arith, is, zero))
 some_code text fault (explained.Value place reason) n h told is zero = reason_code place.now.reason n is zero
+some_code text fault (explained.Difference column) n h told is zero = absurd (omega (arith, is, zero))
 some_code text fault explained.Other n h told is zero = told h
 
 -- a text that is refused has a code
@@ -112,6 +115,7 @@ not_refused o (errors.NotExtendedJson place) bytes value means h told =
     let trees : means.tree ≡ h.0 = cc in
     h.2.nothing value (subst (λ t. MeansIn o.doubles t value) trees means.meaning.means)
 not_refused o (errors.NoBytes why) bytes value means h told = h
+not_refused o (errors.NotCanonical column) bytes value means h told = h
 not_refused o errors.OutOfMemory bytes value means h told = told refl
 not_refused o errors.CannotWrite bytes value means h told = h
 

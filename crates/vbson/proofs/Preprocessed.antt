@@ -15,7 +15,7 @@ use Rattle.bson.specs.declared.extjson.options.Options.{Options}
 use Rattle.bson_convert.specs.Convert.{IsRefusedIn}
 use Rattle.bson_convert.specs.declared.error.Error.{Error}
 use Rattle.bson_convert.specs.declared.error.Error.TheVariants.{CannotRead, NotJson, NotExtendedJson, NoBytes, OutOfMemory}
-use Rattle.bson_convert.specs.declared.error.Error.TheVariants.{CannotWrite}
+use Rattle.bson_convert.specs.declared.error.Error.TheVariants.{CannotWrite, NotCanonical}
 use Rattle.bson_run.proofs.Offered.{not_taken, one_taken}
 use Rattle.bson_run.specs.declared.order.Taking.{Taking}
 use Rattle.vbson.proofs.Causes.{causes, reason_status}
@@ -57,6 +57,7 @@ two_at_least o CannotRead bytes h = absurd h
 two_at_least o NotJson bytes h = (omega arith, omega arith)
 two_at_least o (NotExtendedJson place) bytes h = reason_status place.reason
 two_at_least o (NoBytes why) bytes h = absurd h
+two_at_least o (NotCanonical column) bytes h = absurd h
 two_at_least o OutOfMemory bytes h = (omega arith, omega arith)
 two_at_least o CannotWrite bytes h = absurd h
 
@@ -103,6 +104,7 @@ rejected_key (Some taking) CannotRead text h some = absurd h
 rejected_key (Some taking) NotJson text h some = absurd h
 rejected_key (Some taking) (NotExtendedJson place) text h some = (place, h)
 rejected_key (Some taking) (NoBytes why) text h some = absurd h
+rejected_key (Some taking) (NotCanonical column) text h some = absurd h
 rejected_key (Some taking) OutOfMemory text h some = absurd (some refl)
 rejected_key (Some taking) CannotWrite text h some = absurd h
 
@@ -125,6 +127,7 @@ of_refused o CannotRead bytes h = h
 of_refused o NotJson bytes h = tt
 of_refused o (NotExtendedJson place) bytes h = tt
 of_refused o (NoBytes why) bytes h = tt
+of_refused o (NotCanonical column) bytes h = tt
 of_refused o OutOfMemory bytes h = tt
 of_refused o CannotWrite bytes h = h
 

@@ -14,7 +14,7 @@ use Rattle.bson_convert.specs.declared.mode.Mode.{Mode}
 use Rattle.bson_convert.specs.declared.mode.Mode.TheVariants.{Canonical, Relaxed, Show}
 use Rattle.bson_convert.specs.declared.error.Error.{Error}
 use Rattle.bson_convert.specs.declared.error.Error.TheVariants.{CannotRead, NotJson, NotExtendedJson, NoBytes}
-use Rattle.bson_convert.specs.declared.error.Error.TheVariants.{CannotWrite}
+use Rattle.bson_convert.specs.declared.error.Error.TheVariants.{CannotWrite, NotCanonical}
 use Rattle.bson_convert.specs.declared.no_bytes.NoBytes as without
 use Rattle.bson_convert.specs.declared.no_bytes.NoBytes.TheVariants.{NoDocument, ZeroInKey, ZeroInRegex, TooLong}
 use Rattle.vbson.specs.Text.{IsText}
@@ -91,4 +91,5 @@ abbrev pub status_of : Error → ℕ
 status_of NotJson = 2
 status_of (NotExtendedJson place) = status_for place.reason
 status_of (NoBytes why) = status_without why
+status_of (NotCanonical column) = 16
 status_of _ = 5

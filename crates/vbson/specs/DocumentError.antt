@@ -83,6 +83,7 @@ pub record SaysOf (it : Finding) (out : Rejection) : Type 0 where
   pub reason : IsText (reason_for it) out.reason
   pub message : IsText (message_for it) out.message
   pub utf8 : IsUtf8 (message_for it)
+  pub reason_utf8 : IsUtf8 (reason_for it)
 
 pub record ExplainsDocument (options : CallOptions) (bytes : List ℕ) (out : Rejection) : Type 0 where
   pub finding : Finding
@@ -104,3 +105,4 @@ pub record ArePartsFor (it : Finding) (parts : Parts) : Type 0 where
   pub offset : parts.offset ≡ offset_for it
   pub path : parts.path.items ≡ document_bytes (path_pairs []) ++ newline
   pub reason : parts.reason.items ≡ reason_for it ++ newline
+  pub utf8 : IsUtf8 (reason_for it)

@@ -14,7 +14,7 @@ use Rattle.bson_place.specs.Place.{PathSegment, path_of}
 use Rattle.bson_run.specs.Place.{IsExplanation, column_at, line_at, words_at}
 use Rattle.bson_run.specs.Words.{words_broken}
 use Rattle.bson_run.specs.declared.explain.Explanation.{Explanation}
-use Rattle.bson_run.specs.declared.explain.Explanation.TheVariants.{Syntax, Other}
+use Rattle.bson_run.specs.declared.explain.Explanation.TheVariants.{Difference, Syntax, Other}
 use Rattle.bson_run.specs.declared.explain.Explanation.TheVariants as explained
 use Rattle.vbson.specs.Convert.{options_of, status_for}
 use Rattle.vbson.specs.Path.{path_pairs}
@@ -30,33 +30,39 @@ use Rattle.vbson.specs.declared.options.CallOptions.{CallOptions}
 abbrev pub code_in : Explanation → ℕ
 code_in (Syntax stop) = 2
 code_in (explained.Value place reason) = status_for place.now.reason
+code_in (Difference column) = 16
 code_in Other = 0
 
--- where a text stops to be JSON: the line and the column, from 1, and the bytes before it, which are not all; else 0
+-- where a text stops to be JSON, or to be canonical: the line and the column, from 1, and the bytes before it; else 0
 abbrev pub line_in : List ℕ → Explanation → ℕ
 line_in text (Syntax stop) = line_at stop.offset text
 line_in text (explained.Value place reason) = 0
+line_in text (Difference column) = 1
 line_in text Other = 0
 
 abbrev pub column_in : List ℕ → Explanation → ℕ
 column_in text (Syntax stop) = column_at stop.offset text
 column_in text (explained.Value place reason) = 0
+column_in text (Difference column) = column
 column_in text Other = 0
 
 abbrev pub offset_in : List ℕ → Explanation → ℕ
 offset_in text (Syntax stop) = min stop.offset (length text - 1)
 offset_in text (explained.Value place reason) = 0
+offset_in text (Difference column) = column - 1
 offset_in text Other = 0
 
 -- the path from the invalid value outward
 abbrev pub path_in : Explanation → List PathSegment
 path_in (Syntax stop) = []
 path_in (explained.Value place reason) = path_of place.now
+path_in (Difference column) = []
 path_in Other = []
 
 abbrev pub reason_in : Explanation → List ℕ
 reason_in (Syntax stop) = words_broken stop.rule
 reason_in (explained.Value place reason) = string_bytes reason
+reason_in (Difference column) = []
 reason_in Other = []
 
 -- the struct has this of an explanation of an error of the text, and these words as its message
@@ -75,6 +81,7 @@ pub record IsError (text : List ℕ) (fault : Error) (out : Rejection) : Type 0 
   pub lies : IsExplanation text fault explanation
   pub said : Says text explanation (words_of fault ++ words_at text explanation) out
   pub utf8 : IsUtf8 (words_of fault ++ words_at text explanation)
+  pub reason_utf8 : IsUtf8 (reason_in explanation)
 
 -- ---- which text
 
@@ -131,6 +138,7 @@ pub record ArePartsOf (text : List ℕ) (it : Explanation) (parts : Parts) : Typ
   pub offset : parts.offset ≡ offset_in text it
   pub path : parts.path.items ≡ document_bytes (path_pairs (path_in it)) ++ newline
   pub reason : parts.reason.items ≡ reason_in it ++ newline
+  pub utf8 : IsUtf8 (reason_in it)
 
 -- the line without its end
 abbrev pub front : List ℕ → List ℕ

@@ -117,6 +117,7 @@ pub fn status_of(fault: Error) -> u32
         Error::NoBytes(NoBytes::ZeroInKey) => status::ZERO_IN_KEY,
         Error::NoBytes(NoBytes::ZeroInRegex) => status::ZERO_IN_REGEX,
         Error::NoBytes(NoBytes::TooLong) => status::TOO_LONG,
+        Error::NotCanonical(_) => status::NOT_CANONICAL,
         Error::OutOfMemory => status::OUT_OF_MEMORY,
         Error::CannotRead | Error::CannotWrite => unreachable!(),
     }

@@ -193,7 +193,7 @@ fn parts_of(alloc: Global, found: &Explanation<'_>, text: &[u8]) -> Result<Parts
 
 // The words, and a newline.
 pub(crate) fn line_of(alloc: Global, words: &str) -> Result<Vec<u8>, AllocError>
-    ensures { IfOk result (λ line. line.items ≡ words.now ++ newline) }
+    ensures { IfOk result (λ line. IsUtf8 words.now × (line.items ≡ words.now ++ newline)) }
 {
     let line = format!(in alloc; "{words}\n")?;
     Ok(line.into_bytes())
@@ -209,6 +209,7 @@ fn code_of(found: &Explanation<'_>) -> u32
             Reason::BadObjectId(_) => status::BAD_OBJECT_ID,
             Reason::WrongShape(_) => status::NOT_EXTENDED_JSON,
         },
+        Explanation::Difference(_) => status::NOT_CANONICAL,
         Explanation::Other => status::OK,
     }
 }
@@ -219,6 +220,7 @@ fn line_in(found: &Explanation<'_>, text: &[u8]) -> usize
 {
     match found {
         Explanation::Syntax(stop) => stop.line(text),
+        Explanation::Difference(_) => 1,
         _ => 0,
     }
 }
@@ -229,6 +231,7 @@ fn column_in(found: &Explanation<'_>, text: &[u8]) -> usize
 {
     match found {
         Explanation::Syntax(stop) => stop.column(text),
+        Explanation::Difference(column) => *column,
         _ => 0,
     }
 }
@@ -239,6 +242,7 @@ fn offset_in(found: &Explanation<'_>, text: &[u8]) -> usize
 {
     match found {
         Explanation::Syntax(stop) => stop.offset.min(text.len().saturating_sub(1)),
+        Explanation::Difference(column) => column.saturating_sub(1),
         _ => 0,
     }
 }
@@ -260,6 +264,6 @@ fn reason_of<'a>(found: &'a Explanation<'_>) -> &'a str
     match found {
         Explanation::Syntax(stop) => stop.rule.message(),
         Explanation::Value(_, reason) => reason.as_str(),
-        Explanation::Other => "",
+        Explanation::Difference(_) | Explanation::Other => "",
     }
 }

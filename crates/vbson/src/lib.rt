@@ -5,7 +5,7 @@
 //! nothing beyond its types, and answers a number of `status`: 0 where it did what it is for. On
 //! any other number an out parameter is as it was, except where its call says more. In reading
 //! order: `status`, `options`, `text` (a text that the caller has and frees) with `convert` (one text
-//! to another), `explain` (why a text is refused, and where) with `path` (the bytes of a path) and `lines` (a block of lines), `values` (two texts by what they
+//! to another), `canonical` (whether a text is canonical), `explain` (why a text is refused, and where) with `path` (the bytes of a path) and `lines` (a block of lines), `values` (two texts by what they
 //! mean), `documents` (whether bytes are a document of BSON) with `document_error` (why not), `decode`
 //! (their text) with `direct` (what needs no document in memory), `encode`
 //! (the bytes of a text) and `dump` (a block of documents), `raw` (values of documents that remain bytes), `builder` (documents in the

@@ -47,3 +47,6 @@ pub const NOT_FOUND: u32 = 14;
 
 /// The value has another type.
 pub const UNEXPECTED_TYPE: u32 = 15;
+
+/// The text is not the canonical text of a value.
+pub const NOT_CANONICAL: u32 = 16;

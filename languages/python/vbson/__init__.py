@@ -10,7 +10,7 @@
 |---|---|
 | `loads`, `load`, `loads_lines` | `convert`, `convert_lines`, `iter_lines`, `explain` |
 | `dumps`, `dump` | `encode`, `encode_lines`, `decode`, `decode_documents` |
-| `loads_documents`, `iter_documents`, `dump_documents`, `RawDocument` | `same`, `hash_of`, `same_documents`, `hash_of_document`, `is_document` |
+| `loads_documents`, `iter_documents`, `dump_documents`, `RawDocument` | `same`, `hash_of`, `same_documents`, `hash_of_document`, `is_document`, `is_canonical_text` |
 
 Each call has the same options, as keywords: `Options` describes them. Errors are data: `Error` describes their fields.
 
@@ -24,7 +24,7 @@ may call at once.
 """
 from ._options import CANONICAL, DOUBLES, KEEP_ORDER, LEGACY, REJECT_DUPLICATE_KEYS, RELAXED, SHOW, SPECIFIED, Options
 from .documents import decode, decode_documents, explain_document, hash_of_document, is_document, same_documents
-from .errors import (BAD_OBJECT_ID, BUFFER_TOO_SMALL, DIFFERENT, INVALID_ARGUMENT, INVALID_STRING, NOT_A_DOCUMENT, NOT_EXTENDED_JSON,
+from .errors import (BAD_OBJECT_ID, BUFFER_TOO_SMALL, DIFFERENT, INVALID_ARGUMENT, INVALID_STRING, NOT_A_DOCUMENT, NOT_CANONICAL, NOT_EXTENDED_JSON,
                      NOT_FOUND, NOT_JSON, NOT_REPRESENTABLE, OK, OUT_OF_MEMORY, TOO_LONG, UNEXPECTED_TYPE, ZERO_IN_KEY, ZERO_IN_REGEX,
                      BadObjectId, Error, IntegerTooLarge, InvalidString, NotADocument, NotEncodable, NotExtendedJson, NotJson, NotRepresentable, NoValue,
                      UnsupportedType)
@@ -32,12 +32,12 @@ from .objects import dump, dumps, load, loads, loads_lines
 from .raw import RawDocument
 from .scalars import (date_time, date_time_text, datetime_of, decimal128, decimal128_text, decimal_of, object_id, object_id_text)
 from .streams import convert_block, dump_documents, iter_documents, iter_lines, loads_documents
-from .texts import convert, convert_lines, encode, encode_lines, explain, hash_of, same, version
+from .texts import convert, convert_lines, encode, encode_lines, explain, hash_of, is_canonical_text, same, version
 from .values import (Binary, Code, DatetimeMS, DBPointer, Int64, MaxKey, MinKey, ObjectId, Regex, Symbol, Timestamp, Undefined)
 
 __all__ = [
     "CANONICAL", "RELAXED", "SHOW", "Options", "SPECIFIED",
-    "convert", "convert_lines", "convert_block", "iter_lines", "explain", "same", "hash_of", "encode", "encode_lines",
+    "convert", "convert_lines", "convert_block", "iter_lines", "explain", "same", "hash_of", "is_canonical_text", "encode", "encode_lines",
     "decode", "decode_documents", "is_document", "explain_document", "same_documents", "hash_of_document",
     "loads", "load", "loads_lines", "dumps", "dump", "loads_documents", "iter_documents", "dump_documents", "RawDocument",
     "decimal128", "decimal128_text", "decimal_of", "object_id", "object_id_text", "date_time", "date_time_text", "datetime_of",
@@ -45,6 +45,6 @@ __all__ = [
     "NotEncodable", "UnsupportedType", "IntegerTooLarge", "NoValue",
     "OK", "INVALID_ARGUMENT", "NOT_JSON", "BAD_OBJECT_ID", "NOT_EXTENDED_JSON", "OUT_OF_MEMORY", "INVALID_STRING", "NOT_REPRESENTABLE",
     "BUFFER_TOO_SMALL", "DIFFERENT", "NOT_A_DOCUMENT", "ZERO_IN_KEY", "ZERO_IN_REGEX", "TOO_LONG", "NOT_FOUND",
-    "UNEXPECTED_TYPE",
+    "UNEXPECTED_TYPE", "NOT_CANONICAL",
     "Binary", "Code", "DBPointer", "DatetimeMS", "Int64", "MaxKey", "MinKey", "ObjectId", "Regex", "Symbol", "Timestamp", "Undefined",
 ]

@@ -83,7 +83,7 @@ def loaded():
         "version": [], "convert": [number, Options, text, size, out(Buffer)],
         "convert_lines": [number, Options, text, size, out(Lines)], "encode_lines": [Options, text, size, out(Lines)],
         "decode_documents": [number, Options, text, size, out(Documents)],
-        "explain": [Options, text, size, out(Error)], "same": [Options, text, size, text, size],
+        "is_canonical_text": [Options, text, size], "explain": [Options, text, size, out(Error)], "same": [Options, text, size, text, size],
         "hash": [Options, text, size, out(ctypes.c_uint64)], "same_documents": [Options, text, size, text, size],
         "hash_document": [Options, text, size, out(ctypes.c_uint64)],
         "is_document": [text, size], "explain_document": [Options, text, size, out(Error)],

@@ -2,7 +2,7 @@
 from typing import List, Tuple
 
 from . import _calls, errors
-from ._options import CANONICAL, KEEP_ORDER, READING, REJECT_DUPLICATE_KEYS, WRITING, Given, Mode, flags_of, mode_of, text_bytes
+from ._options import CANONICAL, DOUBLES, KEEP_ORDER, READING, REJECT_DUPLICATE_KEYS, WRITING, Given, Mode, flags_of, mode_of, text_bytes
 from .errors import Error
 
 
@@ -109,6 +109,22 @@ def same(a: Given, b: Given, **options: bool) -> bool:
     status = _calls.library.vbson_same(flags, a, len(a), b, len(b))
     if status != errors.DIFFERENT:
         expect_accepted(status, flags, a, b)
+    return status == errors.OK
+
+
+def is_canonical_text(text: Given, **options: bool) -> bool:
+    """Returns whether the text is canonical: exactly what `convert` writes with keep_order=False.
+
+    >>> is_canonical_text('{"n":{"$numberInt":"5"}}'), is_canonical_text('{"n": 5}')
+    (True, False)
+
+    Values that are equal in normal form have one canonical text, so it can be signed, hashed or compared in place of its
+    value. Of the options, doubles alone changes something. Raises MemoryError.
+    """
+    flags, given = flags_of(options, DOUBLES, KEEP_ORDER | READING), text_bytes(text)
+    status = _calls.library.vbson_is_canonical_text(flags, given, len(given))
+    if status != errors.NOT_CANONICAL:
+        errors.expect_ok(status)
     return status == errors.OK
 
 

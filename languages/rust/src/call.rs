@@ -88,6 +88,7 @@ extern "C" {
     fn vbson_convert_nonnull(mode: u32, options: *const RawOptions, text: *const u8, len: usize, out: *mut RawText) -> u32;
     fn vbson_explain_nonnull(options: *const RawOptions, text: *const u8, len: usize, out: *mut RawError) -> u32;
     fn vbson_convert_lines_nonnull(mode: u32, options: *const RawOptions, block: *const u8, len: usize, out: *mut RawLines) -> u32;
+    fn vbson_is_canonical_text_nonnull(options: *const RawOptions, text: *const u8, len: usize) -> u32;
     fn vbson_same_nonnull(options: *const RawOptions, a: *const u8, a_len: usize, b: *const u8, b_len: usize) -> u32;
     fn vbson_hash_nonnull(options: *const RawOptions, text: *const u8, len: usize, out: *mut u64) -> u32;
     fn vbson_is_document(bytes: *const u8, len: usize) -> u32;
@@ -150,6 +151,7 @@ const ZERO_IN_REGEX: u32 = 12;
 const TOO_LONG: u32 = 13;
 const NOT_FOUND: u32 = 14;
 const UNEXPECTED_TYPE: u32 = 15;
+const NOT_CANONICAL: u32 = 16;
 
 /// The option for finite doubles.
 pub const DOUBLES_FINITE: u32 = 1;
@@ -302,18 +304,23 @@ fn left(call: impl FnOnce(*mut RawText) -> u32) -> Result<RawText, ErrorKind> {
 
 pub fn same(options: RawOptions, a: &[u8], b: &[u8]) -> Result<bool, ErrorKind> {
     // SAFETY: the options and the slices are readable.
-    compared(|| unsafe { vbson_same_nonnull(&options, a.as_ptr(), a.len(), b.as_ptr(), b.len()) })
+    answered(DIFFERENT, || unsafe { vbson_same_nonnull(&options, a.as_ptr(), a.len(), b.as_ptr(), b.len()) })
 }
 
 pub fn same_documents(options: RawOptions, a: &[u8], b: &[u8]) -> Result<bool, ErrorKind> {
     // SAFETY: as above.
-    compared(|| unsafe { vbson_same_documents_nonnull(&options, a.as_ptr(), a.len(), b.as_ptr(), b.len()) })
+    answered(DIFFERENT, || unsafe { vbson_same_documents_nonnull(&options, a.as_ptr(), a.len(), b.as_ptr(), b.len()) })
 }
 
-fn compared(call: impl FnOnce() -> u32) -> Result<bool, ErrorKind> {
+pub fn is_canonical_text(options: RawOptions, text: &[u8]) -> Result<bool, ErrorKind> {
+    // SAFETY: the options and the slice are readable.
+    answered(NOT_CANONICAL, || unsafe { vbson_is_canonical_text_nonnull(&options, text.as_ptr(), text.len()) })
+}
+
+fn answered(no: u32, call: impl FnOnce() -> u32) -> Result<bool, ErrorKind> {
     wants_processor();
     match call() {
-        DIFFERENT => Ok(false),
+        status if status == no => Ok(false),
         status => expect_ok(status).map(|()| true),
     }
 }

@@ -172,6 +172,25 @@ pub fn same(options: ReadOptions, a: &[u8], b: &[u8]) -> Result<bool, Error> {
     call::same(options.raw(), a, b).map_err(|kind| of_texts(kind, options.raw(), &[a, b]))
 }
 
+/// Returns whether the input is canonical: byte for byte the canonical form of its value, with keys in ascending order at
+/// every depth, and without a newline. Values that are equal in normal form have one such text, so it can be signed, hashed or
+/// compared in place of its value. The options other than `doubles` change nothing.
+///
+/// ```
+/// use vbson::{is_canonical_text, ReadOptions};
+/// assert!(is_canonical_text(ReadOptions::default(), br#"{"n":{"$numberInt":"5"}}"#)?);
+/// assert!(!is_canonical_text(ReadOptions::default(), br#"{"n": 5}"#)?);
+/// # Ok::<(), vbson::Error>(())
+/// ```
+///
+/// # Errors
+///
+/// - `OutOfMemory` if an allocation fails.
+pub fn is_canonical_text(options: ReadOptions, text: &[u8]) -> Result<bool, Error> {
+    let raw = RawOptions { doubles: options.raw().doubles, ..RawOptions::INIT };
+    Ok(call::is_canonical_text(raw, text)?)
+}
+
 /// Computes the hash of the input's value. Inputs that [`same`] finds the same have one hash.
 ///
 /// # Errors

@@ -1,7 +1,7 @@
 //! Each call of the wrapper, and each error.
 use std::thread;
 use vbson::{convert, convert_lines, convert_with, decode, encode, explain, explain_document, hash, is_document, same, version};
-use vbson::{decode_documents, encode_lines, hash_document, same_documents, ReadOptions};
+use vbson::{decode_documents, encode_lines, hash_document, is_canonical_text, same_documents, ReadOptions};
 use vbson::{Bson, DateTime, Decimal128, Error, ErrorKind, Mode, ObjectId, Options, PathElement, RawDocument, RawDocumentBuf, Text, Timestamp};
 
 #[test]
@@ -45,6 +45,19 @@ fn the_order_of_keys_is_an_option() {
     let lines = convert_lines(Mode::Relaxed, keeps, b"{\"b\":1,\"a\":2}\n[1.5]\n").unwrap();
     assert_eq!((&*lines.text, lines.refused.len()), ("{\"b\":1,\"a\":2}\n", 1));
     assert_eq!(explain(keeps, b"[1.5]"), explain(Options::SPECIFIED, b"[1.5]"));
+}
+
+#[test]
+fn canonical_texts_are_told() {
+    let (doubles, specified) = (ReadOptions::default(), ReadOptions { legacy: true, ..ReadOptions::SPECIFIED });
+    for text in [r#"{"a":{"$numberDouble":"1.5"},"b":[true]}"#, r#"{"a":1,"a":2}"#, r#"{"b":1,"a":{"$numberInt":"2"}}"#, "null ", "[1.5]", "", "{"] {
+        for options in [doubles, specified] {
+            let writes = Options { doubles: options.doubles, keep_order: false };
+            let wanted = convert_with(Mode::Canonical, writes, text.as_bytes()).is_ok_and(|it| &*it == text);
+            assert_eq!(is_canonical_text(options, text.as_bytes()), Ok(wanted), "{text}");
+        }
+    }
+    assert_eq!(is_canonical_text(doubles, br#"{"a":{"$numberDouble":"1.5"},"b":[true]}"#), Ok(true));
 }
 
 fn kind<T>(answer: Result<T, Error>) -> Option<ErrorKind> {

@@ -1,0 +1,34 @@
+//! Whether a text is canonical.
+ghost use Rattle.std.specs.Prelude.{◌≡◌, ◌⊎◌, ◌↔◌};
+ghost use Rattle.bson_convert.specs.Convert.{IsCanonicalText};
+ghost use Rattle.vbson.specs.Convert.{options_of};
+ghost use Rattle.vbson.specs.Options.{AreNotForConversion, AreNotForReading};
+
+use crate::options::{CallOptions, are_not_for_conversion, are_not_for_reading, options_of};
+use crate::status;
+use bson_convert::canonical::is_canonical_text;
+use std::alloc::Global;
+
+/// Checks that the text is the canonical text of the value that it means, with keys in ascending
+/// order at every depth and without a newline. The options may request finite doubles, and nothing
+/// else.
+#[unsafe(no_mangle)]
+pub extern "C" fn vbson_is_canonical_text_nonnull(
+    alloc: Global,
+    options: &CallOptions,
+    text: &[u8],
+) -> u32
+    ensures done { result ≡ 0 → IsCanonicalText (options_of options.now) text.now }
+    ensures not_canonical { result ≡ 16 → IsCanonicalText (options_of options.now) text.now → ⊥ }
+    ensures no_mode { result ≡ 1 ↔ AreNotForConversion options.now ⊎ AreNotForReading options.now }
+    ensures listed { (result ≡ 0) ⊎ (result ≡ 1) ⊎ (result ≡ 5) ⊎ (result ≡ 16) }
+{
+    if are_not_for_conversion(*options) || are_not_for_reading(*options) {
+        return status::INVALID_ARGUMENT;
+    }
+    match is_canonical_text(alloc, options_of(*options), text) {
+        Ok(true) => status::OK,
+        Ok(false) => status::NOT_CANONICAL,
+        Err(_) => status::OUT_OF_MEMORY,
+    }
+}
