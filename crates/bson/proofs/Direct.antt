@@ -1,6 +1,6 @@
 -- Texts of scalars that are written token by token, and the room that they take.
 use Rattle.std.proofs.Common.{◌≡◌, ℕ, ◌<◌, ◌^◌, ◌==◌, codes, List, [], ◌∷◌, ◌++◌, Bool, true, false, cond, Option, Some, None, Result, Ok, Err}
-use Rattle.std.proofs.Common.{from_bits, to_bits, refl, sym, subst, inr, arith, ◌+◌, ◌≤◌}
+use Rattle.std.proofs.Common.{from_bits, to_bits, refl, sym, subst, inr, arith, ◌+◌}
 use Rattle.std.specs.Float.{Float, binary64}
 use Rattle.bson_double.specs.Doubles.{is_finite}
 use Rattle.bson_double.specs.Text.{IsDoubleText}

@@ -2,7 +2,6 @@
 use Rattle.std.proofs.Common.{◌≡◌, ℕ, List, Result, Ok, Err, Some, IfOk, IfErr, option_map, sym, ap, ◌∙◌}
 use Rattle.std.specs.Prelude.{IsUtf8, OnOk}
 use Rattle.serde_json.specs.Data.{Data}
-use Rattle.serde_json.specs.Read.{read}
 use Rattle.bson_scalar.specs.declared.form.Doubles.{Doubles}
 use Rattle.bson_model.specs.Normal.{InRange}
 use Rattle.bson_model.specs.Sorted.{sorted}

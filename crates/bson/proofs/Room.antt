@@ -1,22 +1,20 @@
 -- The room that the parts of a text take is the room of the whole.
-use Rattle.std.proofs.Common.{◌≡◌, ℕ, ◌+◌, ◌<◌, ◌≤◌, None, Some, cond, true, List, [], ◌∷◌, ◌++◌, Result, Ok, Err, refl, sym, ap, ◌∙◌, subst, arith}
+use Rattle.std.proofs.Common.{◌≡◌, ℕ, ◌+◌, ◌<◌, ◌≤◌, None, Some, cond, List, [], ◌∷◌, Result, Ok, Err, refl, sym, ◌∙◌, subst, arith}
 use Rattle.std.specs.FinMap.Entries.{find, by_order, put as put_entry}
 use Rattle.std.specs.Ordering.{is_eq}
 use Rattle.std.specs.declared.cmp.Ordering.TheVariants.{Less, Equal, Greater}
 use Rattle.std.specs.List.{IsDistinct}
-use Rattle.bson_scalar.specs.Scalar.{Scalar}
-use Rattle.bson_scalar.specs.Written.{Refusal, writes_scalar_in}
 use Rattle.bson_scalar.specs.declared.form.Doubles.{Doubles}
 use Rattle.bson_scalar.specs.declared.form.Form.{Form}
 use Rattle.bson_scalar.specs.declared.write_error.WriteError.{WriteError}
 use Rattle.bson_scalar.specs.declared.write_error.WriteError.TheVariants.{FiniteDouble, OutOfMemory}
 use Rattle.bson_store.specs.Order.{key_cmp, in_order}
-use Rattle.bson_store.specs.Pairs.{keys, HasDistinctKeys}
+use Rattle.bson_store.specs.Pairs.{HasDistinctKeys}
 use Rattle.bson_store.proofs.Offered.{find-in_order, lacks}
-use Rattle.bson_model.specs.Value.{Value, scalar, Values, no_values, value, Pairs, no_pairs, pair}
+use Rattle.bson_model.specs.Value.{Value, Values, value, Pairs, pair}
 use Rattle.bson.specs.KeyOrders.{ordered}
-use Rattle.bson.specs.Room.{is_direct, IsDirect, ValuesDirect, PairsDirect, SpendsOrStops, Spends, key_room}
-use Rattle.bson.specs.Room.{written_room, value_room, values_room, pairs_room}
+use Rattle.bson.specs.Room.{IsDirect, ValuesDirect, PairsDirect, SpendsOrStops, key_room}
+use Rattle.bson.specs.Room.{value_room, values_room, pairs_room}
 use Rattle.bson.specs.View.{bson_view, pairs_view}
 use Rattle.bson.specs.declared.bson.Bson.{Bson}
 use Rattle.bson.specs.declared.extjson.key_order.KeyOrder.{KeyOrder}

@@ -1,9 +1,9 @@
 -- Twice the length of a text is room enough for it.
-use Rattle.std.proofs.Common.{◌≡◌, ℕ, ◌+◌, ◌*◌, ◌<◌, ◌≤◌, ◌^◌, pos, negsuc, codes, Bool, true, false, List, [], ◌∷◌, ◌++◌, length}
+use Rattle.std.proofs.Common.{◌≡◌, ℕ, ◌+◌, ◌*◌, ◌<◌, ◌≤◌, pos, negsuc, codes, Bool, true, false, List, [], ◌∷◌, ◌++◌, length}
 use Rattle.std.proofs.Common.{Ok, refl, ap, ◌∙◌, arith, length-append}
 use Rattle.std.proofs.lemmas.Fmt.{decimal_nonempty}
-use Rattle.json.specs.Print.{print, print_from, separator, ends, token_text, quoted, IsNumber}
-use Rattle.json.specs.Token.{Token, begin_array, end_array, begin_object, end_object, key, string}
+use Rattle.json.specs.Print.{print, print_from, separator, ends, token_text, IsNumber}
+use Rattle.json.specs.Token.{Token, end_object, key, string}
 use Rattle.json.specs.Tree.{room, items_tokens, members_tokens}
 use Rattle.json.specs.Word.{after_number}
 use Rattle.serde_json.specs.Data.{Num, unsigned, negative, float, Data, Items, no_items, item, Members, no_members, member}
@@ -13,12 +13,11 @@ use Rattle.bson_scalar.specs.Tokens.{tokens_of}
 use Rattle.bson_scalar.specs.declared.form.Doubles.{Doubles}
 use Rattle.bson_scalar.specs.declared.form.Form.{Form}
 use Rattle.bson_scalar.proofs.Offered.{float_is_number, text_is}
-use Rattle.bson_model.specs.Normal.{normal_form, InRange, ItemsInRange, PairsInRange}
+use Rattle.bson_model.specs.Normal.{InRange, ItemsInRange, PairsInRange}
 use Rattle.bson_model.specs.Texts.{IsTree, ItemsAreTrees, MembersAreTrees, NumberFits}
 use Rattle.bson_model.specs.Value.{Value, scalar, code_scope, array, document, Values, no_values, value, Pairs}
 use Rattle.bson_model.specs.Value.{no_pairs, pair}
 use Rattle.bson_model.proofs.Offered.{bind_ok, un_ok, has_text_in}
-use Rattle.bson_order.specs.Written.{WrittenInOrder}
 use Rattle.bson_order.specs.Writing.{writes_in_order, values_in_order, pairs_in_order}
 use Rattle.bson_order.proofs.Offered.{has_no_float, written_to}
 use Rattle.bson.specs.Room.{value_room, values_room, pairs_room, written_room, tree_room}
@@ -43,8 +42,13 @@ unfolding print_from
 twice b [] h = omega arith
 twice b (t ∷ ts) h =
     let rest = twice (ends t) ts h.1 in
-    omega (arith, h.0, rest, length-append (separator b t) (token_text t ++ print_from (ends t) ts),
-    length-append (token_text t) (print_from (ends t) ts))
+    omega (
+      arith,
+      h.0,
+      rest,
+      length-append (separator b t) (token_text t ++ print_from (ends t) ts),
+      length-append (token_text t) (print_from (ends t) ts),
+    )
 
 -- ---- trees
 
@@ -95,8 +99,22 @@ module _ (D : Doubles) (f : Form) where
     value_full (scalar x) t h r = tree_full t (has_text_in D f (scalar x) t h refl r).is_tree
     value_full (code_scope s ps) t h r =
         let b = bind_ok (pairs_in_order D f ps) _ t h in
-        rw (un_ok _ _ b.2) (omega arith, (key_full (codes "$code"), (string_full s, (key_full (codes "$scope"), (omega arith,
-        full_append (members_tokens (members_outline b.0)) (end_object ∷ []) (pairs_full ps b.0 b.1 r) (omega arith, tt))))))
+        rw (un_ok _ _ b.2) (
+          omega arith,
+          (
+            key_full (codes "$code"),
+            (
+              string_full s,
+              (
+                key_full (codes "$scope"),
+                (
+                  omega arith,
+                  full_append (members_tokens (members_outline b.0)) (end_object ∷ []) (pairs_full ps b.0 b.1 r) (omega arith, tt),
+                ),
+              ),
+            ),
+          ),
+        )
     value_full (array vs) t h r =
         let b = bind_ok (values_in_order D f vs) _ t h in rw (un_ok _ _ b.2) (omega arith, values_full vs b.0 b.1 r)
     value_full (document ps) t h r =
@@ -117,8 +135,11 @@ module _ (D : Doubles) (f : Form) where
     pairs_full (pair k v ps) ms h r =
         let b = bind_ok (writes_in_order D f v) _ ms h in
         let c = bind_ok (pairs_in_order D f ps) _ ms b.2 in
-        rw (un_ok _ _ c.2) (key_full k, full_append (tokens_of b.0) (members_tokens (members_outline c.0))
-        (value_full v b.0 b.1 r.0) (pairs_full ps c.0 c.1 r.1))
+        rw (un_ok _ _ c.2) (
+          key_full k,
+          full_append (tokens_of b.0) (members_tokens (members_outline c.0))
+              (value_full v b.0 b.1 r.0) (pairs_full ps c.0 c.1 r.1),
+        )
 
   -- the room for a value is that for the tokens of its tree
   mutual

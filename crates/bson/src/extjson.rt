@@ -3,7 +3,8 @@
 //! In reading order: `options` (which doubles are read and written); `de` (the calls that read
 //! trees) over `read` (by the walk of `bson_place`), `builder` (what is built as it walks) and
 //! `scalars`; `ser` and `ordered` (the calls that write, with keys that ascend and in each
-//! document's own order) over `write` (trees) and `text` (texts, in either `key_order`);
+//! document's own order) over `write` (trees) and `text` (texts, in either `key_order`), which has
+//! `direct` for scalars whose text is made where it is written;
 //! `text_reader` (values from texts) with `text_error`; `value_writer` (values in memory, made as a
 //! text is read).
 mod builder;

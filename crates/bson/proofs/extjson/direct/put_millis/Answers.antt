@@ -1,4 +1,4 @@
-use Rattle.std.proofs.Common.{rules, ◌≡◌, [], ◌∷◌, ◌++◌, codes, to_z, of_z, w64}
+use Rattle.std.proofs.Common.{rules, ◌≡◌, [], ◌∷◌, codes, to_z, of_z, w64}
 use Rattle.json.specs.Token.{begin_object, end_object, key}
 use Rattle.bson_scalar.specs.Ints.{int64_tree}
 use Rattle.bson_scalar.specs.Tokens.{tokens_of}

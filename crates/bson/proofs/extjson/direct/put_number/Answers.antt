@@ -1,4 +1,4 @@
-use Rattle.std.proofs.Common.{◌≡◌, ◌++◌, ◌∷◌, [], ap, sym, subst, ◌∙◌, rules}
+use Rattle.std.proofs.Common.{◌++◌, ◌∷◌, [], ap, sym, subst, ◌∙◌, rules}
 use Rattle.json.specs.Print.{IsNumber}
 use Rattle.json.specs.Token.{number}
 use Rattle.json.proofs.Printed.Floats.{IsNumber-plain}
