@@ -6,7 +6,8 @@ ghost use Rattle.bson_model.specs.Value.{Pairs};
 ghost use Rattle.bson_raw.specs.Raw.{BeginsWithElements, BeginsWithDocument};
 ghost use Rattle.bson_raw.specs.Elements.{IsFirst};
 
-use crate::skip::{element_at, skip, skip_sized, skip_value};
+use crate::skip::{passed, skip, skip_sized};
+use bson_bytes::parts::kind_of;
 use bson_types::spec::ElementType;
 
 /// An element in its bytes.
@@ -50,16 +51,19 @@ pub fn first_element(bytes: &[u8]) -> Option<RawElement<'_>>
     ensures shorter { IfSome result (λ e. length e.rest.now < length bytes.now) }
     ensures value { IfSome result (λ e. length e.rest.now ≤ length e.value.now) }
 {
-    let Some((kind, key, value)) = element_at(bytes) else {
+    let [tag, ..] = bytes else {
         return None;
     };
-    let Some(rest) = skip_value(kind, value) else {
+    let Some(kind) = kind_of(*tag) else {
+        return None;
+    };
+    let Some((key, end)) = passed(bytes, 0) else {
         return None;
     };
     Some(RawElement {
         kind,
         key,
-        value,
-        rest,
+        value: &bytes[key.len() + 2..],
+        rest: &bytes[end..],
     })
 }
