@@ -7,6 +7,7 @@ use Rattle.std.specs.Result.{is_ok}
 use Rattle.std.specs.Str.{bytes_eq}
 use Rattle.std.proofs.lemmas.Bool.{le-ltb}
 use Rattle.std.proofs.lemmas.List.{drop-drop}
+use Rattle.bson_types.specs.Tags.{tag_of}
 use Rattle.bson_types.specs.declared.spec.ElementType.{ElementType}
 use Rattle.bson_model.specs.Value.{Value, Pairs, no_pairs, pair, get}
 use Rattle.bson_bytes.specs.declared.fault.Fault.{Fault}
@@ -21,9 +22,9 @@ use Rattle.bson_raw.specs.Raw.{pairs_read, value_read, last_of, BeginsWithDocume
 use Rattle.bson_raw.specs.Skip.{element_at, skip, skip_value, IsPassed}
 use Rattle.bson_raw.specs.declared.element.RawElement.{RawElement}
 use Rattle.bson_raw.proofs.Found.{value_is}
-use Rattle.bson_raw.proofs.Passing.{sliced}
+use Rattle.bson_raw.proofs.Passing.{kind_tag, sliced}
 use Rattle.bson_raw.proofs.Skips.{ok_is, if_ok, split_follows, Ahead}
-use Rattle.bson_raw.proofs.Steps.{opened, Took, took, none_left, some_is, is_last}
+use Rattle.bson_raw.proofs.Steps.{opened, Took, took, some_is, is_last}
 
 -- what was read
 read_from : (r : Result (Pairs × List ℕ) Fault) → is_ok r ≡ true → (rest : List ℕ) × (r ≡ Ok (pairs_read r, rest))
@@ -106,17 +107,12 @@ found_parts (t ∷ r) k s b e =
     let f = found_by (kind_of t) (split_zero r) k s b e in
     (f.0, (split_follows r s b f.1).0 ∙ drop-drop (length s + 1) 1 (t ∷ r) ∙ ap (λ (n : ℕ). drop n (t ∷ r)) (omega arith))
 
-pub first_untyped : (d : ℕ) (bytes : List ℕ) (ps : Pairs) → BeginsWithElements d bytes ps → kind_of (get_or bytes 0 0) ≡ None
-    → ps ≡ no_pairs
-first_untyped d [] ps h none = none_left d [] ps h refl
-first_untyped d (t ∷ r) ps h none = none_left d (t ∷ r) ps h (rw none refl)
-
 pub first_is_element : (d : ℕ) (bytes : List ℕ) (ps : Pairs) (kind : ElementType) (s b c : Bor (List ℕ)) (next : List ℕ)
-    → BeginsWithElements d bytes ps → kind_of (get_or bytes 0 0) ≡ Some kind → IsPassed ps bytes (Some (s.now, next))
+    → BeginsWithElements d bytes ps → ((k : ElementType) → tag_of k ≡ get_or bytes 0 0 → kind ≡ k) → IsPassed ps bytes (Some (s.now, next))
     → b.now ≡ drop (length s.now + 2) bytes → next ≡ c.now → IsElement d (record { kind = kind; key = s; value = b; rest = c }) ps
 first_is_element d bytes ps kind s b c next h typed p after same =
     let parts = found_parts bytes p.0 s.now p.1 p.2 in
-    let type : p.0 ≡ kind = some_is p.0 kind (sym parts.0 ∙ typed) in
+    let type : p.0 ≡ kind = sym (typed p.0 (kind_tag (get_or bytes 0 0) p.0 parts.0)) in
     let value : p.1 ≡ b.now = parts.1 ∙ sym after in
     let t = took d bytes ps p.0 s.now p.1 h p.2 in
     subst (λ (k : ElementType). IsElement d (record { kind = k; key = s; value = b; rest = c }) ps) type (element_by d ps p.0 s b c

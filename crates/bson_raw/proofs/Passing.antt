@@ -26,7 +26,7 @@ named_tag : (t : ℕ) (ks : List ElementType) (k : ElementType) → named t ks �
 named_tag t [] k e = absurd cc
 named_tag t (j ∷ ks) k e = named_if (eqb t (tag_of j)) t j k (named t ks) refl (λ h. named_tag t ks k h) e
 
-kind_tag : (t : ℕ) (k : ElementType) → kind_of t ≡ Some k → tag_of k ≡ t
+pub kind_tag : (t : ℕ) (k : ElementType) → kind_of t ≡ Some k → tag_of k ≡ t
 unfolding kind_of
 kind_tag t k e = named_tag t all_types k e
 
