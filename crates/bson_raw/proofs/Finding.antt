@@ -1,11 +1,13 @@
 -- The loop that finds the value of a key, and what a validated document gives to it.
-use Rattle.std.proofs.Common.{◌≡◌, ℕ, ◌-◌, ◌≤◌, ◌==◌, Bool, true, false, cond, if◌then◌else◌, List, length, take, drop}
-use Rattle.std.proofs.Common.{Option, Some, None, Result, Ok, Err, refl, sym, ap, ◌∙◌, subst}
-use Rattle.std.specs.Prelude.{option_map, IsSomeAnd}
+use Rattle.std.proofs.Common.{◌≡◌, ℕ, ◌+◌, ◌-◌, ◌≤◌, ◌==◌, Bool, true, false, cond, if◌then◌else◌, List, [], ◌∷◌, length, take, drop}
+use Rattle.std.proofs.Common.{get_or, Option, Some, None, Result, Ok, Err, refl, sym, ap, ◌∙◌, subst, arith}
+use Rattle.std.specs.Prelude.{option_map, option_and_then, IsSomeAnd}
 use Rattle.std.specs.Borrow.{Bor}
 use Rattle.std.specs.Result.{is_ok}
 use Rattle.std.specs.Str.{bytes_eq}
 use Rattle.std.proofs.lemmas.Bool.{le-ltb}
+use Rattle.std.proofs.lemmas.List.{drop-drop}
+use Rattle.bson_types.specs.Tags.{tag_of}
 use Rattle.bson_types.specs.declared.spec.ElementType.{ElementType}
 use Rattle.bson_model.specs.Value.{Value, Pairs, no_pairs, pair, get}
 use Rattle.bson_bytes.specs.declared.fault.Fault.{Fault}
@@ -13,15 +15,16 @@ use Rattle.bson_bytes.specs.Grammar.{one_each}
 use Rattle.bson_bytes.specs.declared.keys.DuplicateKeys.TheVariants.{Replace}
 use Rattle.bson_bytes.specs.Fault.{at, ◌>>=◌}
 use Rattle.bson_bytes.specs.declared.fault.FaultKind.TheVariants.{Trailing}
-use Rattle.bson_bytes.specs.Reading.{document_at, document_in, value_with, settled, reads, reads_in}
+use Rattle.bson_bytes.specs.Reading.{split_zero, document_at, document_in, value_with, settled, reads, reads_in}
+use Rattle.bson_bytes.specs.Tags.{kind_of}
 use Rattle.bson_raw.specs.Elements.{HasValue, IsElement, IsFirst, IsFound, IsKept}
 use Rattle.bson_raw.specs.Raw.{pairs_read, value_read, last_of, BeginsWithDocument, BeginsWithElements, elements_at}
 use Rattle.bson_raw.specs.Skip.{element_at, skip, skip_value, IsPassed}
 use Rattle.bson_raw.specs.declared.element.RawElement.{RawElement}
 use Rattle.bson_raw.proofs.Found.{value_is}
-use Rattle.bson_raw.proofs.Passing.{sliced}
-use Rattle.bson_raw.proofs.Skips.{ok_is, if_ok, Ahead}
-use Rattle.bson_raw.proofs.Steps.{opened, took, none_left, some_is, is_last}
+use Rattle.bson_raw.proofs.Passing.{kind_tag, sliced}
+use Rattle.bson_raw.proofs.Skips.{ok_is, if_ok, split_follows, Ahead}
+use Rattle.bson_raw.proofs.Steps.{opened, Took, took, some_is, is_last}
 
 -- what was read
 read_from : (r : Result (Pairs × List ℕ) Fault) → is_ok r ≡ true → (rest : List ℕ) × (r ≡ Ok (pairs_read r, rest))
@@ -60,17 +63,6 @@ elements_found (Some c) d bytes ps h doc =
     (a.0, subst (λ (list : List ℕ). BeginsWithElements (d - 1) list ps) same a.2)
 
 -- what a call found, seen without its references
-pub some_found : (o : Option (ElementType × Bor (List ℕ) × Bor (List ℕ))) (e : Option (ElementType × List ℕ × List ℕ))
-    (k : ElementType) (s b : Bor (List ℕ)) → option_map (λ x. (x.0, x.1.now, x.2.now)) o ≡ e → o ≡ Some (k, s, b)
-    → e ≡ Some (k, s.now, b.now)
-some_found o e k s b h is =
-    sym h ∙ ap (λ (p : Option (ElementType × Bor (List ℕ) × Bor (List ℕ))). option_map (λ x. (x.0, x.1.now, x.2.now)) p) is
-
-pub none_found : (o : Option (ElementType × Bor (List ℕ) × Bor (List ℕ))) (e : Option (ElementType × List ℕ × List ℕ))
-    → option_map (λ x. (x.0, x.1.now, x.2.now)) o ≡ e → o ≡ None → e ≡ None
-none_found o e h is =
-    sym h ∙ ap (λ (p : Option (ElementType × Bor (List ℕ) × Bor (List ℕ))). option_map (λ x. (x.0, x.1.now, x.2.now)) p) is
-
 pub some_next : (o : Option (Bor (List ℕ))) (e : Option (List ℕ)) (c : Bor (List ℕ)) → option_map (λ x. x.now) o ≡ e
     → o ≡ Some c → e ≡ Some c.now
 some_next o e c h is = sym h ∙ ap (λ (p : Option (Bor (List ℕ))). option_map (λ x. x.now) p) is
@@ -80,19 +72,9 @@ none_next o e h is = sym h ∙ ap (λ (p : Option (Bor (List ℕ))). option_map 
 
 -- ---- the first element
 
-pub first_none : (d : ℕ) (bytes : List ℕ) (ps : Pairs) → BeginsWithElements d bytes ps → element_at bytes ≡ None → ps ≡ no_pairs
-first_none d bytes ps h none = none_left d bytes ps h none
-
-pub first_skips : (d : ℕ) (bytes : List ℕ) (ps : Pairs) (k : ElementType) (s b : List ℕ) → BeginsWithElements d bytes ps
-    → element_at bytes ≡ Some (k, s, b) → skip_value k b ≡ None → ⊥
-first_skips d bytes ps k s b h found none =
-    let some = (took d bytes ps k s b h found).skips in absurd cc
-
-pub first_is_element : (d : ℕ) (bytes : List ℕ) (ps : Pairs) (k : ElementType) (s b c : Bor (List ℕ)) → BeginsWithElements d bytes ps
-    → element_at bytes ≡ Some (k, s.now, b.now) → skip_value k b.now ≡ Some c.now
+element_by : (d : ℕ) (ps : Pairs) (k : ElementType) (s b c : Bor (List ℕ)) → Took d k s.now b.now ps → skip_value k b.now ≡ Some c.now
     → IsElement d (record { kind = k; key = s; value = b; rest = c }) ps
-first_is_element d bytes ps k s b c h found skips =
-    let t = took d bytes ps k s.now b.now h found in
+element_by d ps k s b c t skips =
     let next : t.next ≡ c.now = some_is t.next c.now (sym t.skips ∙ skips) in
     let last : c.now ≡ drop (length b.now - length c.now) b.now = is_last b.now c.now (subst (λ (x : List ℕ). Ahead b.now x) next t.ahead) in
     record {
@@ -103,6 +85,38 @@ first_is_element d bytes ps k s b c h found skips =
       read = t.read ∙ ap (λ (rest : List ℕ). Ok (t.value, rest)) (next ∙ last);
       more = subst (λ (rest : List ℕ). BeginsWithElements d rest t.others) next t.more;
     }
+
+abbrev typed_as : ElementType → List ℕ × List ℕ → ElementType × List ℕ × List ℕ
+typed_as k p = (k, p.0, p.1)
+
+found_by : (o : Option ElementType) (q : Option (List ℕ × List ℕ)) (k : ElementType) (s b : List ℕ)
+    → option_and_then (λ (j : ElementType). option_map (typed_as j) q) o ≡ Some (k, s, b) → (o ≡ Some k) × (q ≡ Some (s, b))
+found_by None q k s b e = absurd cc
+found_by (Some j) None k s b e = absurd cc
+found_by (Some j) (Some (n, r)) k s b e =
+    let same : ◌≡◌ {A = ElementType × List ℕ × List ℕ} (j, n, r) (k, s, b) = some_is (j, n, r) (k, s, b) e in (
+      ap (λ (x : ElementType × List ℕ × List ℕ). Some x.0) same,
+      ap (λ (x : ElementType × List ℕ × List ℕ). Some (x.1, x.2)) same,
+    )
+
+-- the type that the tag says, and the bytes after the name
+found_parts : (bytes : List ℕ) (k : ElementType) (s b : List ℕ) → element_at bytes ≡ Some (k, s, b)
+    → (kind_of (get_or bytes 0 0) ≡ Some k) × (b ≡ drop (length s + 2) bytes)
+found_parts [] k s b e = absurd cc
+found_parts (t ∷ r) k s b e =
+    let f = found_by (kind_of t) (split_zero r) k s b e in
+    (f.0, (split_follows r s b f.1).0 ∙ drop-drop (length s + 1) 1 (t ∷ r) ∙ ap (λ (n : ℕ). drop n (t ∷ r)) (omega arith))
+
+pub first_is_element : (d : ℕ) (bytes : List ℕ) (ps : Pairs) (kind : ElementType) (s b c : Bor (List ℕ)) (next : List ℕ)
+    → BeginsWithElements d bytes ps → ((k : ElementType) → tag_of k ≡ get_or bytes 0 0 → kind ≡ k) → IsPassed ps bytes (Some (s.now, next))
+    → b.now ≡ drop (length s.now + 2) bytes → next ≡ c.now → IsElement d (record { kind = kind; key = s; value = b; rest = c }) ps
+first_is_element d bytes ps kind s b c next h typed p after same =
+    let parts = found_parts bytes p.0 s.now p.1 p.2 in
+    let type : p.0 ≡ kind = sym (typed p.0 (kind_tag (get_or bytes 0 0) p.0 parts.0)) in
+    let value : p.1 ≡ b.now = parts.1 ∙ sym after in
+    let t = took d bytes ps p.0 s.now p.1 h p.2 in
+    subst (λ (k : ElementType). IsElement d (record { kind = k; key = s; value = b; rest = c }) ps) type (element_by d ps p.0 s b c
+    (subst (λ (x : List ℕ). Took d p.0 s.now x ps) value t) (subst (λ (x : List ℕ). skip_value p.0 x ≡ Some c.now) value (p.3 ∙ ap Some same)))
 
 -- ---- the loop
 

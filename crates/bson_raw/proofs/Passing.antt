@@ -2,7 +2,6 @@
 use Rattle.std.proofs.Common.{◌≡◌, ℕ, ◌+◌, ◌-◌, ◌≤◌, ◌<◌, Bool, true, false, cond, eqb, List, [], ◌∷◌, length, take, drop, get_or}
 use Rattle.std.proofs.Common.{Option, Some, None, refl, sym, ap, ◌∙◌, subst, arith, inl, inr}
 use Rattle.std.specs.Prelude.{option_map, option_and_then, IfSome}
-use Rattle.std.specs.Borrow.{Bor}
 use Rattle.std.proofs.lemmas.Bool.{eqb-true}
 use Rattle.std.proofs.lemmas.List.{drop-drop, drop_more, drop_all, length-drop, take_all}
 use Rattle.bson_types.specs.Tags.{tag_of}
@@ -11,7 +10,7 @@ use Rattle.bson_model.specs.Value.{Pairs, no_pairs}
 use Rattle.bson_bytes.specs.Reading.{split_zero}
 use Rattle.bson_bytes.specs.Tags.{kind_of, named, all_types}
 use Rattle.bson_raw.specs.Raw.{BeginsWithElements}
-use Rattle.bson_raw.specs.Skip.{skip, size_in, skip_by, skip_value, skip_name, skip_regex, element_at, IsPassed}
+use Rattle.bson_raw.specs.Skip.{size_in, skip_by, skip_value, skip_name, skip_regex, element_at, IsPassed}
 use Rattle.bson_raw.specs.declared.skip.Size.{Size}
 use Rattle.bson_raw.proofs.Skips.{first_is, rest_is, follows_length, Ahead, ahead_then, split_follows, split_ahead, name_split}
 use Rattle.bson_raw.proofs.Steps.{document_skips, list_step, none_at, none_left, some_is}
@@ -27,7 +26,7 @@ named_tag : (t : ℕ) (ks : List ElementType) (k : ElementType) → named t ks �
 named_tag t [] k e = absurd cc
 named_tag t (j ∷ ks) k e = named_if (eqb t (tag_of j)) t j k (named t ks) refl (λ h. named_tag t ks k h) e
 
-kind_tag : (t : ℕ) (k : ElementType) → kind_of t ≡ Some k → tag_of k ≡ t
+pub kind_tag : (t : ℕ) (k : ElementType) → kind_of t ≡ Some k → tag_of k ≡ t
 unfolding kind_of
 kind_tag t k e = named_tag t all_types k e
 
@@ -84,14 +83,14 @@ unnamed d bytes at ps h lt split =
     let t = get_or bytes at 0 in
     none_left d (drop at bytes) ps h (rw (drop_more bytes at 0 lt) (unnamed_by (kind_of t) t (drop (at + 1) bytes) refl none))
 
--- what a call found, seen without its references
-pub none_split : (o : Option (Bor (List ℕ) × Bor (List ℕ))) (e : Option (List ℕ × List ℕ))
-    → option_map (λ p. (p.0.now, p.1.now)) o ≡ e → o ≡ None → e ≡ None
-none_split o e h is = sym h ∙ ap (λ (p : Option (Bor (List ℕ) × Bor (List ℕ))). option_map (λ p. (p.0.now, p.1.now)) p) is
+-- a name by its length
+pub no_len : (bytes : List ℕ) (o : Option ℕ) → option_map (λ i. (take i bytes, drop (i + 1) bytes)) o ≡ split_zero bytes → o ≡ None
+    → split_zero bytes ≡ None
+no_len bytes o h is = sym h ∙ ap (option_map (λ (i : ℕ). (take i bytes, drop (i + 1) bytes))) is
 
-pub some_split : (o : Option (Bor (List ℕ) × Bor (List ℕ))) (e : Option (List ℕ × List ℕ)) (s b : Bor (List ℕ))
-    → option_map (λ p. (p.0.now, p.1.now)) o ≡ e → o ≡ Some (s, b) → e ≡ Some (s.now, b.now)
-some_split o e s b h is = sym h ∙ ap (λ (p : Option (Bor (List ℕ) × Bor (List ℕ))). option_map (λ p. (p.0.now, p.1.now)) p) is
+pub some_len : (bytes : List ℕ) (o : Option ℕ) (n : ℕ) → option_map (λ i. (take i bytes, drop (i + 1) bytes)) o ≡ split_zero bytes
+    → o ≡ Some n → split_zero bytes ≡ Some (take n bytes, drop (n + 1) bytes)
+some_len bytes o n h is = sym h ∙ ap (option_map (λ (i : ℕ). (take i bytes, drop (i + 1) bytes))) is
 
 -- the value begins within the bytes
 pub value_within : (bytes : List ℕ) (at : ℕ) (s b : List ℕ) → at < length bytes

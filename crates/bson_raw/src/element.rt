@@ -3,10 +3,12 @@ ghost use Rattle.std.specs.Prelude.{◌≡◌, ◌<◌, ◌≤◌, ◌-◌, ℕ,
 ghost use Rattle.bson_bytes.specs.Grammar.{one_each};
 ghost use Rattle.bson_bytes.specs.Reading.{reads};
 ghost use Rattle.bson_model.specs.Value.{Pairs};
+ghost use Rattle.bson_types.specs.Tags.{tag_of};
+ghost use Rattle.bson_types.specs.declared.spec.ElementType.{ElementType};
 ghost use Rattle.bson_raw.specs.Raw.{BeginsWithElements, BeginsWithDocument};
 ghost use Rattle.bson_raw.specs.Elements.{IsFirst};
 
-use crate::skip::{element_at, skip, skip_sized, skip_value};
+use crate::skip::{passed, skip, skip_sized};
 use bson_types::spec::ElementType;
 
 /// An element in its bytes.
@@ -20,6 +22,44 @@ pub struct RawElement<'a> {
     pub value: &'a [u8],
     /// The bytes after the value.
     pub rest: &'a [u8],
+}
+
+// By the tag of the type. Tag 0 has no type, and two types have greater tags.
+static TYPES: [ElementType; 20] = [
+    ElementType::Null,
+    ElementType::Double,
+    ElementType::String,
+    ElementType::EmbeddedDocument,
+    ElementType::Array,
+    ElementType::Binary,
+    ElementType::Undefined,
+    ElementType::ObjectId,
+    ElementType::Boolean,
+    ElementType::DateTime,
+    ElementType::Null,
+    ElementType::RegularExpression,
+    ElementType::DbPointer,
+    ElementType::JavaScriptCode,
+    ElementType::Symbol,
+    ElementType::JavaScriptCodeWithScope,
+    ElementType::Int32,
+    ElementType::Timestamp,
+    ElementType::Int64,
+    ElementType::Decimal128,
+];
+
+// Returns the type with this tag, or any type if there is none. A table needs no call and no jump per type.
+#[inline(always)]
+fn type_of(tag: u8) -> ElementType
+    ensures { (k : ElementType) → tag_of k ≡ tag → result ≡ k }
+{
+    if tag < 20 {
+        TYPES[tag as usize]
+    } else if tag == 0x7F {
+        ElementType::MaxKey
+    } else {
+        ElementType::MinKey
+    }
 }
 
 /// Returns the bytes of the document with which the bytes begin.
@@ -50,16 +90,17 @@ pub fn first_element(bytes: &[u8]) -> Option<RawElement<'_>>
     ensures shorter { IfSome result (λ e. length e.rest.now < length bytes.now) }
     ensures value { IfSome result (λ e. length e.rest.now ≤ length e.value.now) }
 {
-    let Some((kind, key, value)) = element_at(bytes) else {
+    let [tag, ..] = bytes else {
         return None;
     };
-    let Some(rest) = skip_value(kind, value) else {
+    let kind = type_of(*tag);
+    let Some((key, end)) = passed(bytes, 0) else {
         return None;
     };
     Some(RawElement {
         kind,
         key,
-        value,
-        rest,
+        value: &bytes[key.len() + 2..],
+        rest: &bytes[end..],
     })
 }

@@ -1,13 +1,13 @@
 //! How a value is passed by its length.
-ghost use Rattle.std.specs.Prelude.{◌≡◌, ◌+◌, ◌<◌, ◌≤◌, ◌^◌, ℕ, drop, length, option_map, IfSome};
+ghost use Rattle.std.specs.Prelude.{◌≡◌, ◌+◌, ◌<◌, ◌≤◌, ◌^◌, ℕ, take, drop, length, option_map, IfSome};
+ghost use Rattle.bson_bytes.specs.Reading.{split_zero};
 ghost use Rattle.bson_model.specs.Value.{Pairs};
 ghost use Rattle.bson_types.specs.Tags.{tag_of};
 ghost use Rattle.bson_types.specs.declared.spec.ElementType.{ElementType};
 ghost use Rattle.bson_raw.specs.Raw.{BeginsWithElements};
-ghost use Rattle.bson_raw.specs.Skip.{skip, length_at, skip_sized, skip_name, skip_regex, skip_value, element_at};
-ghost use Rattle.bson_raw.specs.Skip.{size_in, skip_by, IsPassed};
+ghost use Rattle.bson_raw.specs.Skip.{skip, length_at, skip_sized, skip_name, skip_regex, size_in, skip_by, IsPassed};
 
-use bson_bytes::parts::{kind_of, split_zero};
+use bson_bytes::parts::split_zero;
 use bson_types::spec::ElementType;
 
 // How many bytes a value has.
@@ -137,31 +137,19 @@ fn value_end(size: Size, bytes: &[u8], at: usize) -> Option<usize>
     Some(at + count)
 }
 
-// Returns the bytes after a value of this type, by its length alone.
+// Returns the length of the name at the front, which a 0 byte ends. It is inlined, since a call for each
+// name takes more time than the names.
 #[inline(always)]
-pub(crate) fn skip_value(kind: ElementType, bytes: &[u8]) -> Option<&[u8]>
-    ensures given { option_map (λ x. x.now) result ≡ skip_value kind bytes.now }
-    ensures shorter { IfSome result (λ x. length x.now ≤ length bytes.now) }
+fn name_len(bytes: &[u8]) -> Option<usize>
+    ensures given { option_map (λ n. (take n bytes.now, drop (n + 1) bytes.now)) result ≡ split_zero bytes.now }
+    ensures within { IfSome result (λ n. n < length bytes.now) }
 {
-    let end = value_end(size_of(kind.tag()), bytes, 0)?;
-    Some(&bytes[end..])
-}
-
-// Returns the type of the element at the front, its name, and the bytes that begin with its value, or
-// `None` at the end of the elements.
-#[inline(always)]
-pub(crate) fn element_at(bytes: &[u8]) -> Option<(ElementType, &[u8], &[u8])>
-    ensures given { option_map (λ x. (x.0, x.1.now, x.2.now)) result ≡ element_at bytes.now }
-    ensures shorter { IfSome result (λ x. length x.2.now < length bytes.now) }
-{
-    match bytes {
-        [] => None,
-        [tag, rest @ ..] => {
-            let kind = kind_of(*tag)?;
-            let (name, value) = split_zero(rest)?;
-            Some((kind, name, value))
+    for (i, byte) in bytes.iter().enumerate() {
+        if *byte == 0 {
+            return Some(i);
         }
     }
+    None
 }
 
 // Returns the name of the element at a place, and the place after its value, or `None` at the end of
@@ -170,7 +158,7 @@ pub(crate) fn element_at(bytes: &[u8]) -> Option<(ElementType, &[u8], &[u8])>
 pub(crate) fn passed(bytes: &[u8], at: usize) -> Option<(&[u8], usize)>
     ensures given { (d : ℕ) (ps : Pairs) → BeginsWithElements d (drop at bytes.now) ps
         → IsPassed ps (drop at bytes.now) (option_map (λ x. (x.0.now, drop x.1 bytes.now)) result) }
-    ensures within { IfSome result (λ x. (at < x.1) × (x.1 ≤ length bytes.now)) }
+    ensures within { IfSome result (λ x. (at + length x.0.now + 2 ≤ x.1) × (x.1 ≤ length bytes.now)) }
 {
     if bytes.len() <= at {
         return None;
@@ -179,9 +167,11 @@ pub(crate) fn passed(bytes: &[u8], at: usize) -> Option<(&[u8], usize)>
     if tag == 0 {
         return None;
     }
-    let Some((name, _)) = split_zero(&bytes[at + 1..]) else {
+    let rest = &bytes[at + 1..];
+    let Some(len) = name_len(rest) else {
         return None;
     };
+    let name = &rest[..len];
     let Some(end) = value_end(size_of(tag), bytes, at + name.len() + 2) else {
         return None;
     };

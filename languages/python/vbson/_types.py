@@ -3,16 +3,30 @@ import datetime
 import decimal
 import functools
 import re
+import types
 from collections.abc import Mapping
 from typing import Any, Optional
 
 from . import _calls, _foreign, _paths, errors, scalars
-from ._reading import LENGTH, LONG, READERS, object_id, read_document
+from ._reading import LENGTH, LONG, READERS, read_document
 from ._writing import Writer, exact_decimal, unsupported
 from .errors import Error, IntegerTooLarge, NotADocument, NotEncodable, NotRepresentable, NoValue, UnsupportedType
-from .values import Int64
+from .values import Int64, ObjectId
 
 KEY = "v"
+
+
+def field_of(kind):
+    """Returns the name of the one field in which an object id of this type keeps its bytes; None if it is not made so."""
+    names, binary = [name for name, it in vars(kind).items() if isinstance(it, types.MemberDescriptorType)], bytes(range(12))
+    if len(names) != 1:
+        return None
+    try:
+        made = object.__new__(kind)
+        object.__setattr__(made, names[0], binary)
+        return names[0] if made == kind(binary) and hash(made) == hash(kind(binary)) else None
+    except (AttributeError, TypeError):
+        return None
 
 
 class Types:
@@ -92,7 +106,7 @@ class Plain(Types):
 
     def __init__(self):
         # (what _vbson makes values by)
-        self._made = (object_id, Int64, datetime.datetime, datetime.timezone.utc, scalars.decimal_of, self._other, None)
+        self._made = (ObjectId, "binary", Int64, datetime.datetime, datetime.timezone.utc, scalars.decimal_of, self._other, None)
 
     @staticmethod
     def _other(tag, content):
@@ -128,8 +142,8 @@ class Bson(Types):
         self._reading, self._registry = codec_options.CodecOptions(**options), codec_options.TypeRegistry
         self._writing = self._writing_with(None)
         # (what _vbson makes values by)
-        self._made = (objectid.ObjectId, int64.Int64, datetime.datetime, tz_util.utc, decimal128.Decimal128.from_bid, self._other,
-                      functools.partial(self._other, 3))
+        self._made = (objectid.ObjectId, field_of(objectid.ObjectId), int64.Int64, datetime.datetime, tz_util.utc,
+                      decimal128.Decimal128.from_bid, self._other, functools.partial(self._other, 3))
 
     def _writing_with(self, default):
         return self._reading.with_options(type_registry=self._registry(fallback_encoder=functools.partial(self._fallback, default)))

@@ -123,4 +123,17 @@ def decode_documents(block: Bytes, mode: Mode = CANONICAL, **options: bool) -> T
     out = _calls.Documents(_calls.empty(), _calls.empty(), 0, 0)
     status, made, diagnostics = _calls.block_by(_calls.library.vbson_decode_documents, out, mode, flags, given, len(given))
     errors.expect_ok(status)
-    return made, errors.of_documents(diagnostics, given)
+    # (a block of which a document is rejected is read again)
+    count = out.documents if diagnostics else 0
+    return made, errors.of_documents(count, given, lambda document: _error_of(mode, flags, document))
+
+
+def _error_of(mode, flags, document):
+    """Returns the error of a document that has no text in the mode; None if it has one."""
+    if flags & DOUBLES and _calls.library.vbson_is_document(document, len(document)) == errors.OK:
+        return None
+    try:
+        decoded(mode, flags, document)
+    except Error as error:
+        return error
+    return None

@@ -1,5 +1,4 @@
-"""The errors of the library, as data. Only this module reads diagnostics of the library."""
-import re
+"""The errors of the library, as data. Only this module reads a diagnostic of the library, the number of a line."""
 from typing import List, Optional, Union
 
 from . import _paths
@@ -121,10 +120,6 @@ def expect_ok(status):
         raise of_status(status)
 
 
-# The diagnostics of documents.
-_OF_DOCUMENT = re.compile(r"document (\d+) at byte (\d+): (.*?)(?: at its byte (\d+))?")
-
-
 def is_of_text(status):
     """Returns whether `vbson_explain` has more for a text with this status."""
     return status in _OF_TEXTS
@@ -167,15 +162,18 @@ def of_double(document, hidden=0):
     return NotRepresentable(f"not representable{f' at {_paths.joined(path)}' if path else ''} ({reason})", reason, path)
 
 
-def of_documents(diagnostics, block):
-    """Returns the number, the offset and the error of each rejected document of a block, from its diagnostic."""
-    refused = []
-    for diagnostic in diagnostics:
-        number, start, reason, offset = _OF_DOCUMENT.fullmatch(diagnostic).groups()
-        length = int.from_bytes(block[int(start):int(start) + 4], "little")
-        document = block[int(start):int(start) + length]
-        error = of_double(document) if offset is None else of_bytes(reason, int(offset), document)
-        refused.append((int(number), int(start), error))
+def of_documents(count, block, error_of):
+    """Returns the number, the offset and the error of each rejected document among so many of a block: error_of returns the
+    error of the document alone, or None."""
+    refused, start = [], 0
+    for number in range(1, count + 1):
+        # (the bytes of a document are at least those of its length)
+        length = int.from_bytes(block[start:start + 4], "little", signed=True)
+        document = block[start:start + max(length, 4)]
+        error = error_of(document)
+        if error is not None:
+            refused.append((number, start, error))
+        start += len(document)
     return refused
 
 

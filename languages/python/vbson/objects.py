@@ -40,9 +40,10 @@ def loads(text: Given, types: str = "plain", object_hook: _Hook = None, **option
     given, kinds = text_bytes(text), types_of(types)
     flags = writing_flags(options, given)
     # (each value is read under a key, since bson treats a document at the top differently)
-    if b'"~"' not in given and b"\\u" not in given:
+    if not (b"~" in given and b'"~"' in given) and not (b"\\" in given and b"\\u" in given):
         # No further key is read as that one, so that a document of one key has in it the value of the whole text.
-        found = kinds.only_value(flags, b'{"~":' + given + b"}")
+        # (one byte is found in a tenth of the time of two, and a join copies once)
+        found = kinds.only_value(flags, b"".join((b'{"~":', given, b"}")))
         if found is not None:
             return hooked(found[0], object_hook)
     return hooked(kinds.value_of(under_a_key(flags, given)), object_hook)

@@ -106,23 +106,28 @@ pub struct RefusedDocument {
     pub error: Error,
 }
 
-/// The rejected documents of a block, of their diagnostics.
-pub(crate) fn of_documents(diagnostics: &str, block: &[u8]) -> Vec<RefusedDocument> {
-    let refused = |it| refused_document(it, block).expect("a diagnostic has a number and an offset");
-    diagnostics.lines().map(refused).collect()
+/// The rejected documents among the first `count` of a block, each of which is read again. `error_of` returns the error of
+/// the document alone.
+pub(crate) fn of_documents(
+    count: u64,
+    block: &[u8],
+    error_of: impl Fn(&[u8]) -> Option<Error>,
+) -> Result<Vec<RefusedDocument>, Error> {
+    let (mut refused, mut start) = (Vec::new(), 0);
+    for number in 1..=count {
+        let document = first_document(&block[start..]);
+        match error_of(document) {
+            Some(error) if error.kind() == ErrorKind::OutOfMemory => return Err(error),
+            Some(error) => refused.push(RefusedDocument { number, start: start as u64, error }),
+            None => (),
+        }
+        start += document.len();
+    }
+    Ok(refused)
 }
 
-/// The parts of a diagnostic, `document 3 at byte 40: ends too early at its byte 4`, or `document 3 at byte 40: a finite double`.
-fn refused_document(diagnostic: &str, block: &[u8]) -> Option<RefusedDocument> {
-    let (head, words) = diagnostic.strip_prefix("document ")?.split_once(": ")?;
-    let (number, start) = head.split_once(" at byte ")?;
-    let start: u64 = start.parse().ok()?;
-    let rest = block.get(start as usize..)?;
-    let length = rest.get(..4).map(|it| u32::from_le_bytes(it.try_into().expect("four bytes")) as usize);
-    let document = &rest[..length.unwrap_or(0).min(rest.len())];
-    let error = match words.rsplit_once(" at its byte ") {
-        Some((reason, at)) => of_bytes(reason, at.parse().ok()?, document),
-        None => of_double(document),
-    };
-    Some(RefusedDocument { number: number.parse().ok()?, start, error })
+/// The bytes of the first document: as many as its length says, at least those of the length, and at most all.
+fn first_document(bytes: &[u8]) -> &[u8] {
+    let length = bytes.get(..4).map_or(0, |it| i32::from_le_bytes(it.try_into().expect("four bytes")));
+    &bytes[..bytes.len().min(length.max(4) as usize)]
 }

@@ -2,7 +2,7 @@
 use crate::block::Block;
 use crate::explain::{of_documents, of_lines, RefusedDocument};
 use crate::text::owned;
-use crate::{call, convert_with, encode, Bytes, Error, Mode, Options, Text};
+use crate::{call, convert_with, decode, encode, is_document, Bytes, Error, Mode, Options, Text};
 
 /// The result for a block of lines.
 #[derive(Debug)]
@@ -76,7 +76,11 @@ pub struct Documents {
 /// - `OutOfMemory` if an allocation fails. A rejected document is not an error of the call.
 pub fn decode_documents(mode: Mode, options: Options, block: &[u8]) -> Result<Documents, Error> {
     let raw = call::decode_documents(mode as u32, options.raw(), block)?;
-    let (text, diagnostics) = (owned(raw.text), owned(raw.diagnostics));
-    let refused = of_documents(&diagnostics, block);
+    let (text, diagnostics) = (owned(raw.text), Block::of(raw.diagnostics));
+    // (a check takes less time than the output)
+    let is_accepted = |it: &[u8]| options.doubles && is_document(it);
+    let error_of = |it: &[u8]| if is_accepted(it) { None } else { decode(mode, options, it).err() };
+    let count = if diagnostics.is_empty() { 0 } else { raw.documents };
+    let refused = of_documents(count, block, error_of)?;
     Ok(Documents { text, count: raw.documents, consumed: raw.consumed, refused })
 }

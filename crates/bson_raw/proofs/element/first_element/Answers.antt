@@ -1,18 +1,14 @@
-use Rattle.bson_raw.proofs.Finding.{first_is_element, first_none, first_skips, none_found, none_next, some_found, some_next}
+use Rattle.std.proofs.Common.{◌+◌, length, sym, arith}
+use Rattle.bson_raw.proofs.Finding.{first_is_element}
+use Rattle.bson_raw.proofs.Passing.{emptied, sliced}
 use Rattle.bson_raw.proofs.element.first_element.Goals as goal
 
 pub returns-in_default-clause-first : goal.returns-in_default-clause-first
-returns-in_default-clause-first c =
-    λ d ps h. first_none d _ ps h (none_found c.element_at.result _ c.element_at.ensures.given c.in_default.is)
-
-pub returns-in_default-skip_value-clause-first : goal.returns-in_default-skip_value-clause-first
-returns-in_default-skip_value-clause-first c =
-    λ d ps h. absurd (first_skips d _ ps c.in-Some.kind c.in-Some.key.now c.in-Some.value.now h
-    (some_found c.element_at.result _ c.in-Some.kind c.in-Some.key c.in-Some.value c.element_at.ensures.given c.in-Some.is)
-    (none_next c.skip_value.result _ c.skip_value.ensures.given c.in_default-skip_value.is))
+returns-in_default-clause-first c = λ d ps h. emptied d c.args.bytes.now 0 ps h (omega (arith, c.in_default.len_below))
 
 pub returns-clause-first : goal.returns-clause-first
 returns-clause-first c =
-    λ d ps h. first_is_element d _ ps c.in-Some.kind c.in-Some.key c.in-Some.value c.in-Some-skip_value.rest h
-    (some_found c.element_at.result _ c.in-Some.kind c.in-Some.key c.in-Some.value c.element_at.ensures.given c.in-Some.is)
-    (some_next c.skip_value.result _ c.in-Some-skip_value.rest c.skip_value.ensures.given c.in-Some-skip_value.is)
+    λ d ps h. first_is_element d c.args.bytes.now ps c.type_of-kind.result c.in-Some.key _ _ _ h
+    c.type_of-kind.ensures (c.in-Some.ensures.given d ps h)
+    (sliced c.args.bytes.now (length c.in-Some.key.now + 2) (omega (arith, c.in-Some.ensures.within)))
+    (sym (sliced c.args.bytes.now c.in-Some.end (omega (arith, c.in-Some.ensures.within))))
