@@ -131,8 +131,8 @@ fn kind_of_word(command: Command) -> &'static str
     }
 }
 
-// Returns the name of a task.
-fn task_name(task: Task) -> &'static str
+/// Returns the name of a task.
+pub fn task_name(task: Task) -> &'static str
     ensures { result.now ≡ task_name task }
 {
     match task {
