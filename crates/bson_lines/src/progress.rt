@@ -6,10 +6,9 @@ ghost use Rattle.bson_lines.specs.Stops.{told_under};
 use crate::messages::name_verdicts;
 use std::alloc::Global;
 use std::cell::Cell;
-use std::io;
 use std::io::{Read, Write};
-use std::str;
 use std::time::{Duration, Instant};
+use std::{io, str};
 
 /// Milliseconds from one line to the next.
 const LEAST_PAUSE: u64 = 100;
@@ -19,6 +18,7 @@ const CLEARED: &str = "\r\x1b[K";
 
 /// What verdicts have of a number that is no 64-bit integer, and of a document with a finite double.
 const NO_INTEGER: &str = " (not a 64-bit integer; found ";
+
 const FINITE_DOUBLE: &str = ": a finite double";
 
 /// How far a run is.

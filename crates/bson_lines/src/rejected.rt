@@ -21,15 +21,20 @@ use bson_run::taken::take_as;
 use bson_scalar::doubles::NUMBER;
 use std::alloc::{AllocError, Global};
 
-const ARCHIVE: &str =
-    "is an archive of mongodump; mongodump without '--archive' writes dumps";
+const ARCHIVE: &str = "is an archive of mongodump; mongodump without '--archive' writes dumps";
+
 const UTF_16: &str = "is UTF-16, and JSON is UTF-8; give it through 'iconv -f UTF-16 -t UTF-8'";
+
 const UTF_16_LITTLE_ENDIAN: &str =
     "is UTF-16, and JSON is UTF-8; give it through 'iconv -f UTF-16LE -t UTF-8'";
+
 const UTF_16_BIG_ENDIAN: &str =
     "is UTF-16, and JSON is UTF-8; give it through 'iconv -f UTF-16BE -t UTF-8'";
+
 const MARK: &str = "begins with a byte order mark, which only a named file may";
-const LONG_TEXTS: &str = "holds texts of several lines; write each on a line of its own, as mongoexport without '--pretty' does";
+
+const LONG_TEXTS: &str =
+    "holds texts of several lines; write each on a line of its own, as mongoexport without '--pretty' does";
 
 /// Returns the line that helps with an input that was rejected, whose first bytes these are; nothing
 /// where it was not, or where nothing helps.
@@ -64,10 +69,16 @@ pub fn is_rejected(ended: &Result<Counts, Stop<'_>>) -> bool {
     match ended {
         Ok(counts) => counts.refused > 0,
         Err(Stop::Text(_, _, fault, _)) => {
-            !matches!(fault, Error::CannotRead | Error::CannotWrite | Error::OutOfMemory)
+            !matches!(
+                fault,
+                Error::CannotRead | Error::CannotWrite | Error::OutOfMemory
+            )
         }
         Err(Stop::Document(_, end)) => {
-            matches!(end.fault, RunFault::Malformed { .. } | RunFault::FiniteDouble)
+            matches!(
+                end.fault,
+                RunFault::Malformed { .. } | RunFault::FiniteDouble
+            )
         }
         Err(_) => false,
     }
@@ -201,7 +212,9 @@ fn tell(alloc: Global, hint: Hint, words: &str) -> Result<String, AllocError>
 {
     match hint {
         Hint::Text => {
-            format!(in alloc; "holds text, and no BSON bytes; './bson lines {words}' reads a document per line")
+            format!(in alloc;
+                "holds text, and no BSON bytes; './bson lines {words}' reads a document per line"
+            )
         }
         Hint::TextPerLine => {
             format!(in alloc; "holds several texts; './bson lines {words}' reads one per line")
@@ -210,7 +223,9 @@ fn tell(alloc: Global, hint: Hint, words: &str) -> Result<String, AllocError>
             format!(in alloc; "is one text over several lines, it seems; './bson {words}' reads it")
         }
         Hint::OneTextToEncode => {
-            format!(in alloc; "is one text over several lines, it seems; './bson {words}' makes a line of it")
+            format!(in alloc;
+                "is one text over several lines, it seems; './bson {words}' makes a line of it"
+            )
         }
         Hint::Gzip => String::from_str(alloc, "is compressed; give it through 'gzip -dc'"),
         Hint::Zstd => String::from_str(alloc, "is compressed; give it through 'zstd -dc'"),
