@@ -1,5 +1,5 @@
 -- What the first bytes of a rejected input show that it holds in place of what it should.
-use Rattle.std.specs.Prelude.{◌≡◌, ◌==◌, ◌||◌, ◌&&◌, ◌+◌, ◌-◌, ◌*◌, ℕ, suc, Bool, true, false, not, List, [], ◌∷◌, ◌++◌, Option, None, Some}
+use Rattle.std.specs.Prelude.{◌==◌, ◌||◌, ◌&&◌, ◌+◌, ◌-◌, ◌*◌, ℕ, Bool, true, false, not, List, [], ◌∷◌, ◌++◌, Option, None, Some}
 use Rattle.std.specs.Prelude.{if◌then◌else◌, codes, length, nat_eq, nat_le, nat_lt, slice_index, reverse, take, drop, is_some}
 use Rattle.std.specs.List.{find, starts_with}
 use Rattle.bson_lines.specs.Messages.{line_len, shown_name}

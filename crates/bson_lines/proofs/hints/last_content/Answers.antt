@@ -1,4 +1,4 @@
-use Rattle.std.proofs.Common.{rules, tests, not, ◌≡◌, ◌∙◌}
+use Rattle.std.proofs.Common.{rules, tests, not, ◌∙◌}
 use Rattle.std.proofs.lemmas.Iterator.Adapters.{YieldsList-from_rev_slice}
 use Rattle.std.proofs.lemmas.Iterator.Search.{find_from_yields_List}
 use Rattle.bson_lines.specs.Hints.{is_blank}

@@ -1,5 +1,4 @@
 use Rattle.std.proofs.Common.{◌≡◌, ◌++◌, IfOk, append_assoc, codes, string_bytes, subst}
-use Rattle.bson_lines.specs.Hints.{told_of}
 use Rattle.bson_lines.specs.Messages.{shown_name}
 use Rattle.bson_lines.proofs.rejected.hint_line.Goals as goal
 
