@@ -5,3 +5,4 @@ pub mod Order
 pub mod Stops
 pub mod Dump
 pub mod Whole
+pub mod Hints

@@ -3,19 +3,21 @@
 //!
 //! The library `bson_run` converts. This crate has the arguments (`order`, `arguments`, `values`,
 //! `choices`, `fits`), the files (`run`, `streams`, `output`; `whole` for one text, `dump` for BSON
-//! documents), the line of progress (`progress`), the lines on standard error (`messages`, `misuse`),
-//! the help (`words`) and the statuses.
+//! documents), the line of progress (`progress`), the lines on standard error (`messages`, `misuse`,
+//! `hints`, `rejected`), the help (`words`) and the statuses.
 #![tactic(auto)]
 
 mod arguments;
 mod choices;
 mod dump;
 mod fits;
+mod hints;
 mod messages;
 mod misuse;
 mod order;
 mod output;
 mod progress;
+mod rejected;
 mod run;
 mod streams;
 mod values;
@@ -75,16 +77,21 @@ fn reject(rt: &HostRuntime, wrong: &Wrong) -> ExitCode {
     }
 }
 
-// Runs, and tells what came of it.
+// Runs, and tells what came of it, and what helps with the inputs that were rejected.
 fn run_order(rt: &HostRuntime, order: &Order) -> ExitCode {
-    match run(rt, order) {
+    let mut hints = Vec::new(rt.alloc());
+    let status = match run(rt, order, &mut hints) {
         Ok(counts) if counts.refused == 0 => ExitCode::SUCCESS,
         Ok(counts) => end_with(rt, summary(rt.alloc(), order.input, counts)),
         Err(Stop::Output(_, Some(error))) if error.kind() == ErrorKind::BrokenPipe => {
             ExitCode::from(NO_READER)
         }
         Err(stop) => end_with(rt, line_of(rt.alloc(), stop)),
+    };
+    for hint in hints.iter() {
+        let _ = rt.eprintln(hint.as_str());
     }
+    status
 }
 
 // Status 1, once the line was given to standard error.

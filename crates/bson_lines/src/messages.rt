@@ -129,8 +129,8 @@ fn line_head(alloc: Global, name: &str, number: u64) -> Result<String, AllocErro
     format!(in alloc; "{name}:{number}")
 }
 
-// A file as messages name it.
-fn show_name(alloc: Global, name: &str, stream: &str) -> Result<String, AllocError>
+/// A file as messages name it.
+pub fn show_name(alloc: Global, name: &str, stream: &str) -> Result<String, AllocError>
     ensures { IfOk result (λ shown. string_bytes shown ≡ shown_name name.now stream.now) }
 {
     if name == STANDARD {
@@ -193,8 +193,8 @@ pub fn name_verdicts(alloc: Global, name: &str, verdicts: &[u8]) -> Result<Vec<u
     Ok(named)
 }
 
-// How long the first line is, with the newline behind it.
-fn line_len(bytes: &[u8]) -> usize
+/// How long the first line is, with the newline behind it.
+pub fn line_len(bytes: &[u8]) -> usize
     ensures { result ≡ line_len bytes.now }
 {
     match newline_at(bytes) {

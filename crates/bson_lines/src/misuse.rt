@@ -141,8 +141,8 @@ fn mode_without(flag: Flag, task: Task) -> &'static str
     }
 }
 
-// Returns the name of a task.
-fn task_name(task: Task) -> &'static str
+/// Returns the name of a task.
+pub fn task_name(task: Task) -> &'static str
     ensures { result.now ≡ task_name task }
 {
     match task {

@@ -6,15 +6,20 @@ ghost use Rattle.bson_lines.specs.Stops.{told_under};
 use crate::messages::name_verdicts;
 use std::alloc::Global;
 use std::cell::Cell;
-use std::io;
 use std::io::{Read, Write};
 use std::time::{Duration, Instant};
+use std::{io, str};
 
 /// Milliseconds from one line to the next.
 const LEAST_PAUSE: u64 = 100;
 
 /// Takes what is written there off the terminal's line.
 const CLEARED: &str = "\r\x1b[K";
+
+/// What verdicts have of a number that is no 64-bit integer, and of a document with a finite double.
+const NO_INTEGER: &str = " (not a 64-bit integer; found ";
+
+const FINITE_DOUBLE: &str = ": a finite double";
 
 /// How far a run is.
 #[derive(Drop)]
@@ -91,18 +96,39 @@ impl<'a> Progress<'a> {
     }
 }
 
+// Whether verdicts tell of a number that is read without `--strict`.
+fn tells_double(verdicts: &[u8]) -> bool {
+    match str::from_utf8(verdicts) {
+        Ok(text) => text.contains(NO_INTEGER) || text.contains(FINITE_DOUBLE),
+        Err(_) => false,
+    }
+}
+
 fn newlines(bytes: &[u8]) -> u64
     ensures { result ≡ count_by (λ byte. byte == 10) bytes.now }
 {
     bytes.iter().filter(|byte| **byte == b'\n').count() as u64
 }
 
-/// A reader whose bytes count as progress, which keeps why a read failed.
+/// As many first bytes of an input are kept, or a few more.
+const HEAD: usize = 65536;
+
+/// A reader whose bytes count as progress, which keeps the first bytes, and why a read failed.
 #[derive(Drop)]
 pub struct Counted<'a, R> {
     pub reader: R,
     pub progress: &'a Progress<'a>,
+    pub head: Vec<u8>,
     pub error: Option<io::Error>,
+}
+
+impl<R> Counted<'_, R> {
+    // Keeps bytes that are among the first. Where memory is wanting there are fewer.
+    fn keep(&mut self, bytes: &[u8]) {
+        if self.head.len() < HEAD {
+            let _ = self.head.extend_from_slice(bytes);
+        }
+    }
 }
 
 impl<R: Read> Read for Counted<'_, R> {
@@ -110,6 +136,7 @@ impl<R: Read> Read for Counted<'_, R> {
         match self.reader.read(buf) {
             Ok(count) => {
                 self.progress.add_bytes(&buf[..count]);
+                self.keep(&buf[..count]);
                 Ok(count)
             }
             Err(error) => {
@@ -128,6 +155,7 @@ pub struct Verdicts<'a, T> {
     pub writer: T,
     pub name: Option<String>,
     pub progress: &'a Progress<'a>,
+    pub has_double: bool,
     pub error: Option<io::Error>,
 }
 
@@ -150,6 +178,7 @@ impl<T: Write> Verdicts<'_, T> {
 impl<T: Write> Write for Verdicts<'_, T> {
     fn write(&mut self, buf: &[u8]) -> io::Result<usize> {
         self.progress.clear();
+        self.has_double = self.has_double || tells_double(buf);
         match self.put(buf) {
             Ok(()) => {
                 let refused = self.progress.refused.get();

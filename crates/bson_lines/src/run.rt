@@ -9,6 +9,7 @@ use crate::messages::head_of;
 use crate::order::{Input, Order, STANDARD};
 use crate::output::Output;
 use crate::progress::{Counted, Progress, Verdicts};
+use crate::rejected::{ends_at_double, help_with, is_rejected};
 use crate::streams::{Sink, Source};
 use crate::whole::convert_whole;
 use bson_codec::run_end::RunEnd;
@@ -46,8 +47,13 @@ pub enum Stop<'a> {
 
 /// Converts the lines of all files in their order. It stops where a file can't be read or written,
 /// or as a run over lines does. Nothing is read or written before each file was found to be one that
-/// opens, and none that is written, and no bytes of BSON go to a terminal.
-pub fn run<'a>(rt: &HostRuntime, order: &'a Order) -> Result<Counts, Stop<'a>> {
+/// opens, and none that is written, and no bytes of BSON go to a terminal. Where an input is rejected
+/// for what it holds instead, a hint is added.
+pub fn run<'a>(
+    rt: &HostRuntime,
+    order: &'a Order,
+    hints: &mut Vec<String>,
+) -> Result<Counts, Stop<'a>> {
     if order.writes_bytes() && order.output.as_str() == STANDARD && rt.stdout().is_terminal() {
         return Err(Stop::Terminal);
     }
@@ -60,7 +66,7 @@ pub fn run<'a>(rt: &HostRuntime, order: &'a Order) -> Result<Counts, Stop<'a>> {
         Err(error) => return Err(Stop::Output(name, Some(error))),
     };
     let progress = Progress::new(rt, total(rt, order), order.input != Input::Documents);
-    let counts = run_all(rt, order, &mut output.sink, &progress);
+    let counts = run_all(rt, order, &mut output.sink, &progress, hints);
     progress.clear();
     match counts {
         Ok(counts) => match output.finish(rt) {
@@ -79,13 +85,14 @@ fn run_all<'a>(
     order: &'a Order,
     sink: &mut Sink,
     progress: &Progress<'_>,
+    hints: &mut Vec<String>,
 ) -> Result<Counts, Stop<'a>> {
     let mut all = Counts {
         lines: 0,
         refused: 0,
     };
     for name in order.inputs.iter() {
-        let counts = run_one(rt, order, name.as_str(), sink, progress)?;
+        let counts = run_one(rt, order, name.as_str(), sink, progress, hints)?;
         all.lines = all.lines.saturating_add(counts.lines);
         all.refused = all.refused.saturating_add(counts.refused);
     }
@@ -99,10 +106,12 @@ fn run_one<'a>(
     name: &'a str,
     sink: &mut Sink,
     progress: &Progress<'_>,
+    hints: &mut Vec<String>,
 ) -> Result<Counts, Stop<'a>> {
     let mut reader = Counted {
         reader: source(rt, name)?,
         progress,
+        head: Vec::new(rt.alloc()),
         error: None,
     };
     let mut report = Verdicts {
@@ -110,13 +119,21 @@ fn run_one<'a>(
         writer: rt.stderr(),
         name: title(rt, order, name)?,
         progress,
+        has_double: false,
         error: None,
     };
-    match order.input {
+    let ended = match order.input {
         Input::Lines => run_each(rt, order, name, &mut reader, sink, &mut report),
         Input::Text => run_text(rt, order, name, &mut reader, sink),
         Input::Documents => run_dump(rt, order, name, &mut reader, sink, &mut report),
+    };
+    let has_double = report.has_double || ends_at_double(order.options, &ended);
+    if is_rejected(&ended) {
+        if let Some(hint) = help_with(rt.alloc(), order, name, &reader.head, has_double) {
+            let _ = hints.push(hint);
+        }
     }
+    ended
 }
 
 // Converts each line of a file.
