@@ -11,3 +11,4 @@ pub use Rattle.bson_bytes.proofs.Standing.{new_from, new_again}
 pub use Rattle.bson_bytes.proofs.PartLaws.{wide32, length-le, size_again}
 pub use Rattle.bson_bytes.proofs.Passed.{passed_ok, passed_err}
 pub use Rattle.bson_bytes.proofs.Texts.{string_utf8}
+pub use Rattle.bson_bytes.proofs.Splits.{before}

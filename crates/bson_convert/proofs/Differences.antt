@@ -2,21 +2,21 @@
 use Rattle.std.proofs.Common.{◌≡◌, ◌≢◌, ◌⊎◌, inl, inr, ◌<◌, ◌≤◌, ℕ, suc, min, List, get_or, length, take, arith, sym, ap, ◌∙◌}
 use Rattle.std.proofs.lemmas.Bool.{cases_order}
 use Rattle.std.proofs.lemmas.List.{get_or-take, length-take, take-take, take_all}
-use Rattle.bson_convert.specs.Difference.{DifferAt}
+use Rattle.bson_convert.specs.Difference.{IsFirstDifferenceAt}
 
 -- the same list does not differ
-pub no_difference : (column : ℕ) (a b : List ℕ) → DifferAt column a b → a ≡ b → ⊥
+pub no_difference : (column : ℕ) (a b : List ℕ) → IsFirstDifferenceAt column a b → a ≡ b → ⊥
 no_difference column a b h same = h.differ (ap (take column) same)
 
 -- what begins with the same bytes begins with fewer
 fewer : (n m : ℕ) (a b : List ℕ) → n ≤ m → take m a ≡ take m b → take n a ≡ take n b
 fewer n m a b h same = sym (take-take n m a h) ∙ ap (take n) same ∙ take-take n m b h
 
-earlier : (column other : ℕ) (a b : List ℕ) → DifferAt column a b → DifferAt other a b → column < other → ⊥
+earlier : (column other : ℕ) (a b : List ℕ) → IsFirstDifferenceAt column a b → IsFirstDifferenceAt other a b → column < other → ⊥
 earlier column other a b x y h = x.differ (fewer column y.before a b (omega (arith, h, y.counted)) y.same)
 
 -- two lists begin to differ in one byte
-pub one_difference : (column other : ℕ) (a b : List ℕ) → DifferAt column a b → DifferAt other a b → column ≡ other
+pub one_difference : (column other : ℕ) (a b : List ℕ) → IsFirstDifferenceAt column a b → IsFirstDifferenceAt other a b → column ≡ other
 one_difference column other a b x y = one (cases_order column other)
   where
     one : (column ≡ other) ⊎ ((column < other) ⊎ (other < column)) → column ≡ other

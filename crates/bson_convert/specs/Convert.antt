@@ -21,7 +21,7 @@ use Rattle.bson_convert.specs.declared.converted.Tried.TheVariants.{Written, Arr
 use Rattle.bson_convert.specs.declared.mode.Mode.{Mode}
 use Rattle.bson_convert.specs.declared.mode.Mode.TheVariants.{Canonical, Relaxed, Show}
 use Rattle.bson_convert.specs.declared.error.Error.{Error}
-use Rattle.bson_convert.specs.Difference.{DifferAt}
+use Rattle.bson_convert.specs.Difference.{IsFirstDifferenceAt}
 use Rattle.bson_convert.specs.declared.error.Error.TheVariants.{NotJson, NotExtendedJson, NotCanonical, OutOfMemory}
 
 -- what is done where no options are given
@@ -112,7 +112,7 @@ IsCanonicalText o bytes = ConvertsIn o Canonical bytes (bytes ++ newline)
 pub record IsUncanonicalAt (o : Options) (column : ℕ) (bytes : List ℕ) : Type 0 where
   pub text : List ℕ
   pub converts : ConvertsIn o Canonical bytes (text ++ newline)
-  pub differ : DifferAt column bytes text
+  pub differ : IsFirstDifferenceAt column bytes text
 
 -- what each fault says of bytes that are not canonical
 abbrev pub IsUncanonicalIn : Options → Error → List ℕ → Type 0

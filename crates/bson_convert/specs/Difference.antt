@@ -2,7 +2,7 @@
 use Rattle.std.specs.Prelude.{◌≡◌, ◌≢◌, ℕ, suc, List, take}
 
 -- they differ in the byte of this column, counted from 1, and in none before it
-pub record DifferAt (column : ℕ) (a b : List ℕ) : Type 0 where
+pub record IsFirstDifferenceAt (column : ℕ) (a b : List ℕ) : Type 0 where
   pub before : ℕ
   pub counted : column ≡ suc before
   pub same : take before a ≡ take before b

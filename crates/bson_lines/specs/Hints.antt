@@ -31,8 +31,8 @@ last_opens None = false
 last_opens (Some byte) = is_opening byte || (byte == 44)
 
 -- the line opens an array or an object, and ends with what opens another or with a comma
-abbrev pub opens : List ℕ → Bool
-opens line = last_opens (find (λ byte. not (is_blank byte)) (reverse line)) && starts_text line
+abbrev pub opens_over_lines : List ℕ → Bool
+opens_over_lines line = last_opens (find (λ byte. not (is_blank byte)) (reverse line)) && starts_text line
 
 -- with its newline
 abbrev pub first_line : List ℕ → List ℕ
@@ -92,8 +92,8 @@ is_high_first head = if nat_lt (length head) 4 then false
     && not (slice_index head 3 == 0)))
 
 -- how a text is encoded that is no UTF-8, or that it is no text
-abbrev pub encoding_of : List ℕ → Option Hint
-encoding_of head =
+abbrev pub hint_of_encoding : List ℕ → Option Hint
+hint_of_encoding head =
     if starts_with nat_eq head (255 ∷ 254 ∷ []) || starts_with nat_eq head (254 ∷ 255 ∷ []) then Some hint.Utf16
     else (if is_low_first head then Some hint.Utf16LittleEndian
     else (if is_high_first head then Some hint.Utf16BigEndian
@@ -114,7 +114,7 @@ hint_of_one rejected head =
 -- where a text per line is
 abbrev pub hint_of_lines : Rejected → List ℕ → Option Hint
 hint_of_lines rejected head =
-    if opens (first_line head) && has_content (behind_line head) then Some (if rejected.has_more then hint.LongTexts
+    if opens_over_lines (first_line head) && has_content (behind_line head) then Some (if rejected.has_more then hint.LongTexts
     else (if rejected.encodes then hint.OneTextToEncode else hint.OneText))
     else doubles rejected.has_double
 
@@ -129,8 +129,8 @@ or_else None other = other
 or_else (Some hint) other = Some hint
 
 abbrev pub hint_of_input : Input → Rejected → List ℕ → Option Hint
-hint_of_input Text rejected head = or_else (encoding_of head) (hint_of_one rejected head)
-hint_of_input Lines rejected head = or_else (encoding_of head) (hint_of_lines rejected head)
+hint_of_input Text rejected head = or_else (hint_of_encoding head) (hint_of_one rejected head)
+hint_of_input Lines rejected head = or_else (hint_of_encoding head) (hint_of_lines rejected head)
 hint_of_input Documents rejected head = hint_of_dump rejected head
 
 abbrev pub hint_of : Rejected → List ℕ → Option Hint

@@ -1,10 +1,10 @@
 //! What a rejected input holds in place of what it should, as its first bytes show.
 ghost use Rattle.std.specs.Prelude.{◌≡◌, not, reverse};
 ghost use Rattle.std.specs.List.{find};
-ghost use Rattle.bson_lines.specs.Hints.{behind_line, compression_of, doubles, encoding_of, ends_in_zero, first_line};
+ghost use Rattle.bson_lines.specs.Hints.{behind_line, compression_of, doubles, hint_of_encoding, ends_in_zero, first_line};
 ghost use Rattle.bson_lines.specs.Hints.{hint_of, hint_of_dump, hint_of_lines, hint_of_one, is_blank, is_dump};
 ghost use Rattle.bson_lines.specs.Hints.{has_content, is_high_first, is_length, is_low_first};
-ghost use Rattle.bson_lines.specs.Hints.{is_opening, little, opens, starts_text};
+ghost use Rattle.bson_lines.specs.Hints.{is_opening, little, opens_over_lines, starts_text};
 
 use crate::messages::line_len;
 use crate::order::Input;
@@ -161,7 +161,7 @@ fn compression_of(head: &[u8]) -> Option<Hint>
 
 // How a text is encoded that is no UTF-8, or that it is no text.
 fn encoding_of(head: &[u8]) -> Option<Hint>
-    ensures { result ≡ encoding_of head.now }
+    ensures { result ≡ hint_of_encoding head.now }
 {
     if head.starts_with(b"\xff\xfe") || head.starts_with(b"\xfe\xff") {
         return Some(Hint::Utf16);
@@ -251,7 +251,7 @@ fn starts_text(head: &[u8]) -> bool
 
 // Whether the line opens an array or an object, and ends with what opens another or with a comma.
 fn opens(line: &[u8]) -> bool
-    ensures { result ≡ opens line.now }
+    ensures { result ≡ opens_over_lines line.now }
 {
     match last_content(line) {
         Some(last) => (is_opening(last) || last == b',') && starts_text(line),

@@ -18,7 +18,7 @@ use Rattle.bson_scalar.specs.TreeText.{tree_text}
 use Rattle.bson_scalar.specs.declared.form.Form.TheVariants as form
 use Rattle.bson_convert.specs.Convert.{ConvertsIn, IsAccepted, IsOutputIn, IsRefusedIn, newline}
 use Rattle.bson_convert.proofs.Offered.{no_difference, one_difference}
-use Rattle.bson_convert.specs.Difference.{DifferAt}
+use Rattle.bson_convert.specs.Difference.{IsFirstDifferenceAt}
 use Rattle.bson_convert.specs.declared.error.Error.TheVariants.{NotExtendedJson, NoBytes}
 use Rattle.bson_convert.specs.declared.mode.Mode.{Mode}
 use Rattle.bson_convert.specs.declared.mode.Mode.TheVariants.{Canonical, Relaxed, Show}
@@ -292,7 +292,7 @@ module _ (o : Options) where
   one_column (Check criterion.Canonical) column other text x y =
       let ended = one_converted Canonical text (y.text ++ newline) (x.text ++ newline) y.converts x.converts in
       let same : y.text ≡ x.text = append_cancel_right y.text x.text newline ended in
-      one_difference column other text x.text x.differ (subst (DifferAt other text) same y.differ)
+      one_difference column other text x.text x.differ (subst (IsFirstDifferenceAt other text) same y.differ)
   one_column Encode column other text x y = absurd x
   one_column EncodeInOrder column other text x y = absurd x
   one_column (Taken taking it) column other text x y = absurd x

@@ -1,6 +1,6 @@
 use Rattle.std.proofs.Common.{◌≡◌, take, drop}
 use Rattle.bson_bytes.specs.Reading.{split_zero}
-use Rattle.bson_bytes.proofs.Splits.{before}
+use Rattle.bson_bytes.proofs.Offered.{before}
 use Rattle.bson_raw.proofs.skip.name_len.Given as goal
 
 abbrev pub invariant-loop-i : goal.invariant-loop-i
