@@ -87,8 +87,7 @@ fn accepts(flag: Flag, input: Input, task: Task) -> bool
 fn reads_texts(input: Input, task: Task) -> bool
     ensures { result ≡ flags.reads_texts input task }
 {
-    input != Input::Documents
-        && !matches!(task, Task::Encode | Task::Check(Criterion::Canonical))
+    input != Input::Documents && !matches!(task, Task::Encode | Task::Check(Criterion::Canonical))
 }
 
 // Returns whether what is read is only judged.
