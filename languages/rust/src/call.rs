@@ -184,9 +184,9 @@ fn expect_ok(status: u32) -> Result<(), ErrorKind> {
         ZERO_IN_KEY => Err(ErrorKind::ZeroInKey),
         ZERO_IN_REGEX => Err(ErrorKind::ZeroInRegex),
         TOO_LONG => Err(ErrorKind::TooLong),
-        // `Mode`, `Options` and `ReadOptions` have no other number, `MAX_LENGTH` is enough, and `compared` looks for DIFFERENT.
-        // The calls on raw documents look for the last two.
-        INVALID_ARGUMENT | BUFFER_TOO_SMALL | DIFFERENT | NOT_FOUND | UNEXPECTED_TYPE => unreachable!(),
+        // `Mode`, `Options` and `ReadOptions` have no other number, `MAX_LENGTH` is enough, and `answered` looks for DIFFERENT
+        // and NOT_CANONICAL. The calls on raw documents look for the last two.
+        INVALID_ARGUMENT | BUFFER_TOO_SMALL | DIFFERENT | NOT_CANONICAL | NOT_FOUND | UNEXPECTED_TYPE => unreachable!(),
         other => unreachable!("status {other}"),
     }
 }
