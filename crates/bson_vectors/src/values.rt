@@ -60,7 +60,7 @@ fn refused_nowhere_in_writing_into_a_vector(rt: HostRuntime) -> Result<(), Fail>
     let options = Options::default();
     let written = value.write_text_into(rt.alloc(), options, Form::Relaxed, &mut out);
     assert!(rt; written.is_ok());
-    assert!(rt; out.as_slice() == b"[{\"x\":1,\"y\":2}]");
+    assert!(rt; out.as_slice() == b"[{\"x\":1,\"y\":2}]".as_slice());
     Ok(())
 }
 

@@ -77,7 +77,9 @@ pub extern "C" fn vbson_explain_nonnull(
     match explained(alloc, *options, text) {
         Ok(rejection) => *out = rejection,
         Err(PathError::OutOfMemory) => return status::OUT_OF_MEMORY,
-        Err(_) => return status::TOO_LONG,
+        Err(PathError::Key) => return status::TOO_LONG,
+        Err(PathError::Regex) => return status::TOO_LONG,
+        Err(PathError::Size) => return status::TOO_LONG,
     }
     status::OK
 }
