@@ -16,6 +16,7 @@
 mod append;
 mod buffer;
 mod builder;
+mod canonical;
 mod convert;
 mod decode;
 mod direct;
