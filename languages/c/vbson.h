@@ -277,6 +277,19 @@ static inline uint32_t vbson_convert_lines(uint32_t mode, const vbson_options *o
     return vbson_convert_lines_nonnull(mode, vbson_options_or_init(options), block, len, out);
 }
 
+uint32_t vbson_first_rejected_line_nonnull(uint32_t mode, const vbson_options *options, const uint8_t *block, size_t len,
+    uint64_t *number);
+
+/* Finds the first line of the block that vbson_convert_lines rejects, and writes its number, from 1. It reads no line after
+ * that. VBSON_NOT_FOUND if no line is rejected. To find the next one, call it again on the rest of the block that begins
+ * with the newline after the rejected line. That newline ends an empty line, which has the number 1 in the rest, and a byte
+ * order mark after it is not skipped. vbson_explain has the error of a line.
+ * VBSON_INVALID_ARGUMENT, VBSON_NOT_FOUND, VBSON_OUT_OF_MEMORY. */
+static inline uint32_t vbson_first_rejected_line(uint32_t mode, const vbson_options *options, const uint8_t *block,
+        size_t len, uint64_t *number) {
+    return vbson_first_rejected_line_nonnull(mode, vbson_options_or_init(options), block, len, number);
+}
+
 uint32_t vbson_same_nonnull(const vbson_options *options, const uint8_t *a, size_t a_len, const uint8_t *b, size_t b_len);
 
 /* Compares the values of two inputs. Arrays are compared element by element; documents are the same if they have the same
@@ -383,6 +396,16 @@ uint32_t vbson_encode_lines_nonnull(const vbson_options *options, const uint8_t 
 static inline uint32_t vbson_encode_lines(const vbson_options *options, const uint8_t *block, size_t len,
         vbson_lines *out) {
     return vbson_encode_lines_nonnull(vbson_options_or_init(options), block, len, out);
+}
+
+uint32_t vbson_first_unencoded_line_nonnull(const vbson_options *options, const uint8_t *block, size_t len, uint64_t *number);
+
+/* Finds the first line of the block that vbson_encode_lines rejects, as vbson_first_rejected_line does for
+ * vbson_convert_lines.
+ * VBSON_INVALID_ARGUMENT, VBSON_NOT_FOUND, VBSON_OUT_OF_MEMORY. */
+static inline uint32_t vbson_first_unencoded_line(const vbson_options *options, const uint8_t *block, size_t len,
+        uint64_t *number) {
+    return vbson_first_unencoded_line_nonnull(vbson_options_or_init(options), block, len, number);
 }
 
 /* The result for a block of documents. Free text and diagnostics with vbson_buffer_free. */

@@ -49,6 +49,41 @@ static void convert_lines(void) {
     free(many);
 }
 
+/* The number of the first line that is rejected, or that has no bytes; 0 if there is none, or 1000 and the status. */
+static uint64_t first_of(int is_encoded, uint32_t mode, uint32_t fields, const char *block) {
+    uint64_t number = 77;
+    uint32_t status = is_encoded ? vbson_first_unencoded_line(with(fields), TEXT(block), &number)
+                                 : vbson_first_rejected_line(mode, with(fields), TEXT(block), &number);
+    if (status == VBSON_OK) return number;
+    CHECK(number == 77);
+    return status == VBSON_NOT_FOUND ? 0 : 1000 + status;
+}
+
+static void first_lines(void) {
+    for (uint32_t mode = 0; mode < 3; mode++) {
+        CHECK(first_of(0, mode, 0, "") == 0 && first_of(0, mode, 0, "\n\n") == 0 && first_of(0, mode, 0, "\xef\xbb\xbf[1]\n \t\r\n{}") == 0);
+        CHECK(first_of(0, mode, 0, "[1\n[") == 1 && first_of(0, mode, 0, "\xef\xbb\xbf[\n") == 1 && first_of(0, mode, AS_GIVEN, "\n1\n[1.5]\n[\n") == 3);
+        CHECK(first_of(0, mode, FINITE, "\n1\n[1.5]\n[\n") == 4 && first_of(0, mode, FINITE | AS_GIVEN, "\n\xef\xbb\xbf[1]") == 2);
+        CHECK(first_of(0, mode, DISTINCT, "[") == 1001 && first_of(0, mode, V1, "[") == 1001 && first_of(0, 3 + mode, 0, "[") == 1001);
+    }
+    CHECK(first_of(1, 0, 0, "{\"n\": 5}\n\n{}") == 0 && first_of(1, 0, 0, "{}\n[1]\n[") == 2 && first_of(1, 0, AS_GIVEN, "{\"a\\u0000\":1}\n[") == 1);
+    CHECK(first_of(1, 0, 0, "{}\n[\n[1]") == 2 && first_of(1, 0, AS_GIVEN, "{\"a\":1.5}") == 1 && first_of(1, 0, FINITE | AS_GIVEN, "{\"a\":1.5}") == 0);
+    CHECK(first_of(1, 0, DISTINCT, "[") == 1001 && first_of(1, 0, V1, "[") == 1001);
+
+    /* each, in the rest from the newline of the one before */
+    enum { LINES = 50000 };
+    char *many = malloc(4 * LINES + 1);
+    for (int i = 0; i < LINES; i++) memcpy(many + 4 * i, i % 7 == 3 ? "[!]\n" : "[1]\n", 5);
+    uint64_t line = 1, number = 0, found = 0, right = 0, at = 0;
+    while (vbson_first_rejected_line(VBSON_RELAXED, NULL, (const uint8_t *)many + at, 4 * LINES - at, &number) == VBSON_OK) {
+        line += number - 1, found++;
+        right += line % 7 == 4;
+        at = 4 * line - 1;
+    }
+    CHECK(found == 7143 && right == found);
+    free(many);
+}
+
 /* ---- documents in a block, and lines that become such */
 
 static const char block[] = "\x0c\0\0\0\x10n\0\5\0\0\0\0" "\x09\0\0\0\x08" "a\0\2\0" "\x05\0\0\0\0";
@@ -123,6 +158,7 @@ static void encode_lines(void) {
 
 int main(void) {
     convert_lines();
+    first_lines();
     decode_documents();
     encode_lines();
     return end();

@@ -611,16 +611,17 @@ static int rejecting(const vbson_options *it) {
     vbson_lines lines[] = {{{kept, 7, 6}, {kept, 7, 6}, 3, 4}, {{kept, 7, 6}, {kept, 7, 6}, 3, 4}};
     vbson_documents documents = {{kept, 7, 6}, {kept, 7, 6}, 3, 4};
     vbson_error errors[] = {{77, 7, 8, 9, {kept, 7, 6}, {kept, 7, 6}, {kept, 7, 6}}, {77, 7, 8, 9, {kept, 7, 6}, {kept, 7, 6}, {kept, 7, 6}}};
-    uint64_t numbers[] = {7, 7};
+    uint64_t numbers[] = {7, 7, 7, 7};
     uint32_t writes[] = {vbson_convert(VBSON_RELAXED, it, TEXT("{}"), &out[0]), vbson_encode(it, TEXT("{}"), &out[1]),
         vbson_decode(VBSON_RELAXED, it, BYTES(five), &out[2]), vbson_convert_lines(VBSON_RELAXED, it, TEXT("{}"), &lines[0]),
-        vbson_encode_lines(it, TEXT("{}"), &lines[1]), vbson_decode_documents(VBSON_RELAXED, it, BYTES(five), &documents)};
+        vbson_encode_lines(it, TEXT("{}"), &lines[1]), vbson_decode_documents(VBSON_RELAXED, it, BYTES(five), &documents),
+        vbson_first_rejected_line(VBSON_RELAXED, it, TEXT("["), &numbers[2]), vbson_first_unencoded_line(it, TEXT("[]"), &numbers[3])};
     uint32_t reads[] = {vbson_same(it, TEXT("1"), TEXT("1")), vbson_hash(it, TEXT("1"), &numbers[0]),
         vbson_same_documents(it, BYTES(five), BYTES(five)), vbson_hash_document(it, BYTES(five), &numbers[1])};
     uint32_t explains[] = {vbson_explain(it, TEXT("{}"), &errors[0]), vbson_explain_document(it, BYTES(five), &errors[1])};
     int is_kept_by_writes = is_kept(&out[0]) && is_kept(&out[1]) && is_kept(&out[2]) && is_kept(&lines[0].text) && is_kept(&lines[1].text)
-        && is_kept(&documents.text) && lines[0].lines == 3 && lines[1].refused == 4 && documents.consumed == 4;
-    int found = all_of(WRITES, writes, 6, is_kept_by_writes) | all_of(READS, reads, 4, numbers[0] == 7 && numbers[1] == 7)
+        && is_kept(&documents.text) && lines[0].lines == 3 && lines[1].refused == 4 && documents.consumed == 4 && numbers[2] == 7 && numbers[3] == 7;
+    int found = all_of(WRITES, writes, 8, is_kept_by_writes) | all_of(READS, reads, 4, numbers[0] == 7 && numbers[1] == 7)
         | all_of(EXPLAINS, explains, 2, is_kept(&errors[0].path) && is_kept(&errors[1].message) && errors[0].code == 77);
     vbson_buffer *const texts[] = {&out[0], &out[1], &out[2], &lines[0].text, &lines[0].diagnostics, &lines[1].text, &lines[1].diagnostics,
         &documents.text, &documents.diagnostics, &errors[0].path, &errors[0].reason, &errors[0].message, &errors[1].path, &errors[1].reason,

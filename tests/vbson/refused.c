@@ -38,7 +38,7 @@ static const char *const texts[] = {
     "\"k\":{\"$uuid\":\"c8edabc3-f738-4ca3-b68d-ab92a91478a3\"},\"l\":{\"$numberDouble\":\"-Infinity\"}}",
     "[1,{\"$oid\":\"53e3\"}]", "[{\"a\":[1.5]}]", "{\"a\":[\"b\"", "[]", "\"a\\u0000b\"",
     "{\"a\":{\"b\":1,\"b\":{\"$binary\":\"AQI=\",\"$type\":\"0\"}}}"};
-enum { TEXTS = sizeof texts / sizeof *texts, KINDS = 31 };
+enum { TEXTS = sizeof texts / sizeof *texts, KINDS = 33 };
 
 /* What a call of each kind answers, and all that it can write. */
 struct answer {
@@ -139,6 +139,8 @@ static struct answer call(int kind, const char *text, long number) {
     else if (kind < 28) it.status = explain(kind == 26 ? V1 : DISTINCT, text, &it);
     else if (kind == 28) it.status = vbson_same_documents(with(DISTINCT), document.bytes, document.len, document.bytes, document.len);
     else if (kind == 29) it.status = vbson_is_canonical_text(with(FINITE), TEXT(text));
+    else if (kind == 30) it.status = vbson_first_rejected_line(VBSON_RELAXED, with(AS_GIVEN), TEXT(text), &it.number);
+    else if (kind == 31) it.status = vbson_first_unencoded_line(NULL, TEXT(text), &it.number);
     else it.status = vbson_hash_document(NULL, document.bytes, document.len, &it.number);
     refused = 0;
     return it;

@@ -8,5 +8,6 @@ mod Explained
 mod Paths
 mod Preprocessed
 mod RawValues
+mod Rejected
 mod Rows
 mod Utf8

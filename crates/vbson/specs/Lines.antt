@@ -1,9 +1,11 @@
 -- A block of lines, each a text of its own.
-use Rattle.std.specs.Prelude.{◌≡◌, ℕ, List, Some, length}
+use Rattle.std.specs.Prelude.{◌≡◌, ◌+◌, ℕ, List, ◌∷◌, ◌++◌, Bool, true, false, Some, length}
 use Rattle.bson.specs.declared.extjson.options.Options.{Options}
-use Rattle.bson_run.specs.Lines.{GivesIn, lines as lines_of}
+use Rattle.bson_convert.specs.declared.error.Error.{Error}
+use Rattle.bson_convert.specs.declared.error.Error.TheVariants.{CannotRead, CannotWrite, OutOfMemory}
+use Rattle.bson_run.specs.Lines.{GivesIn, IsBadLineIn, lines as lines_of, text_of}
 use Rattle.bson_convert.specs.declared.mode.Mode.{Mode}
-use Rattle.bson_run.specs.declared.order.OnRefusal.TheVariants.{KeepGoing}
+use Rattle.bson_run.specs.declared.order.OnRefusal.TheVariants.{KeepGoing, Stop}
 use Rattle.bson_run.specs.declared.order.Task.{Task}
 use Rattle.bson_run.specs.declared.order.Task.TheVariants.{Write, WriteInOrder, Encode, EncodeInOrder}
 use Rattle.vbson.specs.Convert.{mode_at}
@@ -45,3 +47,34 @@ pub record AreConverted (k : KeyOrder) (o : Options) (number : ℕ) (block : Lis
 -- and where each becomes the bytes of its document
 abbrev pub AreEncoded : KeyOrder → Options → (block : List ℕ) → Lines → Type 0
 AreEncoded k o block out = AreGiven o (encoding_of k) block out
+
+-- ---- the first line that is rejected
+
+-- the task accepts each of the lines that is not blank: a run that stops at a rejected line does them all
+pub record AreAccepted (o : Options) (task : Task) (all : List (List ℕ)) : Type 0 where
+  pub output : List ℕ
+  pub verdicts : List ℕ
+  pub refused : ℕ
+  pub outcomes : GivesIn o task Stop all output verdicts refused
+
+-- the task accepts each line of the block
+abbrev pub IsAccepted : Options → Task → (block : List ℕ) → Type 0
+IsAccepted o task block = AreAccepted o task (lines_of block)
+
+-- the task rejects the line of the number, from 1, and accepts the lines before it
+pub record IsFirstRejected (o : Options) (task : Task) (block : List ℕ) (number : ℕ) : Type 0 where
+  pub before : List (List ℕ)
+  pub line : List ℕ
+  pub others : List (List ℕ)
+  pub fault : Error
+  pub whole : lines_of block ≡ before ++ line ∷ others
+  pub counted : number ≡ length before + 1
+  pub accepted : AreAccepted o task before
+  pub rejected : IsBadLineIn o task fault (text_of (length before) line)
+
+-- for private clauses: the fault is that of a rejected line
+abbrev pub is_rejection : Error → Bool
+is_rejection CannotRead = false
+is_rejection CannotWrite = false
+is_rejection OutOfMemory = false
+is_rejection _ = true

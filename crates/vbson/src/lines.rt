@@ -1,8 +1,10 @@
 //! A block of lines, each a text of its own.
-ghost use Rattle.std.specs.Prelude.{◌≡◌, ◌⊎◌, ◌↔◌, ◌<◌, ◌++◌, List, ℕ, IfSome};
+ghost use Rattle.std.specs.Prelude.{◌≡◌, ◌⊎◌, ◌↔◌, ◌<◌, ◌++◌, List, ℕ, Some, IfSome};
 ghost use Rattle.bson_convert.specs.Convert.{newline};
-ghost use Rattle.vbson.specs.Convert.{options_of, order_of};
+ghost use Rattle.bson_convert.specs.declared.mode.Mode.{Mode};
+ghost use Rattle.vbson.specs.Convert.{mode_at, options_of, order_of};
 ghost use Rattle.vbson.specs.Lines.{AreConverted, AreEncoded, AreGiven, GivesLines, encoding_of, task_of};
+ghost use Rattle.vbson.specs.Lines.{IsAccepted, IsFirstRejected, is_rejection};
 ghost use Rattle.vbson.specs.Options.{AreNotForConversion};
 
 use crate::convert::mode_of;
@@ -10,10 +12,12 @@ use crate::options::{CallOptions, KeyOrder, are_not_for_conversion, options_of, 
 use crate::status;
 use crate::text::{Text, as_line, text_of_line};
 use bson::extjson::Options;
+use bson_convert::error::Error;
 use bson_convert::mode::Mode;
 use bson_run::lines::LineRun;
 use bson_run::order::{OnRefusal, Task};
 use std::alloc::Global;
+use std::io::sink;
 
 /// What a block of lines gives: what each is converted to, the diagnostics of those that are refused,
 /// how many lines there are, and how many are refused.
@@ -87,6 +91,74 @@ pub extern "C" fn vbson_encode_lines_nonnull(
     status::OK
 }
 
+/// Leaves the number, from 1, of the first line of the block that `vbson_convert_lines` rejects, or
+/// `NOT_FOUND` if it accepts each.
+#[unsafe(no_mangle)]
+pub extern "C" fn vbson_first_rejected_line_nonnull(
+    alloc: Global,
+    mode: u32,
+    options: &CallOptions,
+    block: &[u8],
+    number: &mut u64,
+) -> u32
+    ensures rejected { result ≡ 0 → (m : Mode) → mode_at mode ≡ Some m
+        → IsFirstRejected (options_of options.now) (task_of (order_of options.now) m) block.now number.new }
+    ensures accepted { result ≡ 14 → (m : Mode) → mode_at mode ≡ Some m
+        → IsAccepted (options_of options.now) (task_of (order_of options.now) m) block.now }
+
+    // When each other status comes, and that nothing is left then.
+    ensures no_mode { result ≡ 1 ↔ (2 < mode) ⊎ AreNotForConversion options.now }
+    ensures listed { (result ≡ 0) ⊎ (result ≡ 1) ⊎ (result ≡ 5) ⊎ (result ≡ 14) }
+    ensures kept { 0 < result → number.new ≡ number.old }
+{
+    if are_not_for_conversion(*options) {
+        return status::INVALID_ARGUMENT;
+    }
+    let Some(mode) = mode_of(mode) else {
+        return status::INVALID_ARGUMENT;
+    };
+    let order = order_of(*options);
+    first_rejected(
+        alloc,
+        options_of(*options),
+        task_of(order, mode),
+        block,
+        number,
+    )
+}
+
+/// Leaves the number, from 1, of the first line of the block that `vbson_encode_lines` rejects, or
+/// `NOT_FOUND` if it accepts each.
+#[unsafe(no_mangle)]
+pub extern "C" fn vbson_first_unencoded_line_nonnull(
+    alloc: Global,
+    options: &CallOptions,
+    block: &[u8],
+    number: &mut u64,
+) -> u32
+    ensures rejected { result ≡ 0 →
+        IsFirstRejected (options_of options.now) (encoding_of (order_of options.now)) block.now number.new }
+    ensures accepted { result ≡ 14 →
+        IsAccepted (options_of options.now) (encoding_of (order_of options.now)) block.now }
+
+    // When each other status comes, and that nothing is left then.
+    ensures no_mode { result ≡ 1 ↔ AreNotForConversion options.now }
+    ensures listed { (result ≡ 0) ⊎ (result ≡ 1) ⊎ (result ≡ 5) ⊎ (result ≡ 14) }
+    ensures kept { 0 < result → number.new ≡ number.old }
+{
+    if are_not_for_conversion(*options) {
+        return status::INVALID_ARGUMENT;
+    }
+    let order = order_of(*options);
+    first_rejected(
+        alloc,
+        options_of(*options),
+        encoding_of(order),
+        block,
+        number,
+    )
+}
+
 // What is done with each line.
 fn task_of(order: KeyOrder, mode: Mode) -> Task
     ensures { result ≡ task_of order mode }
@@ -151,4 +223,40 @@ fn run_block(alloc: Global, options: Options, task: Task, block: &[u8]) -> Optio
         lines: counts.lines,
         refused: counts.refused,
     })
+}
+
+// Leaves the number of the first line that the task rejects.
+fn first_rejected(
+    alloc: Global,
+    options: Options,
+    task: Task,
+    block: &[u8],
+    number: &mut u64,
+) -> u32
+    ensures rejected { result ≡ 0 → IsFirstRejected options task block.now number.new }
+    ensures accepted { result ≡ 14 → IsAccepted options task block.now }
+    ensures listed { (result ≡ 0) ⊎ (result ≡ 5) ⊎ (result ≡ 14) }
+    ensures kept { 0 < result → number.new ≡ number.old }
+{
+    let mut rest = block;
+    let mut run = LineRun::new(alloc, task, OnRefusal::Stop);
+    run.options = options;
+    let Err(fault) = run.run(alloc, &mut rest, &mut sink(), &mut sink()) else {
+        return status::NOT_FOUND;
+    };
+    if !is_rejection(&fault) {
+        return status::OUT_OF_MEMORY;
+    }
+    *number = run.number();
+    status::OK
+}
+
+// Whether the fault is that of a rejected line.
+fn is_rejection(fault: &Error) -> bool
+    ensures { result ≡ is_rejection fault.now }
+{
+    match fault {
+        Error::CannotRead | Error::CannotWrite | Error::OutOfMemory => false,
+        _ => true,
+    }
 }

@@ -82,6 +82,8 @@ def loaded():
     parameters = {
         "version": [], "convert": [number, Options, text, size, out(Buffer)],
         "convert_lines": [number, Options, text, size, out(Lines)], "encode_lines": [Options, text, size, out(Lines)],
+        "first_rejected_line": [number, Options, ctypes.c_void_p, size, out(ctypes.c_uint64)],
+        "first_unencoded_line": [Options, ctypes.c_void_p, size, out(ctypes.c_uint64)],
         "decode_documents": [number, Options, text, size, out(Documents)],
         "is_canonical_text": [Options, text, size], "explain": [Options, text, size, out(Error)], "same": [Options, text, size, text, size],
         "hash": [Options, text, size, out(ctypes.c_uint64)], "same_documents": [Options, text, size, text, size],
@@ -195,11 +197,17 @@ def encoded(flags, given):
 
 
 def block_by(call, out, *arguments):
-    """Returns the status of a call on a block, the bytes of its output, and the lines of its diagnostics."""
+    """Returns the status of a call on a block, the bytes of its output, and those of its diagnostics."""
     status = call(*arguments, ctypes.byref(out))
     if status != OK:
-        return status, b"", []
-    return status, taken(out.text), taken(out.diagnostics).decode().split("\n")[:-1]
+        return status, b"", b""
+    return status, taken(out.text), taken(out.diagnostics)
+
+
+def first_line_by(call, block, index, *arguments):
+    """Returns the status of a call that finds a line in the rest of a block from an index, and the number of the line."""
+    out, start = ctypes.c_uint64(), ctypes.cast(ctypes.c_char_p(block), ctypes.c_void_p).value
+    return call(*arguments, start + index, len(block) - index, ctypes.byref(out)), out.value
 
 
 def hash_by(call, flags, given):

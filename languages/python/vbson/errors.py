@@ -1,4 +1,4 @@
-"""The errors of the library, as data. Only this module reads a diagnostic of the library, the number of a line."""
+"""The errors of the library, as data."""
 from typing import List, Optional, Union
 
 from . import _paths
@@ -133,16 +133,21 @@ def of_text(found):
     return error
 
 
-def of_lines(diagnostics, block, error_of):
-    """Returns the number and the error of each rejected line of a block: error_of returns that of the line alone."""
-    # (the columns of the first line count from after a byte order mark)
-    refused, number, start = [], 1, len(MARK) if block.startswith(MARK) else 0
-    for diagnostic in diagnostics:
-        wanted = int(diagnostic.split(":", 2)[1].removeprefix(" line "))
-        while number < wanted:
-            start, number = block.index(b"\n", start) + 1, number + 1
+def of_lines(count, block, first_from, error_of):
+    """Returns the number and the error of each of so many rejected lines of a block: first_from returns the number of the first
+    one in the rest of the block from an index, error_of the error of the line alone."""
+    refused, number, end = [], 1, 0
+    for _ in range(count):
+        # (the rest begins with the newline of the rejected line, so that a byte order mark after it is not skipped)
+        passed = first_from(end) - 1
+        number += passed
+        # (the columns of the first line count from after a byte order mark)
+        start = len(MARK) if number == 1 and block.startswith(MARK) else end
+        for _ in range(passed):
+            start = block.index(b"\n", start) + 1
         end = block.find(b"\n", start)
-        error = error_of(block[start:end if end >= 0 else len(block)])
+        end = end if end >= 0 else len(block)
+        error = error_of(block[start:end])
         if error.offset is not None:
             error.offset += start
         error.line = number

@@ -37,6 +37,15 @@ def _error_of_line(flags, line):
     return errors.of_text(found) if found.code != errors.OK else errors.of_status(_calls.encoded(flags, line)[0])
 
 
+def _refused(count, flags, block, first_call, *mode):
+    """Returns the number and the error of each of so many rejected lines. The call finds the first one."""
+    def first_from(index):
+        status, number = _calls.first_line_by(first_call, block, index, *mode, flags)
+        errors.expect_ok(status)
+        return number
+    return errors.of_lines(count, block, first_from, lambda line: _error_of_line(flags, line))
+
+
 def writing_flags(options, given):
     """Returns the flags of a call that writes, after a check for duplicate keys if the options ask for one."""
     flags = flags_of(options, WRITING | REJECT_DUPLICATE_KEYS)
@@ -77,9 +86,9 @@ def convert_lines(block: Given, mode: Mode = CANONICAL, **options: bool) -> Tupl
     """
     mode, flags, given = mode_of(mode), flags_of(options, WRITING), text_bytes(block)
     out = _calls.Lines(_calls.empty(), _calls.empty(), 0, 0)
-    status, made, diagnostics = _calls.block_by(_calls.library.vbson_convert_lines, out, mode, flags, given, len(given))
+    status, made, _ = _calls.block_by(_calls.library.vbson_convert_lines, out, mode, flags, given, len(given))
     errors.expect_ok(status)
-    return made, errors.of_lines(diagnostics, given, lambda line: _error_of_line(flags, line))
+    return made, _refused(out.refused, flags, given, _calls.library.vbson_first_rejected_line, mode)
 
 
 def explain(text: Given, **options: bool) -> str:
@@ -169,6 +178,6 @@ def encode_lines(block: Given, **options: bool) -> Tuple[bytes, List[Tuple[int, 
     """
     flags, given = flags_of(options, WRITING), text_bytes(block)
     out = _calls.Lines(_calls.empty(), _calls.empty(), 0, 0)
-    status, made, diagnostics = _calls.block_by(_calls.library.vbson_encode_lines, out, flags, given, len(given))
+    status, made, _ = _calls.block_by(_calls.library.vbson_encode_lines, out, flags, given, len(given))
     errors.expect_ok(status)
-    return made, errors.of_lines(diagnostics, given, lambda line: _error_of_line(flags, line))
+    return made, _refused(out.refused, flags, given, _calls.library.vbson_first_unencoded_line)

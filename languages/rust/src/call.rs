@@ -88,6 +88,7 @@ extern "C" {
     fn vbson_convert_nonnull(mode: u32, options: *const RawOptions, text: *const u8, len: usize, out: *mut RawText) -> u32;
     fn vbson_explain_nonnull(options: *const RawOptions, text: *const u8, len: usize, out: *mut RawError) -> u32;
     fn vbson_convert_lines_nonnull(mode: u32, options: *const RawOptions, block: *const u8, len: usize, out: *mut RawLines) -> u32;
+    fn vbson_first_rejected_line_nonnull(mode: u32, options: *const RawOptions, block: *const u8, len: usize, number: *mut u64) -> u32;
     fn vbson_is_canonical_text_nonnull(options: *const RawOptions, text: *const u8, len: usize) -> u32;
     fn vbson_same_nonnull(options: *const RawOptions, a: *const u8, a_len: usize, b: *const u8, b_len: usize) -> u32;
     fn vbson_hash_nonnull(options: *const RawOptions, text: *const u8, len: usize, out: *mut u64) -> u32;
@@ -98,6 +99,7 @@ extern "C" {
     fn vbson_decode_nonnull(mode: u32, options: *const RawOptions, bytes: *const u8, len: usize, out: *mut RawText) -> u32;
     fn vbson_encode_nonnull(options: *const RawOptions, text: *const u8, len: usize, out: *mut RawText) -> u32;
     fn vbson_encode_lines_nonnull(options: *const RawOptions, block: *const u8, len: usize, out: *mut RawLines) -> u32;
+    fn vbson_first_unencoded_line_nonnull(options: *const RawOptions, block: *const u8, len: usize, number: *mut u64) -> u32;
     fn vbson_decode_documents_nonnull(mode: u32, options: *const RawOptions, block: *const u8, len: usize, out: *mut RawDocuments) -> u32;
     fn vbson_raw_get(bytes: *const u8, len: usize, key: *const u8, key_len: usize, out: *mut RawValue) -> u32;
     fn vbson_raw_elements(bytes: *const u8, len: usize, cursor: *mut RawSlice) -> u32;
@@ -282,6 +284,18 @@ pub fn encode_lines(options: RawOptions, block: &[u8]) -> Result<RawLines, Error
     Ok(out)
 }
 
+/// The number, from 1, of the first line that `convert_lines` rejects. The block has one.
+pub fn first_rejected_line(mode: u32, options: RawOptions, block: &[u8]) -> Result<u64, ErrorKind> {
+    // SAFETY: the options and the slice are readable, and `number` overlaps nothing.
+    numbered(|number| unsafe { vbson_first_rejected_line_nonnull(mode, &options, block.as_ptr(), block.len(), number) })
+}
+
+/// The number, from 1, of the first line that `encode_lines` rejects. The block has one.
+pub fn first_unencoded_line(options: RawOptions, block: &[u8]) -> Result<u64, ErrorKind> {
+    // SAFETY: as above.
+    numbered(|number| unsafe { vbson_first_unencoded_line_nonnull(&options, block.as_ptr(), block.len(), number) })
+}
+
 /// The texts in blocks of their own, as above.
 pub fn decode_documents(mode: u32, options: RawOptions, block: &[u8]) -> Result<RawDocuments, ErrorKind> {
     wants_processor();
@@ -327,15 +341,15 @@ fn answered(no: u32, call: impl FnOnce() -> u32) -> Result<bool, ErrorKind> {
 
 pub fn hash(options: RawOptions, text: &[u8]) -> Result<u64, ErrorKind> {
     // SAFETY: what is passed is readable, and `out` overlaps nothing.
-    hashed(|out| unsafe { vbson_hash_nonnull(&options, text.as_ptr(), text.len(), out) })
+    numbered(|out| unsafe { vbson_hash_nonnull(&options, text.as_ptr(), text.len(), out) })
 }
 
 pub fn hash_document(options: RawOptions, bytes: &[u8]) -> Result<u64, ErrorKind> {
     // SAFETY: as above.
-    hashed(|out| unsafe { vbson_hash_document_nonnull(&options, bytes.as_ptr(), bytes.len(), out) })
+    numbered(|out| unsafe { vbson_hash_document_nonnull(&options, bytes.as_ptr(), bytes.len(), out) })
 }
 
-fn hashed(call: impl FnOnce(*mut u64) -> u32) -> Result<u64, ErrorKind> {
+fn numbered(call: impl FnOnce(*mut u64) -> u32) -> Result<u64, ErrorKind> {
     wants_processor();
     let mut out = 0;
     expect_ok(call(&mut out))?;

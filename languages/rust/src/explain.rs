@@ -47,26 +47,29 @@ fn elements_of(path: &[u8]) -> Path {
     elements.iter().map(|(_, it)| element(it.value())).collect()
 }
 
-/// The number and the error of each rejected line of a block. `error_of` returns the error of the line alone.
-pub(crate) fn of_lines(diagnostics: &str, block: &[u8], error_of: impl Fn(&[u8]) -> Error) -> Vec<(u64, Error)> {
-    // (the columns of the first line count from after a byte order mark)
-    let (mut number, mut start) = (1, if block.starts_with(MARK) { MARK.len() } else { 0 });
+/// The number and the error of each rejected line of a block, which has `count` of them. `first_of` returns the number of the
+/// first one, and `error_of` the error of the line alone.
+pub(crate) fn of_lines(
+    count: u64,
+    block: &[u8],
+    first_of: impl Fn(&[u8]) -> Result<u64, ErrorKind>,
+    error_of: impl Fn(&[u8]) -> Error,
+) -> Result<Vec<(u64, Error)>, Error> {
     let newline = |start: usize| block[start..].iter().position(|it| *it == b'\n').map(|it| start + it);
-    let of_line = |diagnostic: &str| {
-        let line = number_of(diagnostic).expect("a diagnostic has a number");
-        while number < line {
+    let (mut refused, mut number, mut end) = (Vec::new(), 1, 0);
+    for _ in 0..count {
+        // (the rest begins with the newline of the rejected line, so that a byte order mark after it is not skipped)
+        let passed = first_of(&block[end..])? - 1;
+        number += passed;
+        // (the columns of the first line count from after a byte order mark)
+        let mut start = if number == 1 && block.starts_with(MARK) { MARK.len() } else { end };
+        for _ in 0..passed {
             start = newline(start).expect("a block has its lines") + 1;
-            number += 1;
         }
-        let text = &block[start..newline(start).unwrap_or(block.len())];
-        (line, error_of(text).in_line(line, start as u64))
-    };
-    diagnostics.lines().map(of_line).collect()
-}
-
-/// The number of the line in its diagnostic, which begins with `bson: line 3: `.
-fn number_of(diagnostic: &str) -> Option<u64> {
-    diagnostic.strip_prefix("bson: line ")?.split_once(':')?.0.parse().ok()
+        end = newline(start).unwrap_or(block.len());
+        refused.push((number, error_of(&block[start..end]).in_line(number, start as u64)));
+    }
+    Ok(refused)
 }
 
 /// The error of bytes that are not a document, or that have a duplicate key, which the options reject; `None` if they have no

@@ -25,9 +25,10 @@ pub struct Lines {
 /// - `OutOfMemory` if an allocation fails. A rejected line is not an error of the call.
 pub fn convert_lines(mode: Mode, options: Options, block: &[u8]) -> Result<Lines, Error> {
     let raw = call::convert_lines(mode as u32, options.raw(), block)?;
-    let (text, diagnostics) = (owned(raw.text), owned(raw.diagnostics));
+    let (text, _diagnostics) = (owned(raw.text), Block::of(raw.diagnostics));
+    let first_of = |rest: &[u8]| call::first_rejected_line(mode as u32, options.raw(), rest);
     let error_of = |line: &[u8]| convert_with(mode, options, line).expect_err("the line was rejected");
-    Ok(Lines { text, count: raw.lines, refused: of_lines(&diagnostics, block, error_of) })
+    Ok(Lines { text, count: raw.lines, refused: of_lines(raw.refused, block, first_of, error_of)? })
 }
 
 /// The result for a block of lines that are encoded.
@@ -48,9 +49,10 @@ pub struct EncodedLines {
 /// - `OutOfMemory` if an allocation fails. A rejected line is not an error of the call.
 pub fn encode_lines(options: Options, block: &[u8]) -> Result<EncodedLines, Error> {
     let raw = call::encode_lines(options.raw(), block)?;
-    let (bytes, diagnostics) = (Bytes(Block::of(raw.text)), owned(raw.diagnostics));
+    let (bytes, _diagnostics) = (Bytes(Block::of(raw.text)), Block::of(raw.diagnostics));
+    let first_of = |rest: &[u8]| call::first_unencoded_line(options.raw(), rest);
     let error_of = |line: &[u8]| encode(options, line).expect_err("the line was rejected");
-    Ok(EncodedLines { bytes, count: raw.lines, refused: of_lines(&diagnostics, block, error_of) })
+    Ok(EncodedLines { bytes, count: raw.lines, refused: of_lines(raw.refused, block, first_of, error_of)? })
 }
 
 /// The result for a block of documents.

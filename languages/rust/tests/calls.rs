@@ -236,6 +236,8 @@ fn lines_are_converted_in_one_call() {
     let marked = convert_lines(Mode::Relaxed, Options::SPECIFIED, b"\xef\xbb\xbf[2}\n[}").unwrap();
     let places = marked.refused.iter().map(|(_, it)| (it.line(), it.column(), it.offset())).collect::<Vec<_>>();
     assert_eq!(places, [(Some(1), Some(3), Some(5)), (Some(2), Some(2), Some(8))]);
+    let marked = convert_lines(Mode::Relaxed, Options::SPECIFIED, b"[}\n\xef\xbb\xbf[1]\n\n[\n[1]").unwrap();
+    assert_eq!(marked.refused.iter().map(|(number, _)| *number).collect::<Vec<_>>(), [1, 2, 4]);
     let lines = convert_lines(Mode::Relaxed, Options { doubles: true, ..Options::SPECIFIED }, b"[1.5]\n").unwrap();
     assert_eq!((&*lines.text, lines.refused.len()), ("[1.5]\n", 0));
 }
