@@ -58,8 +58,8 @@ pub record AreAccepted (o : Options) (task : Task) (all : List (List ℕ)) : Typ
   pub outcomes : GivesIn o task Stop all output verdicts refused
 
 -- the task accepts each line of the block
-abbrev pub IsAccepted : Options → Task → (block : List ℕ) → Type 0
-IsAccepted o task block = AreAccepted o task (lines_of block)
+abbrev pub EachLineIsAccepted : Options → Task → (block : List ℕ) → Type 0
+EachLineIsAccepted o task block = AreAccepted o task (lines_of block)
 
 -- the task rejects the line of the number, from 1, and accepts the lines before it
 pub record IsFirstRejected (o : Options) (task : Task) (block : List ℕ) (number : ℕ) : Type 0 where

@@ -4,7 +4,7 @@ ghost use Rattle.bson_convert.specs.Convert.{newline};
 ghost use Rattle.bson_convert.specs.declared.mode.Mode.{Mode};
 ghost use Rattle.vbson.specs.Convert.{mode_at, options_of, order_of};
 ghost use Rattle.vbson.specs.Lines.{AreConverted, AreEncoded, AreGiven, GivesLines, encoding_of, task_of};
-ghost use Rattle.vbson.specs.Lines.{IsAccepted, IsFirstRejected, is_rejection};
+ghost use Rattle.vbson.specs.Lines.{EachLineIsAccepted, IsFirstRejected, is_rejection};
 ghost use Rattle.vbson.specs.Options.{AreNotForConversion};
 
 use crate::convert::mode_of;
@@ -104,7 +104,7 @@ pub extern "C" fn vbson_first_rejected_line_nonnull(
     ensures rejected { result ≡ 0 → (m : Mode) → mode_at mode ≡ Some m
         → IsFirstRejected (options_of options.now) (task_of (order_of options.now) m) block.now number.new }
     ensures accepted { result ≡ 14 → (m : Mode) → mode_at mode ≡ Some m
-        → IsAccepted (options_of options.now) (task_of (order_of options.now) m) block.now }
+        → EachLineIsAccepted (options_of options.now) (task_of (order_of options.now) m) block.now }
 
     // When each other status comes, and that nothing is left then.
     ensures no_mode { result ≡ 1 ↔ (2 < mode) ⊎ AreNotForConversion options.now }
@@ -139,7 +139,7 @@ pub extern "C" fn vbson_first_unencoded_line_nonnull(
     ensures rejected { result ≡ 0 →
         IsFirstRejected (options_of options.now) (encoding_of (order_of options.now)) block.now number.new }
     ensures accepted { result ≡ 14 →
-        IsAccepted (options_of options.now) (encoding_of (order_of options.now)) block.now }
+        EachLineIsAccepted (options_of options.now) (encoding_of (order_of options.now)) block.now }
 
     // When each other status comes, and that nothing is left then.
     ensures no_mode { result ≡ 1 ↔ AreNotForConversion options.now }
@@ -234,7 +234,7 @@ fn first_rejected(
     number: &mut u64,
 ) -> u32
     ensures rejected { result ≡ 0 → IsFirstRejected options task block.now number.new }
-    ensures accepted { result ≡ 14 → IsAccepted options task block.now }
+    ensures accepted { result ≡ 14 → EachLineIsAccepted options task block.now }
     ensures listed { (result ≡ 0) ⊎ (result ≡ 5) ⊎ (result ≡ 14) }
     ensures kept { 0 < result → number.new ≡ number.old }
 {
