@@ -65,9 +65,9 @@ def of_text(form, text):
 
 @lru_cache(None)
 def place_of(text):
-    """What bson_lines tells of a refused text, given alone, behind the words for its fault."""
+    """What bson_lines tells of a refused text, given alone, behind the words for its fault, without a hint."""
     done = subprocess.run([LINES, "lines", "check", "--strict"], input=b"\n" + text, capture_output=True, timeout=120)
-    return done.stderr.removeprefix(b"bson: line 2: " + of_text("relaxed", text)[1]).removesuffix(b"\n")
+    return done.stderr.partition(b"\n")[0].removeprefix(b"bson: line 2: " + of_text("relaxed", text)[1])
 
 
 def expected(task, on_refusal, text, at_end):
