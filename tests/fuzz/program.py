@@ -5,8 +5,8 @@ import signal
 from dataclasses import dataclass
 
 LONGEST_SECONDS = 60
-# How the program over lines tells a refusal of one text: the words, and where.
-TOLD = re.compile(rb'bson: (?:line [0-9]+: )?(not JSON|bad object id|not Extended JSON)(?: at .*| \(.*)\n')
+# How the program over lines tells a refusal of one text: the words, and where. A hint can follow.
+TOLD = re.compile(rb'bson: (?:line [0-9]+: )?(not JSON|bad object id|not Extended JSON)(?: at .*| \(.*)\n(?:bson: standard input .*\n)?')
 
 
 @dataclass(frozen=True)
@@ -56,7 +56,7 @@ class Program:
         signal.alarm(LONGEST_SECONDS)
         try:
             write_all(input_start, data)
-            # (the error is one line, which its pipe has room for)
+            # (the error is one line or two, which its pipe has room for)
             output, error = read_all(output_end), read_all(error_end)
             status = os.waitstatus_to_exitcode(os.waitpid(process, 0)[1])
         finally:
