@@ -68,7 +68,7 @@ NUMBER_ALONE = document(NUMBER)
 def by_program(program, paths, words=()):
     """The output of the program, its counts, and the file and line of each refused one."""
     ran = subprocess.run([program, "lines", "relaxed", *words, "--keep-going", *paths], capture_output=True, timeout=120)
-    counts = re.search(rb"bson: (\d+) lines, (\d+) refused\n$", ran.stderr)
+    counts = re.search(rb"(?m)^bson: (\d+) lines, (\d+) refused$", ran.stderr)
     places = re.findall(rb"(?m)^(/[^:]*):(\d+): ", ran.stderr)
     return ran.stdout, tuple(map(int, counts.groups())), [(path.decode(), line.decode()) for path, line in places]
 
