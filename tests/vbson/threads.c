@@ -31,9 +31,61 @@ static int round_of(int thread, int round) {
         && vbson_same(NULL, TEXT(shared), TEXT(shared)) == VBSON_OK;
 }
 
+/* The calls on blocks of lines, and those that explain or check a text. */
+static int lines_of(int thread, int round) {
+    char block[96], canonical[64];
+    uint64_t rejected = 0, unencoded = 0;
+    snprintf(block, sizeof block, "{\"r\":%d}\n[%d\n{\"t\":%d}\n", round, round, thread);
+    snprintf(canonical, sizeof canonical, "{\"r\":{\"$numberInt\":\"%d\"}}", round);
+    vbson_lines converted = VBSON_LINES_INIT, encoded = VBSON_LINES_INIT;
+    vbson_error error = VBSON_ERROR_INIT;
+    int is_right = vbson_convert_lines(VBSON_RELAXED, NULL, TEXT(block), &converted) == VBSON_OK && converted.refused == 1
+        && vbson_encode_lines(NULL, TEXT(block), &encoded) == VBSON_OK && encoded.lines == 3 && encoded.refused == 1
+        && vbson_first_rejected_line(VBSON_RELAXED, NULL, TEXT(block), &rejected) == VBSON_OK && rejected == 2
+        && vbson_first_unencoded_line(NULL, TEXT(block), &unencoded) == VBSON_OK && unencoded == 2
+        && vbson_explain(NULL, TEXT(block), &error) == VBSON_OK && error.code == VBSON_NOT_JSON && error.line == 2
+        && vbson_is_canonical_text(NULL, TEXT(canonical)) == VBSON_OK && vbson_is_canonical_text(NULL, TEXT(block)) == VBSON_NOT_CANONICAL;
+    vbson_error_free(&error);
+    vbson_buffer_free(&converted.text);
+    vbson_buffer_free(&converted.diagnostics);
+    vbson_buffer_free(&encoded.text);
+    vbson_buffer_free(&encoded.diagnostics);
+    return is_right;
+}
+
+/* The calls on the bytes of a document. */
+static int bytes_of(int thread, int round) {
+    char text[64];
+    uint64_t one = 0, other = 1;
+    snprintf(text, sizeof text, "{\"i\":%d,\"r\":%d}", thread, round);
+    vbson_buffer bytes = VBSON_BUFFER_INIT, out = VBSON_BUFFER_INIT;
+    vbson_documents documents = VBSON_DOCUMENTS_INIT;
+    vbson_error error = VBSON_ERROR_INIT;
+    vbson_slice cursor = VBSON_SLICE_INIT, key = VBSON_SLICE_INIT;
+    vbson_raw_value value = VBSON_RAW_VALUE_INIT;
+    int32_t number = -1;
+    if (vbson_encode(NULL, TEXT(text), &bytes) != VBSON_OK) return 0;
+    int is_right = vbson_is_document(bytes.bytes, bytes.len) == VBSON_OK
+        && vbson_decode(VBSON_RELAXED, NULL, bytes.bytes, bytes.len, &out) == VBSON_OK && strcmp((const char *)out.bytes, text) == 0
+        && vbson_decode_documents(VBSON_RELAXED, NULL, bytes.bytes, bytes.len, &documents) == VBSON_OK && documents.documents == 1
+        && vbson_explain_document(NULL, bytes.bytes, bytes.len, &error) == VBSON_OK && error.code == VBSON_OK
+        && vbson_same_documents(NULL, bytes.bytes, bytes.len, bytes.bytes, bytes.len) == VBSON_OK
+        && vbson_hash_document(NULL, bytes.bytes, bytes.len, &one) == VBSON_OK && vbson_hash(NULL, TEXT(text), &other) == VBSON_OK && one == other
+        && vbson_raw_elements(bytes.bytes, bytes.len, &cursor) == VBSON_OK && vbson_raw_next(&cursor, &key, &value) == VBSON_OK
+        && vbson_raw_int32(&value, &number) == VBSON_OK && number == thread;
+    vbson_error_free(&error);
+    vbson_buffer_free(&documents.text);
+    vbson_buffer_free(&documents.diagnostics);
+    vbson_buffer_free(&out);
+    vbson_buffer_free(&bytes);
+    return is_right;
+}
+
 static void *work(void *number) {
     size_t right = 0;
-    for (int round = 0; round < ROUNDS; round++) right += (size_t)round_of(*(int *)number, round);
+    int thread = *(int *)number;
+    for (int round = 0; round < ROUNDS; round++)
+        right += (size_t)(round_of(thread, round) && lines_of(thread, round) && bytes_of(thread, round));
     return (void *)right;
 }
 
