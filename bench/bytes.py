@@ -21,7 +21,7 @@ sys.dont_write_bytecode = True
 
 from run import HERE, ROUNDS, TOP, megabytes
 
-PROGRAM = f"{TOP}/crates/bson_lines/out/bson_lines"
+PROGRAM = f"{TOP}/crates/bson_program/out/bson_program"
 LIBRARY = f"{TOP}/languages/out"
 
 

@@ -11,7 +11,7 @@ A time is the least of five runs; the programs run in turns. A run past the long
 Where `crates/bson_rows` is built it also times the rows of `tests/rows/many_keys.py` (100000 keys put, found, taken
 out, hashed, compared, written, read twice) in both kinds; reading the row and writing its answer are counted.
 
-Where `crates/bson_lines` is built it also times each command on the inputs of `tests/rows/growth.py` at 1 and 8 MB, and
+Where `crates/bson_program` is built it also times each command on the inputs of `tests/rows/growth.py` at 1 and 8 MB, and
 prints for each command the greatest times at both, and how many times longer the larger input needs at most.
 """
 import argparse
@@ -30,7 +30,7 @@ import many_keys
 from run import BYTES, ROUNDS
 
 OWN = os.path.join(TOP, "crates", "bson_cli", "out", "bson_cli")
-LINES = os.path.join(TOP, "crates", "bson_lines", "out", "bson_lines")
+LINES = os.path.join(TOP, "crates", "bson_program", "out", "bson_program")
 ROWS = os.path.join(TOP, "crates", "bson_rows", "out", "bson_rows")
 SIZES = [BYTES // 10] if BYTES else [10_000, 100_000, 400_000]
 # The bytes of the smaller inputs of tests/rows/growth.py.
@@ -97,7 +97,7 @@ def calls(room, longest):
 
 def growths(room, longest):
     """A line for each command: its greatest times, and its greatest growth."""
-    print(f"\n| bson_lines | {SMALLER / 1e6:g} MB | {growth.PARTS * SMALLER / 1e6:g} MB | at most | of |")
+    print(f"\n| bson_program | {SMALLER / 1e6:g} MB | {growth.PARTS * SMALLER / 1e6:g} MB | at most | of |")
     print("|---|---|---|---|---|")
     for make, commands in ((growth.texts, growth.COMMANDS), (growth.documents, growth.COMMANDS_OF_BSON)):
         inputs = []

@@ -1,11 +1,11 @@
 #!/usr/bin/env python3
-"""Times `bson_lines encode` beside libbson's bson_new_from_json on the same lines.
+"""Times `bson_program encode` beside libbson's bson_new_from_json on the same lines.
 
     bench/encode.py [MEGABYTES ..]        (10 and 50 where none is given)
 
 For each kind of documents of bench/bytes.py, a canonical line each, and for the relaxed lines of the first, it prints
 the processor seconds of a whole run of each program, which reads lines and writes a dump, the least of five runs in
-turns, and whether both dumps are the same bytes. bson_lines has to be built (./bson encode
+turns, and whether both dumps are the same bytes. bson_program has to be built (./bson encode
 does). Needs Debian's libbson-dev, a C compiler and pkg-config.
 """
 import os
@@ -19,7 +19,7 @@ sys.dont_write_bytecode = True
 from bytes import KINDS
 from run import HERE, ROUNDS, TOP, megabytes
 
-PROGRAM = f"{TOP}/crates/bson_lines/out/bson_lines"
+PROGRAM = f"{TOP}/crates/bson_program/out/bson_program"
 
 
 def libbson(room):
@@ -56,7 +56,7 @@ def inputs():
 
 def main():
     sizes = megabytes(sys.argv[1:])
-    print("| Lines of | MB | `bson_lines encode`, s | libbson, s | Ratio of times | Same bytes |")
+    print("| Lines of | MB | `bson_program encode`, s | libbson, s | Ratio of times | Same bytes |")
     print("|---" * 6 + "|")
     with tempfile.TemporaryDirectory() as room:
         commands = [[PROGRAM, "encode"], [libbson(room)]]

@@ -5,7 +5,7 @@
 
 Each kind of input of bench/run.py, as one document: a list stands under the key "a", since libbson takes documents
 alone, and the deep values nest at most 80 levels, since it refuses 100; code with scope is left out, of which version
-1.23 refuses a list of some hundred. Beside these are places with a price, whose doubles bson_lines
+1.23 refuses a list of some hundred. Beside these are places with a price, whose doubles bson_program
 accepts, with --sort-keys. Both programs read standard input and write the canonical text. A time is the least processor
 seconds of five runs in turns, a peak the greatest. Needs Debian's libbson-dev, a C compiler and pkg-config.
 """
@@ -58,7 +58,7 @@ def main():
     sizes = megabytes(sys.argv[1:])
     subprocess.run([f"{TOP}/bson", "build"], check=True, stdout=subprocess.DEVNULL)
     ours = [f"{TOP}/crates/bson_cli/out/bson_cli", "canonical"]
-    with_doubles = [f"{TOP}/crates/bson_lines/out/bson_lines", "canonical", "--sort-keys"]
+    with_doubles = [f"{TOP}/crates/bson_program/out/bson_program", "canonical", "--sort-keys"]
     with tempfile.TemporaryDirectory() as room:
         theirs = libbson(room)
         print("| input | MB | bson_cli, s | MB | libbson, s | MB | ratio of times |\n|---|---|---|---|---|---|---|")

@@ -1,9 +1,9 @@
 #!/usr/bin/env python3
-"""Times bson_lines on documents, one a line, beside bson_cli on the same documents as one list, and `jq -c .`.
+"""Times bson_program on documents, one a line, beside bson_cli on the same documents as one list, and `jq -c .`.
 
     bench/lines.py [--lines-only] [--rounds=5] [LINES ..]        (1000000 where none is given)
 
-For each number of lines of 250 bytes it prints the wall time and the peak memory of `bson_lines` in both forms, of
+For each number of lines of 250 bytes it prints the wall time and the peak memory of `bson_program` in both forms, of
 `bson_cli` in the same form on the list, and of `jq -c .` on the lines, where it is installed. A time is the best of five
 runs; the programs run in turns, so that what else the machine does slows all of them alike. A peak is `VmHWM`, looked
 at each 10 ms. `--lines-only` leaves the other two out, which take memory in proportion to the input, or long.
@@ -83,15 +83,15 @@ def main():
     if BYTES:
         rounds, counts = ROUNDS, [BYTES // LENGTH]
     subprocess.run([f"{TOP}/bson", "build"], check=True, stdout=subprocess.DEVNULL)
-    bson_lines, bson_cli = (f"{TOP}/crates/{name}/out/{name}" for name in ("bson_lines", "bson_cli"))
-    print("| lines | MB | form | bson_lines s | MB | bson_cli as one list s | MB | ratio | jq -c . s | MB |")
+    bson_program, bson_cli = (f"{TOP}/crates/{name}/out/{name}" for name in ("bson_program", "bson_cli"))
+    print("| lines | MB | form | bson_program s | MB | bson_cli as one list s | MB | ratio | jq -c . s | MB |")
     print("|---|---|---|---|---|---|---|---|---|---|")
     with tempfile.TemporaryDirectory() as room:
         for count in counts:
             lines, whole = f"{room}/lines.jsonl", f"{room}/list.json"
             generate(lines, None if alone else whole, count)
             for form in ("canonical", "relaxed"):
-                commands = [([bson_lines, "lines", form, "--strict"], lines)]
+                commands = [([bson_program, "lines", form, "--strict"], lines)]
                 if not alone:
                     commands.append(([bson_cli, form], whole))
                     if shutil.which("jq"):

@@ -8,7 +8,7 @@ For each kind of input of bench/run.py, and for a file of a document a line, it 
 over those with --strict, on 1 MB, as valgrind's callgrind counts them (so that what else the machine does says nothing), and
 the peak of memory of both over the size of the text, on 10 MB. With --time it prints the processor seconds of both, the
 least of five runs in turns (of three from 50 MB on), beside those of libbson on the same document, as bench/libbson.py
-does. bson_lines has to be built (./bson lines does).
+does. bson_program has to be built (./bson lines does).
 """
 import os
 import random
@@ -21,7 +21,7 @@ sys.dont_write_bytecode = True
 import libbson
 from run import KINDS, ROUNDS, TOP, code_with_scope, generate, megabytes, small_document
 
-PROGRAM = f"{TOP}/crates/bson_lines/out/bson_lines"
+PROGRAM = f"{TOP}/crates/bson_program/out/bson_program"
 COUNTED = ["valgrind", "--tool=callgrind", "--callgrind-out-file=/dev/null"]
 
 

@@ -1,7 +1,7 @@
 #!/usr/bin/env python3
 """Proves and builds a program and the libraries below it, each as soon as those that it uses are built.
 
-    tools/build.py [bson_lines|vbson]   (./bson calls it where the program is missing or older than a source, ./vbson
+    tools/build.py [bson_program|vbson]   (./bson calls it where the program is missing or older than a source, ./vbson
                                          for the library for other languages)
 
 The program is bson_cli where none is named. Each crate is proved from nothing, over the statements of the libraries
@@ -45,21 +45,18 @@ COSTS = {
     "bson_store": (4.5, 1.2, 2.0),
     "bson_types": (4.0, 0.5, 1.6),
     "bson_scalar": (7.9, 1.2, 2.4),
-    "bson_model": (0.6, 0.2, 1.6),
-    "bson_order": (0.4, 0.1, 1.6),
-    "bson_place": (1.8, 0.5, 1.6),
-    "bson_tokens": (1.4, 0.4, 1.6),
-    "bson_filter": (7.7, 1.2, 2.4),
-    "bson_pack": (2.1, 0.7, 1.6),
-    "bson_distinct": (2.4, 0.5, 1.6),
-    "bson_legacy": (1.5, 0.3, 1.6),
+    "bson_model": (1.0, 0.2, 1.6),
+    "bson_tree": (1.8, 0.5, 1.6),
+    "bson_text": (7.7, 1.2, 2.4),
+    "bson_tokens": (3.8, 0.7, 1.6),
+    "bson_v1": (1.5, 0.3, 1.6),
     "bson": (13.5, 1.4, 4.6),
     "bson_convert": (1.3, 0.4, 1.8),
     "bson_run": (4.4, 0.7, 2.5),
     "bson_cli": (1.5, 0.9, 1.6),
-    "bson_bytes": (3.0, 0.3, 1.7),
-    "bson_codec": (5.8, 1.1, 2.4),
-    "bson_lines": (6.8, 1.2, 2.5),
+    "bson_bytes": (6.5, 0.7, 1.9),
+    "bson_codec": (7.9, 1.5, 2.4),
+    "bson_program": (6.8, 1.2, 2.5),
     "vbson": (2.5, 1.2, 1.6),
 }
 

@@ -53,7 +53,7 @@ def string_rule(text, at):
         if letter == '"' and not escaped:
             return 'Escape'
         escaped = letter == '\\' and not escaped
-    return 'EndsEarly'
+    return 'UnexpectedEnd'
 
 
 class Reader:
@@ -80,10 +80,10 @@ class Reader:
         """The error of what is no token here: a value or a key, unless one stands before it with no comma."""
         first = self.mark(at)
         if not first:
-            raise Broken(at, 'EndsEarly')
+            raise Broken(at, 'UnexpectedEnd')
         before = self.text[:at].rstrip(BLANKS)[-1:]
         if before == ',' and first in ',:]}':
-            raise Broken(at, 'BehindComma')
+            raise Broken(at, 'ExpectedElement')
         if not may_begin or before not in ('', *',:[{'):
             raise Broken(at, 'Separator')
         if first == '"':
@@ -121,7 +121,7 @@ class Reader:
         """Reads the text's value, behind which nothing stands."""
         at, has_comma = self.comma(self.value(self.start(0), DEEPEST, ''))
         if has_comma or self.mark(at):
-            raise Broken(self.more(at, has_comma), 'MoreBehind')
+            raise Broken(self.more(at, has_comma), 'TrailingData')
 
     def more(self, at, has_comma):
         """The place that is told of what stands behind the text's value."""
@@ -157,8 +157,8 @@ class Reader:
     def closing(self, at, before):
         """The error of a closing bracket where a value may begin."""
         if self.text[:at].rstrip(BLANKS)[-1:] == ',':
-            raise Broken(at, 'BehindComma')
-        raise Broken(self.behind(at), 'BehindKey' if before == ':' else 'Separator')
+            raise Broken(at, 'ExpectedElement')
+        raise Broken(self.behind(at), 'ExpectedColonAndValue' if before == ':' else 'Separator')
 
     def items(self, at, levels):
         """The place behind the array whose bracket stands here."""
@@ -197,4 +197,4 @@ class Reader:
         next_place, has_comma = self.comma(end)
         if first != '"':
             raise Broken(next_place, 'Quotes')
-        raise Broken(next_place, 'BehindKey' if has_comma or self.mark(next_place) else 'EndsEarly')
+        raise Broken(next_place, 'ExpectedColonAndValue' if has_comma or self.mark(next_place) else 'UnexpectedEnd')

@@ -5,7 +5,7 @@ A step that looks at every key so far for each key would need 64 times as long f
 """
 from many_keys import encoded
 
-# The commands of bson_lines that read texts, and those that read BSON.
+# The commands of bson_program that read texts, and those that read BSON.
 COMMANDS = (
     "canonical --strict", "relaxed --strict", "show --strict", "check --strict",
     "canonical", "relaxed", "show", "check", "canonical --sort-keys",

@@ -1,4 +1,4 @@
-"""Tests of vbson_dask on a local cluster of four workers, for tests/scale/run: its words are the program bson_lines and a
+"""Tests of vbson_dask on a local cluster of four workers, for tests/scale/run: its words are the program bson_program and a
 folder, VBSON_LIBRARY and PYTHONPATH name the library and the modules. The last line is 'N passed, M failed'.
 """
 import csv
@@ -140,7 +140,7 @@ def test_dumps_are_decoded(client, room, paths, wanted):
             for name in names[:3]:
                 ran = subprocess.run([room.program, "decode", "relaxed", "--keep-going", *words, name],
                                      capture_output=True, timeout=120)
-                want(ran.stdout, dump_by_parts([name], options)[0], f"bson_lines of {name}")
+                want(ran.stdout, dump_by_parts([name], options)[0], f"bson_program of {name}")
     want(len(os.listdir(f"{room}/dumps-70000-1")) > 10, True, "several parts")
 
 

@@ -31,7 +31,7 @@ class CannotWrite(Exception):
     pass
 
 
-class Pieces:
+class MemberSpans:
     """Gives at most `piece` bytes a read, until `reads` reads were done."""
 
     def __init__(self, data, piece, reads):
@@ -75,7 +75,7 @@ class Drip:
 
 def read_document(data, piece, reads):
     """What from_reader answers, and the bytes of what it read."""
-    reader = Pieces(data, piece, reads)
+    reader = MemberSpans(data, piece, reads)
     try:
         value = bson_bytes.meaning(reader.document())
         return b"done, %d left" % (len(data) - reader.at), bson_bytes.written(value)
@@ -102,7 +102,7 @@ def has_length(data):
 
 def run_dump(line, keeps_going, data, piece, reads, writes, reports):
     """What run_documents answers, writes and reports."""
-    reader, writer, report = Pieces(data, piece, reads), Drip(writes), Drip(reports)
+    reader, writer, report = MemberSpans(data, piece, reads), Drip(writes), Drip(reports)
     number, start, refused = 1, 0, 0
     try:
         while given := reader.document():

@@ -9,7 +9,7 @@ sys.path.insert(0, str(HERE.parent / "rows"))
 
 from rows import CLI, ROOT, spelled
 
-LINES = ROOT / "crates/bson_lines/out/bson_lines"
+LINES = ROOT / "crates/bson_program/out/bson_program"
 
 BYTE_ORDER_MARK = b"\xef\xbb\xbf"
 
@@ -65,13 +65,13 @@ def of_text(form, text):
 
 @lru_cache(None)
 def place_of(text):
-    """What bson_lines tells of a refused text, given alone, behind the words for its fault, without a hint."""
+    """What bson_program tells of a refused text, given alone, behind the words for its fault, without a hint."""
     done = subprocess.run([LINES, "lines", "check", "--strict"], input=b"\n" + text, capture_output=True, timeout=120)
     return done.stderr.partition(b"\n")[0].removeprefix(b"bson: line 2: " + of_text("relaxed", text)[1])
 
 
 def expected(task, on_refusal, text, at_end):
-    """What a run over the lines of the text gives, each by bson_cli, and the places of faults by bson_lines; and over
+    """What a run over the lines of the text gives, each by bson_cli, and the places of faults by bson_program; and over
     those that a newline ends, where the reader fails behind the text."""
     lines = text.removeprefix(BYTE_ORDER_MARK).split(b"\n")
     last = lines.pop()

@@ -40,7 +40,7 @@ RUNNERS = (
 )
 BENCH = re.compile(r"(?m)(?<=`)(?:bench/\w+\.py|tests/memory/run)[^`\n]*(?=`.*\|$)")
 # A crate with few wrong bodies, for a command that tries all of a crate.
-FEW = "bson_raw"
+FEW = "bson_double"
 # The measurements that load the library for other languages.
 OF_LIBRARY = ("bench/bytes.py", "bench/values.py", "bench/library.py", "bench/scale.py")
 SECONDS = 300

@@ -17,7 +17,7 @@ import messages
 import sources
 
 PAGES = ("docs/guide.md", "docs/SCALE.md")
-PROGRAMS = ("bson_cli", "bson_lines")
+PROGRAMS = ("bson_cli", "bson_program")
 LIBRARY = f"{sources.TOP}/languages/out/lib/libvbson.so"
 # The commands that a recipe may need beside those that each test needs, and the module of Python.
 TOOLS, MODULES = ("jq", "sqlite3"), ("pandas", "distributed")

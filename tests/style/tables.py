@@ -37,9 +37,9 @@ def messages():
         strings("crates/bson_convert/src/fault.rt", r'=> "(bson_cli: [^"]+)"')
     yield "the messages of docs/PROGRAMS.md", codes(table("docs/PROGRAMS.md", "Message | When"), 0), \
         strings("crates/bson_convert/src/no_bytes.rt", r'NoBytes::\w+ => "([^"]+)"')
-    usage, text = re.findall(r'(?s)pub const (?:USAGE|HELP): &str =\s*"(.*?)";', sources.read("crates/bson_lines/src/words.rt"))
-    yield "the usage of bson_lines and its help", usage, text.partition("\n\n")[0]
-    yield "the help of bson_lines", text.replace('\\"', '"') + "\n", sources.read("tests/lines/help.txt")
+    usage, text = re.findall(r'(?s)pub const (?:USAGE|HELP): &str =\s*"(.*?)";', sources.read("crates/bson_program/src/words.rt"))
+    yield "the usage of bson_program and its help", usage, text.partition("\n\n")[0]
+    yield "the help of bson_program", text.replace('\\"', '"') + "\n", sources.read("tests/lines/help.txt")
 
 
 def of_python():

@@ -3,11 +3,11 @@ use Rattle.std.proofs.Common.{◌≡◌, List, Result, Ok, Err, sym, ap, ◌∙�
 use Rattle.bson_scalar.specs.Faults.{Fault, Fails, IsIdFault}
 use Rattle.bson_scalar.specs.declared.error.Error.{Error}
 use Rattle.bson_scalar.specs.declared.error.Error.TheVariants.{InvalidObjectId, DeserializationError, OutOfMemory}
-use Rattle.bson_place.specs.Built.{Builds}
-use Rattle.bson_place.specs.Place.{PathSegment, IsReason, path_of}
-use Rattle.bson_place.specs.declared.place.Place.{Place}
-use Rattle.bson_place.specs.declared.place.Reason.{Reason}
-use Rattle.bson_place.specs.declared.place.Reason.TheVariants.{BadObjectId, WrongShape}
+use Rattle.bson_tree.specs.Built.{Builds}
+use Rattle.bson_tree.specs.Place.{PathSegment, IsReason, path_of}
+use Rattle.bson_tree.specs.declared.place.Place.{Place}
+use Rattle.bson_tree.specs.declared.place.Reason.{Reason}
+use Rattle.bson_tree.specs.declared.place.Reason.TheVariants.{BadObjectId, WrongShape}
 use Rattle.bson.specs.Refused.{IsErrorOf}
 
 fails : {Y : Type 0} (read : Result Y Fault) (f : Fault) (reason : Reason) (e : Error) → IsErrorOf reason e

@@ -3,9 +3,9 @@ use Rattle.std.proofs.Common.{◌≡◌, ℕ, suc, List, [], ◌∷◌, ◌++◌
 use Rattle.std.proofs.Common.{option_map, refl, ap}
 use Rattle.std.specs.Str.{bytes_eq}
 use Rattle.bson_store.specs.Pairs.{position_of}
-use Rattle.bson_model.specs.Value.{Value, Values, value, Pairs, pair, get}
+use Rattle.bson_model.specs.Value.{Value, Values, value, Pairs, pair, value_at_key}
 use Rattle.bson_model.specs.Normal.{InRange, ItemsInRange, PairsInRange}
-use Rattle.bson_place.specs.Built.{then_value, then_pair}
+use Rattle.bson_tree.specs.Built.{then_value, then_pair}
 use Rattle.bson.specs.View.{bson_view, values_view, pairs_view}
 use Rattle.bson.specs.declared.bson.Bson.{Bson}
 
@@ -53,6 +53,6 @@ not_there : (b : Bool) (x : Value) (o : Option Value) (r : Option ℕ) → cond 
 not_there true x o r h f = cc
 not_there false x o r h f = rw (f h) refl
 
-pub lacks : (k : List ℕ) (ps : List (List ℕ × Bson)) → get k (pairs_view ps) ≡ None → position_of k ps ≡ None
+pub lacks : (k : List ℕ) (ps : List (List ℕ × Bson)) → value_at_key k (pairs_view ps) ≡ None → position_of k ps ≡ None
 lacks k [] h = refl
-lacks k (p ∷ ps) h = not_there (bytes_eq k p.0) (bson_view p.1) (get k (pairs_view ps)) (position_of k ps) h (lacks k ps)
+lacks k (p ∷ ps) h = not_there (bytes_eq k p.0) (bson_view p.1) (value_at_key k (pairs_view ps)) (position_of k ps) h (lacks k ps)

@@ -12,7 +12,7 @@ use Rattle.bson_store.proofs.Offered.{length-in_order}
 use Rattle.bson_model.specs.Value.{Value, array, document, pair}
 use Rattle.bson_model.specs.Feed.{feed, items_words, pairs_words, items_count, pairs_count}
 use Rattle.bson_model.specs.Sorted.{sorted, sorted_items, sorted_pairs, put_pair}
-use Rattle.bson.specs.View.{bson_view, values_view, pairs_of, pairs_view}
+use Rattle.bson.specs.View.{bson_view, values_view, pairs_from_list, pairs_view}
 use Rattle.bson.specs.declared.bson.Bson.{Bson}
 use Rattle.bson.proofs.Seen.{Entry}
 
@@ -20,22 +20,22 @@ abbrev pub sorted_views : List Entry → List (List ℕ × Value)
 sorted_views es = map (λ e. (e.0, sorted (bson_view e.1))) es
 
 put_in : (k : List ℕ) (v : Bson) (es : List Entry)
-    → put_pair k (sorted (bson_view v)) (pairs_of (sorted_views es)) ≡ pairs_of (sorted_views (put key_cmp k v es))
+    → put_pair k (sorted (bson_view v)) (pairs_from_list (sorted_views es)) ≡ pairs_from_list (sorted_views (put key_cmp k v es))
 put_in k v [] = refl
 put_in k v (e ∷ es) =
     let s = sorted (bson_view v) in
     let t = sorted (bson_view e.1) in
-    let rest = pairs_of (sorted_views es) in
+    let rest = pairs_from_list (sorted_views es) in
     elim (slice_cmp nat_cmp k e.0) as (λ r.
     match_ordering r (pair k s (pair e.0 t rest)) (pair e.0 s rest) (pair e.0 t (put_pair k s rest))
-    ≡ pairs_of (sorted_views (by_order r ((k, v) ∷ e ∷ es) ((e.0, v) ∷ es) (e ∷ put key_cmp k v es)))) [
+    ≡ pairs_from_list (sorted_views (by_order r ((k, v) ∷ e ∷ es) ((e.0, v) ∷ es) (e ∷ put key_cmp k v es)))) [
       | Less ↦ refl
       | Equal ↦ refl
       | Greater ↦ ap (pair e.0 t) (put_in k v es)
     ]
 
 -- the pairs by ascending key, in the store and in the model
-pub sorted-in_order : (ps : List Entry) → sorted_pairs (pairs_view ps) ≡ pairs_of (sorted_views (in_order ps))
+pub sorted-in_order : (ps : List Entry) → sorted_pairs (pairs_view ps) ≡ pairs_from_list (sorted_views (in_order ps))
 sorted-in_order [] = refl
 sorted-in_order (p ∷ ps) = ap (put_pair p.0 (sorted (bson_view p.1))) (sorted-in_order ps)
     ∙ put_in p.0 p.1 (in_order ps)
@@ -45,11 +45,11 @@ abbrev pub turn_words : List Entry → HashWrites
 turn_words [] = []
 turn_words (e ∷ es) = (str e.0 ++ feed (bson_view e.1)) ++ turn_words es
 
-turns : (es : List Entry) → pairs_words (pairs_of (sorted_views es)) ≡ turn_words es
+turns : (es : List Entry) → pairs_words (pairs_from_list (sorted_views es)) ≡ turn_words es
 turns [] = refl
 turns (e ∷ es) = ap (λ ws. (str e.0 ++ feed (bson_view e.1)) ++ ws) (turns es)
 
-turn_count : (es : List Entry) → pairs_count (pairs_of (sorted_views es)) ≡ length es
+turn_count : (es : List Entry) → pairs_count (pairs_from_list (sorted_views es)) ≡ length es
 turn_count [] = refl
 turn_count (e ∷ es) = ap (λ n. n + 1) (turn_count es) ∙ omega arith
 

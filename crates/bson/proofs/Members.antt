@@ -6,16 +6,16 @@ use Rattle.std.specs.List.{insert}
 use Rattle.std.proofs.lemmas.Cmp.{nat_list_cmp_total}
 use Rattle.bson.specs.View.{bson_view}
 use Rattle.bson.specs.declared.bson.Bson.{Bson}
-use Rattle.bson_model.specs.Sorted.{put_pair, IsLeast, KeysAscend}
+use Rattle.bson_model.specs.Sorted.{put_pair, IsBelowKeys, KeysAscend}
 use Rattle.bson_model.specs.Value.{pair}
 use Rattle.bson_model.proofs.Offered.{flipped, equal_keys}
-use Rattle.bson.specs.Gathered.{Member, member, gathered_pairs, StandsAt, FitsAt}
+use Rattle.bson.specs.Collected.{Member, member, collected_pairs, StandsAt, FitsAt}
 
 abbrev pub key_at : List Member → ℕ → Member → List ℕ
 key_at ms i d = string_bytes (get_or ms i d).key
 
 -- the keys behind a place are above the one there
-above_first : (k : List ℕ) (ms : List Member) (i : ℕ) (d : Member) → IsLeast k (gathered_pairs ms) → i < length ms
+above_first : (k : List ℕ) (ms : List Member) (i : ℕ) (d : Member) → IsBelowKeys k (collected_pairs ms) → i < length ms
     → slice_cmp nat_cmp k (key_at ms i d) ≡ Less
 above_first k [] i d a l = absurd (omega arith)
 above_first k (m ∷ ms) zero d a l = a.0
@@ -23,7 +23,7 @@ above_first k (m ∷ ms) (suc i) d a l = above_first k ms i d a.1 (omega arith)
 
 -- what is above a member is above all before it
 after_first : (k : List ℕ) (m : Member) (ms : List Member) (i : ℕ) (d : Member)
-    → IsLeast (string_bytes m.key) (gathered_pairs ms) → i < length ms → slice_cmp nat_cmp k (key_at ms i d) ≡ Greater
+    → IsBelowKeys (string_bytes m.key) (collected_pairs ms) → i < length ms → slice_cmp nat_cmp k (key_at ms i d) ≡ Greater
     → slice_cmp nat_cmp k (string_bytes m.key) ≡ Greater
 after_first k m ms i d least l h =
     flipped (string_bytes m.key) k Less
@@ -31,14 +31,14 @@ after_first k m ms i d least l h =
     (above_first (string_bytes m.key) ms i d least l) (flipped k (key_at ms i d) Greater h))
 
 at_first : (k : List ℕ) (m : Member) (ms : List Member) (i : ℕ) (d : Member)
-    → IsLeast (string_bytes m.key) (gathered_pairs ms) → i < length ms → slice_cmp nat_cmp k (key_at ms i d) ≡ Equal
+    → IsBelowKeys (string_bytes m.key) (collected_pairs ms) → i < length ms → slice_cmp nat_cmp k (key_at ms i d) ≡ Equal
     → slice_cmp nat_cmp k (string_bytes m.key) ≡ Greater
 at_first k m ms i d least l h =
     flipped (string_bytes m.key) k Less
     (subst (λ x. slice_cmp nat_cmp (string_bytes m.key) x ≡ Less) (sym (equal_keys k (key_at ms i d) h))
     (above_first (string_bytes m.key) ms i d least l))
 
-pub stands : (k : List ℕ) (ms : List Member) (i : ℕ) (d : Member) → KeysAscend (gathered_pairs ms) → i < length ms
+pub stands : (k : List ℕ) (ms : List Member) (i : ℕ) (d : Member) → KeysAscend (collected_pairs ms) → i < length ms
     → slice_cmp nat_cmp k (key_at ms i d) ≡ Equal → StandsAt k ms i
 stands k [] i d up l h = absurd (omega arith)
 stands k (m ∷ ms) zero d up l h = h
@@ -52,7 +52,7 @@ pub fits_first : (k : List ℕ) (ms : List Member) → IsBelowAt k ms 0 → Fits
 fits_first k [] below = tt
 fits_first k (m ∷ ms) below = below m (omega arith)
 
-pub fits : (k : List ℕ) (ms : List Member) (i : ℕ) (d : Member) → KeysAscend (gathered_pairs ms) → i < length ms
+pub fits : (k : List ℕ) (ms : List Member) (i : ℕ) (d : Member) → KeysAscend (collected_pairs ms) → i < length ms
     → slice_cmp nat_cmp k (key_at ms i d) ≡ Greater → IsBelowAt k ms (suc i) → FitsAt k ms (suc i)
 fits k [] i d up l h below = absurd (omega arith)
 fits k (m ∷ ms) zero d up l h below = (h, fits_first k ms (λ e n. below e (omega arith)))
@@ -62,14 +62,14 @@ fits k (m ∷ ms) (suc i) d up l h below =
 -- ---- what an edit at the place does
 
 pub seen_set : (k : String Global) (v : Bson) (ms : List Member) (i : ℕ) → StandsAt (string_bytes k) ms i
-    → gathered_pairs (set ms i (member k v)) ≡ put_pair (string_bytes k) (bson_view v) (gathered_pairs ms)
+    → collected_pairs (set ms i (member k v)) ≡ put_pair (string_bytes k) (bson_view v) (collected_pairs ms)
 seen_set k v [] i h = absurd h
 seen_set k v (m ∷ ms) zero h =
-    rw h (ap (λ x. pair x (bson_view v) (gathered_pairs ms)) (equal_keys (string_bytes k) (string_bytes m.key) h))
+    rw h (ap (λ x. pair x (bson_view v) (collected_pairs ms)) (equal_keys (string_bytes k) (string_bytes m.key) h))
 seen_set k v (m ∷ ms) (suc i) h = rw h.0 (ap (pair (string_bytes m.key) (bson_view m.value)) (seen_set k v ms i h.1))
 
 pub seen_insert : (k : String Global) (v : Bson) (ms : List Member) (i : ℕ) → FitsAt (string_bytes k) ms i
-    → gathered_pairs (insert ms i (member k v)) ≡ put_pair (string_bytes k) (bson_view v) (gathered_pairs ms)
+    → collected_pairs (insert ms i (member k v)) ≡ put_pair (string_bytes k) (bson_view v) (collected_pairs ms)
 seen_insert k v [] zero h = refl
 seen_insert k v [] (suc i) h = absurd h
 seen_insert k v (m ∷ ms) zero h = rw h refl

@@ -8,21 +8,23 @@ use Rattle.bson_scalar.specs.declared.form.Doubles.{Doubles}
 use Rattle.bson_scalar.specs.declared.form.Form.{Form}
 use Rattle.bson_scalar.specs.declared.write_error.WriteError.{WriteError}
 use Rattle.bson_scalar.specs.declared.write_error.WriteError.TheVariants.{FiniteDouble, OutOfMemory}
-use Rattle.bson_scalar.proofs.Offered.{text_is}
+use Rattle.bson_scalar.proofs.Offered.{text_is as as_text}
 use Rattle.bson_model.specs.Laws.{IsTreeOfIn}
 use Rattle.bson_model.specs.Normal.{writable_in, normal_form, InRange}
 use Rattle.bson_model.specs.Value.{Value}
 use Rattle.bson_model.specs.Writing.{writes_in}
 use Rattle.bson_model.proofs.Offered.{tree_is_in, writable_is_in}
-use Rattle.bson_order.specs.Distinct.{AllDistinct}
-use Rattle.bson_order.specs.Kept.{unordered}
-use Rattle.bson_order.specs.Written.{WrittenInOrder}
-use Rattle.bson_order.proofs.Offered.{default_written, has_no_float, one_written, ordered_text, written_from}
-use Rattle.bson_order.proofs.Offered.{writable_is}
+use Rattle.bson_model.specs.Distinct.{AllDistinct}
+use Rattle.bson_model.specs.Kept.{unordered}
+use Rattle.bson_model.specs.OrderedWritten.{WrittenInOrder}
+use Rattle.bson_model.proofs.OfferedInOrder.{default_written, has_no_float, one_written, ordered_text, written_from}
+use Rattle.bson_model.proofs.OfferedInOrder.{writable_is}
 use Rattle.bson.specs.KeyOrders.{writes_by}
-use Rattle.bson.specs.Texts.{GivesText, AppendsText, IsTextInOrder}
-use Rattle.bson.specs.declared.extjson.key_order.KeyOrder.TheVariants.{AsGiven}
+use Rattle.bson.specs.Texts.{GivesText, AppendsText, IsTextBy, IsTextInOrder}
+use Rattle.bson.specs.declared.extjson.key_order.KeyOrder.{KeyOrder}
+use Rattle.bson.specs.declared.extjson.key_order.KeyOrder.TheVariants.{Ascending, AsGiven}
 use Rattle.bson.proofs.KeyOrders.{as_given_is}
+use Rattle.bson.proofs.WholeTexts.{text_by_default, text_finite, text_is, text_writable}
 
 module _ (D : Doubles) (f : Form) (v : Value) where
   is_writable : (t : Data) → writes_by AsGiven D f v ≡ Ok t → writable_in D v ≡ true
@@ -52,20 +54,20 @@ module _ (D : Doubles) (f : Form) (v : Value) where
         one = λ u other. one_written D f v t u h other;
         ordered = λ plain. ordered_text D f v t h plain ranged distinct;
         by_default = default_tree t h (is_writable t w) ranged;
-        compact = is ∙ sym (text_is D f t (has_no_float D f v t h));
+        compact = is ∙ sym (as_text D f t (has_no_float D f v t h));
       }
 
-  pub ordered_is : (r : Result (String Global) WriteError) → GivesText r (writes_by AsGiven D f v) → OnOk r (InRange v)
+  ordered_is : (r : Result (String Global) WriteError) → GivesText r (writes_by AsGiven D f v) → OnOk r (InRange v)
       → OnOk r (AllDistinct v) → IfOk r (λ s. IsTextInOrder D f v (string_bytes s))
   ordered_is (Ok s) g ranged distinct = text_of_tree g.0 (string_bytes s) g.1 g.2 ranged distinct
   ordered_is (Err e) g ranged distinct = tt
 
-  pub ordered_writable : (r : Result (String Global) WriteError) → GivesText r (writes_by AsGiven D f v)
+  ordered_writable : (r : Result (String Global) WriteError) → GivesText r (writes_by AsGiven D f v)
       → OnOk r (writable_in D v ≡ true)
   ordered_writable (Ok s) g = is_writable g.0 g.1
   ordered_writable (Err e) g = tt
 
-  pub ordered_finite : (r : Result (String Global) WriteError) → GivesText r (writes_by AsGiven D f v)
+  ordered_finite : (r : Result (String Global) WriteError) → GivesText r (writes_by AsGiven D f v)
       → r ≡ Err FiniteDouble → writable_in D v ≡ false
   ordered_finite (Ok s) g e = cc
   ordered_finite (Err OutOfMemory) g e = cc
@@ -95,3 +97,20 @@ module _ (D : Doubles) (f : Form) (v : Value) where
     appended_finite (Ok done) g e = cc
     appended_finite (Err OutOfMemory) g e = cc
     appended_finite (Err FiniteDouble) g e = sym (writable_is D f v) ∙ ap is_ok (sym (as_given_is D f v) ∙ g.0)
+
+  -- ---- in either order
+
+  pub text_by : (o : KeyOrder) (r : Result (String Global) WriteError) → GivesText r (writes_by o D f v)
+      → OnOk r (InRange v) → OnOk r (AllDistinct v) → IfOk r (λ s. IsTextBy o D f v (string_bytes s))
+  text_by Ascending r g ranged distinct = text_is D f v r (text_by_default D f v r g) ranged
+  text_by AsGiven r g ranged distinct = ordered_is r g ranged distinct
+
+  pub writable_by : (o : KeyOrder) (r : Result (String Global) WriteError) → GivesText r (writes_by o D f v)
+      → OnOk r (writable_in D v ≡ true)
+  writable_by Ascending r g = text_writable D f v r (text_by_default D f v r g)
+  writable_by AsGiven r g = ordered_writable r g
+
+  pub finite_by : (o : KeyOrder) (r : Result (String Global) WriteError) → GivesText r (writes_by o D f v)
+      → r ≡ Err FiniteDouble → writable_in D v ≡ false
+  finite_by Ascending r g e = text_finite D f v r (text_by_default D f v r g) e
+  finite_by AsGiven r g e = ordered_finite r g e

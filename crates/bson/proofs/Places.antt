@@ -6,7 +6,7 @@ use Rattle.std.specs.Str.{bytes_eq}
 use Rattle.bson_store.specs.Pairs as store
 use Rattle.bson_store.specs.Pairs.{HasDistinctKeys, position_of}
 use Rattle.bson_store.proofs.Offered.{get-at, at-get, no_other, length-same_keys}
-use Rattle.bson_model.specs.Value.{Value, document, get}
+use Rattle.bson_model.specs.Value.{Value, document, value_at_key}
 use Rattle.bson.specs.View.{bson_view, pairs_view, values_view}
 use Rattle.bson_model.specs.Same.{same, same_items}
 use Rattle.bson_model.proofs.Offered.{option_same, at_each, from_each, same_document}
@@ -20,7 +20,7 @@ view_at : (b : Bool) (v : Bson) (r : Option Bson) (s : Option Value) → s ≡ o
 view_at true v r s e = refl
 view_at false v r s e = e
 
-pub get-bson_view : (k : List ℕ) (ps : Entries) → get k (pairs_view ps) ≡ option_map bson_view (store.get k ps)
+pub get-bson_view : (k : List ℕ) (ps : Entries) → value_at_key k (pairs_view ps) ≡ option_map bson_view (store.get k ps)
 get-bson_view k [] = refl
 get-bson_view k (p ∷ ps) = view_at (bytes_eq k p.0) p.1 _ _ (get-bson_view k ps)
 
@@ -46,7 +46,7 @@ module _ (ps qs : Entries) where
   -- what is at a key of one is the same as what is at it in the other
   abbrev pub IsSameAt : ℕ → Type 0
   IsSameAt i = (p : List ℕ × Bson) → slice_get ps i ≡ Some p
-      → option_same (Some (bson_view p.1)) (get p.0 (pairs_view qs)) ≡ true
+      → option_same (Some (bson_view p.1)) (value_at_key p.0 (pairs_view qs)) ≡ true
 
   at_key : same (document (pairs_view ps)) (document (pairs_view qs)) ≡ true → (k : List ℕ)
       → option_same (option_map bson_view (store.get k ps)) (option_map bson_view (store.get k qs)) ≡ true
@@ -80,14 +80,14 @@ module _ (ps qs : Entries) where
   there h k (Some v) e s =
       let at = at-get k ps v e in
       sym (ap is_some (get-bson_view k qs) ∙ some_view (store.get k qs))
-      ∙ sym (same_some (Some (bson_view v)) (get k (pairs_view qs)) (h at.0 at.1 (k, v) at.2))
+      ∙ sym (same_some (Some (bson_view v)) (value_at_key k (pairs_view qs)) (h at.0 at.1 (k, v) at.2))
 
   found : (k : List ℕ) (r : Option Bson) → store.get k ps ≡ r → length ps ≡ length qs → HasDistinctKeys ps
       → ((i : ℕ) → i < length ps → IsSameAt i)
-      → option_same (get k (pairs_view ps)) (get k (pairs_view qs)) ≡ true
+      → option_same (value_at_key k (pairs_view ps)) (value_at_key k (pairs_view qs)) ≡ true
   found k (Some v) e n d h =
       let at = at-get k ps v e in
-      ap (λ o. option_same o (get k (pairs_view qs))) (get-bson_view k ps ∙ ap (option_map bson_view) e)
+      ap (λ o. option_same o (value_at_key k (pairs_view qs))) (get-bson_view k ps ∙ ap (option_map bson_view) e)
       ∙ h at.0 at.1 (k, v) at.2
   found k None e n d h =
       let no = none_of (store.get k qs)
@@ -114,10 +114,10 @@ pair_of_key (p ∷ ps) (suc i) k e = pair_of_key ps i k e
 
 -- the pair at a place is one
 pub IsSameAt-from : (ps qs : Entries) (i : ℕ) (p : List ℕ × Bson) → slice_get ps i ≡ Some p
-    → option_same (Some (bson_view p.1)) (get p.0 (pairs_view qs)) ≡ true → IsSameAt ps qs i
+    → option_same (Some (bson_view p.1)) (value_at_key p.0 (pairs_view qs)) ≡ true → IsSameAt ps qs i
 IsSameAt-from ps qs i p e h q f =
     let one : p ≡ q = cc in
-    subst (λ r. option_same (Some (bson_view r.1)) (get r.0 (pairs_view qs)) ≡ true) one h
+    subst (λ r. option_same (Some (bson_view r.1)) (value_at_key r.0 (pairs_view qs)) ≡ true) one h
 
 -- arrays place by place
 pub items_differ : (vs ws : List Bson) → (length vs ≡ length ws → ⊥)

@@ -22,7 +22,7 @@ use Rattle.bson_store.specs.Pairs.{keys, HasDistinctKeys}
 use Rattle.bson_model.specs.Value.{Value, code_scope, Values, value, Pairs, no_pairs, pair}
 use Rattle.bson_model.specs.Normal.{InRange, PairsInRange}
 use Rattle.bson_model.specs.Writing.{with_scope}
-use Rattle.bson_order.specs.Distinct.{has_pair, AllDistinct, PairsDistinct}
+use Rattle.bson_model.specs.Distinct.{has_pair, AllDistinct, PairsDistinct}
 use Rattle.bson_store.proofs.Offered.{find-in_order, lacks}
 use Rattle.bson.specs.KeyOrders.{ordered, writes_by, writes_items_by, writes_pairs_by, EachValue}
 use Rattle.bson.specs.Texts.{tokens_of, code_tokens, writes_in_turn}

@@ -3,11 +3,11 @@ use Rattle.std.proofs.Common.{◌≡◌, ◌+◌, ◌++◌, ◌∷◌, [], ℕ, 
 use Rattle.std.proofs.Common.{OnOk, IfErr, Bool, true, false, cond, bytes_eq, rules, refl, sym, ap, ◌∙◌, subst}
 use Rattle.std.proofs.Common.{append_assoc, append-nil}
 use Rattle.std.proofs.lemmas.List.{same_from_push}
-use Rattle.bson_filter.proofs.Offered.{put_in_turn, once_sorted}
-use Rattle.bson_filter.specs.Stops.{MayStop, MayStopAt}
-use Rattle.bson_filter.specs.Walked.{ItemsWritten, PairsWritten, once, set_pair, set_each}
-use Rattle.bson_filter.specs.declared.stop.Stop.{Stop}
-use Rattle.bson_filter.specs.declared.stop.Stop.TheVariants.{OutOfMemory, DuplicateKey, GaveUp, Syntax, Fault}
+use Rattle.bson_text.proofs.Offered.{put_in_turn, once_sorted}
+use Rattle.bson_text.specs.Stops.{MayStop, MayStopAt}
+use Rattle.bson_text.specs.Walked.{ItemsWritten, PairsWritten, once, set_pair, set_each}
+use Rattle.bson_text.specs.declared.stop.Stop.{Stop}
+use Rattle.bson_text.specs.declared.stop.Stop.TheVariants.{OutOfMemory, DuplicateKey, GaveUp, Syntax, Fault}
 use Rattle.bson_model.specs.Sorted.{put_pair, sorted, sorted_items}
 use Rattle.bson_model.specs.Value.{Value, scalar, array, document, code_scope, Values, no_values, value}
 use Rattle.bson_model.specs.Value.{Pairs, no_pairs, pair}
@@ -16,9 +16,9 @@ use Rattle.bson_scalar.specs.Scalar.{Scalar}
 use Rattle.bson_store.specs.Pairs.{insert_pair}
 use Rattle.bson_store.specs.Small.{stored_pairs}
 use Rattle.bson.proofs.Seen.{bson_view-Array, bson_view-Document}
-use Rattle.bson.specs.Gathered.{Member, gathered_pairs, put_all}
+use Rattle.bson.specs.Collected.{Member, collected_pairs, put_members}
 use Rattle.bson.specs.Pushed.{value_by, pairs_by, document_by, put_turns, held, is_document, key_in, Pushed, ValuePushed}
-use Rattle.bson.specs.Pushed.{DocumentPushed, ArrayBegun, DocumentBegun, CodeBegun}
+use Rattle.bson.specs.Pushed.{DocumentPushed, ArrayOpened, DocumentOpened, CodeBegun}
 use Rattle.bson.specs.Put.{put_entries}
 use Rattle.bson.specs.View.{bson_view, document_view, pairs_view, values_view}
 use Rattle.bson.specs.declared.bson.Bson as bson_form
@@ -193,18 +193,18 @@ pushed_around start now new k l outer x order around key later kind last = (
 )
 
 -- it is an array that was begun, and a document
-pub still_array : (vs : Values) (k : List ℕ) (start mid now : BsonWriter) (begun : Begun) → ArrayBegun start k begun mid
+pub still_array : (vs : Values) (k : List ℕ) (start mid now : BsonWriter) (begun : Begun) → ArrayOpened start k begun mid
     → ItemsWritten ValuePushed (λ i. []) 0 vs mid now → is_document now.container ≡ false
 still_array vs k start mid now begun begins written =
     let (xs, (order, same, items), all) = items_pushed 0 vs mid now written in same ∙ begins.1
 
-pub still_document : (ps : Pairs) (start mid now : BsonWriter) (begun : Begun) → DocumentBegun start begun mid
+pub still_document : (ps : Pairs) (start mid now : BsonWriter) (begun : Begun) → DocumentOpened start begun mid
     → PairsWritten ValuePushed (λ a k b. b ≡ a) ps mid now → is_document now.container ≡ true
 still_document ps start mid now begun begins written =
     let (es, (order, same, items), all) = pairs_pushed ps mid now begins.1 written in same ∙ begins.1
 
 pub array_pushed : (vs : Values) (k : List ℕ) (start mid now new : BsonWriter) (begun : Begun) (v w : Vec Bson Global)
-    (outer : Container) → ArrayBegun start k begun mid → ItemsWritten ValuePushed (λ i. []) 0 vs mid now
+    (outer : Container) → ArrayOpened start k begun mid → ItemsWritten ValuePushed (λ i. []) 0 vs mid now
     → now.container ≡ Array v → outer ≡ begun.outer → w.items ≡ v.items → new.order ≡ now.order
     → is_document new.container ≡ is_document outer
     → held new.container ≡ held outer ++ (key_in outer (string_bytes begun.key), bson.Array w) ∷ []
@@ -234,8 +234,8 @@ once_by Ascending ps = turns_sorted ps no_pairs ∙ sym (once_sorted ps)
 once_by AsGiven ps = ap once (each_as_given ps)
 
 pub document_pushed : (ps : Pairs) (start mid now new : BsonWriter) (begun : Begun) (v : Vec Member Global) (d : Document)
-    (outer : Container) → DocumentBegun start begun mid → PairsWritten ValuePushed (λ a k b. b ≡ a) ps mid now
-    → now.container ≡ OfPairs v → outer ≡ begun.outer → document_view d ≡ document_by now.order (gathered_pairs v.items)
+    (outer : Container) → DocumentOpened start begun mid → PairsWritten ValuePushed (λ a k b. b ≡ a) ps mid now
+    → now.container ≡ OfPairs v → outer ≡ begun.outer → document_view d ≡ document_by now.order (collected_pairs v.items)
     → new.order ≡ now.order → is_document new.container ≡ is_document outer
     → held new.container ≡ held outer ++ (key_in outer (string_bytes begun.key), bson.Document d) ∷ []
     → DocumentPushed start (once ps) new
@@ -243,7 +243,7 @@ document_pushed ps start mid now new begun v d outer (mode, is_pairs, empty, aro
     same last =
     let (es, (order, still, items), all) = pairs_pushed ps mid now is_pairs written in
     let first = order ∙ mode in
-    let pairs : gathered_pairs v.items ≡ each_by start.order ps =
+    let pairs : collected_pairs v.items ≡ each_by start.order ps =
     ap pairs_view (sym (ap held kind) ∙ items ∙ ap (λ l. l ++ es) empty) ∙ all ∙ ap (λ o. each_by o ps) mode in (
       d,
       pushed_around start now new (string_bytes start.key) (string_bytes begun.key) outer (bson.Document d) first
@@ -358,15 +358,15 @@ set_view k v [] = refl
 set_view k v (p ∷ ps) = set_at (bytes_eq k p.0) k v p ps (set_view k v ps)
 
 entries_set : (es : List Member) (ps : List (List ℕ × Bson))
-    → pairs_view (put_entries es ps) ≡ set_each (gathered_pairs es) (pairs_view ps)
+    → pairs_view (put_entries es ps) ≡ set_each (collected_pairs es) (pairs_view ps)
 entries_set [] ps = refl
 entries_set (e ∷ es) ps =
     entries_set es (insert_pair (string_bytes e.key) e.value ps)
-    ∙ ap (set_each (gathered_pairs es)) (set_view (string_bytes e.key) e.value ps)
+    ∙ ap (set_each (collected_pairs es)) (set_view (string_bytes e.key) e.value ps)
 
-pub entries_once : (es : List Member) → pairs_view (put_entries es []) ≡ once (gathered_pairs es)
+pub entries_once : (es : List Member) → pairs_view (put_entries es []) ≡ once (collected_pairs es)
 entries_once es = entries_set es []
 
-pub entries_turned : (es : List Member) (found : Pairs) → put_all es found ≡ put_turns (gathered_pairs es) found
+pub entries_turned : (es : List Member) (found : Pairs) → put_members es found ≡ put_turns (collected_pairs es) found
 entries_turned [] found = refl
 entries_turned (e ∷ es) found = entries_turned es (put_pair (string_bytes e.key) (bson_view e.value) found)

@@ -8,7 +8,7 @@ use Rattle.bson_model.specs.Value.{value}
 use Rattle.bson.specs.View.{bson_view, document_view, values_view, pairs_view, contents}
 use Rattle.bson.specs.declared.bson.Bson.{Bson}
 use Rattle.bson.specs.declared.document.Document.{Document}
-use Rattle.bson.specs.SameInOrder.{same_in_order, items_in_order, pairs_in_order}
+use Rattle.bson.specs.SameInOrder.{same_in_order, same_items_in_order, same_pairs_in_order}
 use Rattle.bson.proofs.Seen.{document_view-pairs}
 use Rattle.bson.proofs.Weights.{weight, weight_pairs}
 
@@ -35,32 +35,32 @@ none_left false some h = rw (sym h) refl
 
 -- the answer is that of what is left
 pub whole : (a b : Document) (ps qs : Entries) (x : Bool)
-    → pairs_in_order (pairs_view ps) (pairs_view qs) ≡ pairs_in_order (pairs_view (contents a)) (pairs_view (contents b))
-    → pairs_in_order (pairs_view ps) (pairs_view qs) ≡ x
-    → x ≡ pairs_in_order (document_view a) (document_view b)
-whole a b ps qs x inv h = sym h ∙ inv ∙ ap₂ pairs_in_order (sym (document_view-pairs a)) (sym (document_view-pairs b))
+    → same_pairs_in_order (pairs_view ps) (pairs_view qs) ≡ same_pairs_in_order (pairs_view (contents a)) (pairs_view (contents b))
+    → same_pairs_in_order (pairs_view ps) (pairs_view qs) ≡ x
+    → x ≡ same_pairs_in_order (document_view a) (document_view b)
+whole a b ps qs x inv h = sym h ∙ inv ∙ ap₂ same_pairs_in_order (sym (document_view-pairs a)) (sym (document_view-pairs b))
 
 pub one_longer : (k : List ℕ) (v : Bson) (ps qs rest : Entries) → ps ≡ (k, v) ∷ rest → qs ≡ []
-    → pairs_in_order (pairs_view ps) (pairs_view qs) ≡ false
+    → same_pairs_in_order (pairs_view ps) (pairs_view qs) ≡ false
 unfolding same_in_order
 one_longer k v ps qs rest e f = rw (e, f) refl
 
 pub other_key : (k l : List ℕ) (v w : Bson) (ps qs more rest : Entries) → ps ≡ (k, v) ∷ more → qs ≡ (l, w) ∷ rest
-    → bytes_eq k l ≡ false → pairs_in_order (pairs_view ps) (pairs_view qs) ≡ false
+    → bytes_eq k l ≡ false → same_pairs_in_order (pairs_view ps) (pairs_view qs) ≡ false
 unfolding same_in_order
 other_key k l v w ps qs more rest e f n = rw (e, f, n) refl
 
 pub other_value : (k l : List ℕ) (v w : Bson) (ps qs more rest : Entries) → ps ≡ (k, v) ∷ more → qs ≡ (l, w) ∷ rest
-    → same_in_order (bson_view v) (bson_view w) ≡ false → pairs_in_order (pairs_view ps) (pairs_view qs) ≡ false
+    → same_in_order (bson_view v) (bson_view w) ≡ false → same_pairs_in_order (pairs_view ps) (pairs_view qs) ≡ false
 unfolding same_in_order
 other_value k l v w ps qs more rest e f n = rw (e, f, n) (and_false (bytes_eq k l) false refl)
 
 pub next_pair : (k l : List ℕ) (v w : Bson) (ps qs more rest : Entries) (x : Bool) → ps ≡ (k, v) ∷ more
     → qs ≡ (l, w) ∷ rest → bytes_eq k l ≡ true → same_in_order (bson_view v) (bson_view w) ≡ true
-    → pairs_in_order (pairs_view ps) (pairs_view qs) ≡ x → pairs_in_order (pairs_view more) (pairs_view rest) ≡ x
+    → same_pairs_in_order (pairs_view ps) (pairs_view qs) ≡ x → same_pairs_in_order (pairs_view more) (pairs_view rest) ≡ x
 unfolding same_in_order
 next_pair k l v w ps qs more rest x e f n s h =
-    let here : pairs_in_order (pairs_view ps) (pairs_view qs) ≡ pairs_in_order (pairs_view more) (pairs_view rest) =
+    let here : same_pairs_in_order (pairs_view ps) (pairs_view qs) ≡ same_pairs_in_order (pairs_view more) (pairs_view rest) =
     rw (e, f, n, s) refl in
     sym here ∙ h
 
@@ -71,7 +71,7 @@ lighter k v ps more e = ap (λ (x : Entries). weight_pairs (pairs_view x)) e
 -- where the left one is over, so is the right one, or it is longer
 pub ended : {A : Type 0} (see : A → List ℕ × Bson) (r : Option A) (ps qs rest : Entries) → ps ≡ []
     → MatchOption r ((qs ≡ []) × (rest ≡ [])) (λ x. qs ≡ see x ∷ rest)
-    → pairs_in_order (pairs_view ps) (pairs_view qs) ≡ is_none r
+    → same_pairs_in_order (pairs_view ps) (pairs_view qs) ≡ is_none r
 unfolding same_in_order
 ended see None ps qs rest e h = rw (e, h.0) refl
 ended see (Some x) ps qs rest e h = rw (e, h) refl
@@ -79,7 +79,7 @@ ended see (Some x) ps qs rest e h = rw (e, h) refl
 -- ---- arrays
 
 pub lengths_differ : (vs ws : List Bson) → (length vs ≡ length ws → ⊥)
-    → false ≡ items_in_order (values_view vs) (values_view ws)
+    → false ≡ same_items_in_order (values_view vs) (values_view ws)
 unfolding same_in_order
 lengths_differ [] [] n = absurd (n refl)
 lengths_differ [] (w ∷ ws) n = refl
@@ -94,28 +94,28 @@ item_here vs i v lt is = ap values_view (drop_more vs i v lt)
 
 pub next_item : (vs ws : List Bson) (i : ℕ) (v w : Bson) (x : Bool) → i < length vs → i < length ws → v ≡ get_or vs i v
     → w ≡ get_or ws i w → same_in_order (bson_view v) (bson_view w) ≡ true
-    → items_in_order (values_view (drop i vs)) (values_view (drop i ws)) ≡ x
-    → items_in_order (values_view (drop (i + 1) vs)) (values_view (drop (i + 1) ws)) ≡ x
+    → same_items_in_order (values_view (drop i vs)) (values_view (drop i ws)) ≡ x
+    → same_items_in_order (values_view (drop (i + 1) vs)) (values_view (drop (i + 1) ws)) ≡ x
 unfolding same_in_order
 next_item vs ws i v w x in_vs in_ws a b s h =
-    let here : items_in_order (values_view (drop i vs)) (values_view (drop i ws))
-    ≡ items_in_order (values_view (drop (i + 1) vs)) (values_view (drop (i + 1) ws)) =
+    let here : same_items_in_order (values_view (drop i vs)) (values_view (drop i ws))
+    ≡ same_items_in_order (values_view (drop (i + 1) vs)) (values_view (drop (i + 1) ws)) =
     rw (item_here vs i v in_vs a, item_here ws i w in_ws b, s) refl in
     sym here ∙ h
 
 pub other_item : (vs ws : List Bson) (i : ℕ) (v w : Bson) (x : Bool) → i < length vs → i < length ws
     → v ≡ get_or vs i v → w ≡ get_or ws i w → same_in_order (bson_view v) (bson_view w) ≡ false
-    → items_in_order (values_view (drop i vs)) (values_view (drop i ws)) ≡ x → false ≡ x
+    → same_items_in_order (values_view (drop i vs)) (values_view (drop i ws)) ≡ x → false ≡ x
 unfolding same_in_order
 other_item vs ws i v w x in_vs in_ws a b s h =
-    let here : items_in_order (values_view (drop i vs)) (values_view (drop i ws)) ≡ false =
+    let here : same_items_in_order (values_view (drop i vs)) (values_view (drop i ws)) ≡ false =
     rw (item_here vs i v in_vs a, item_here ws i w in_ws b, s) refl in
     sym here ∙ h
 
 pub items_ended : (vs ws : List Bson) (i : ℕ) (x : Bool) → length vs ≤ i → length ws ≤ i
-    → items_in_order (values_view (drop i vs)) (values_view (drop i ws)) ≡ x → true ≡ x
+    → same_items_in_order (values_view (drop i vs)) (values_view (drop i ws)) ≡ x → true ≡ x
 unfolding same_in_order
 items_ended vs ws i x over done h =
-    let here : items_in_order (values_view (drop i vs)) (values_view (drop i ws)) ≡ true =
+    let here : same_items_in_order (values_view (drop i vs)) (values_view (drop i ws)) ≡ true =
     rw (drop_all i vs over, drop_all i ws done) refl in
     sym here ∙ h

@@ -13,29 +13,22 @@ use Rattle.bson_scalar.specs.declared.form.Form.{Form}
 use Rattle.bson_scalar.specs.declared.write_error.WriteError.{WriteError}
 use Rattle.bson_scalar.specs.declared.write_error.WriteError.TheVariants.{FiniteDouble, OutOfMemory}
 use Rattle.bson_scalar.proofs.Offered.{writable_is}
-use Rattle.bson.specs.Texts.{MayStop}
+use Rattle.bson.specs.Texts.{IsWriteErrorIn}
 
 -- a scalar that has a text where finite doubles are written stops no writer there
 stopped : (D : Doubles) (f : Form) (x : Scalar) (e : WriteError) → writable_scalar_in Finite x ≡ true
-    → Stops e (writes_scalar_in D f x) → MayStop D e
+    → Stops e (writes_scalar_in D f x) → IsWriteErrorIn D e
 stopped D f x OutOfMemory some h = tt
 stopped Special f x FiniteDouble some h = tt
 stopped Finite f x FiniteDouble some h =
     let is = sym (ap is_ok h) ∙ writable_is Finite f x ∙ some in cc
 
 pub written_stopped : (D : Doubles) (f : Form) (x : Scalar) {X : Type 0} (see : X → Data) (r : Result X WriteError)
-    → writable_scalar_in Finite x ≡ true → Writes see r (writes_scalar_in D f x) → IfErr r (MayStop D)
+    → writable_scalar_in Finite x ≡ true → Writes see r (writes_scalar_in D f x) → IfErr r (IsWriteErrorIn D)
 written_stopped D f x see (Ok t) some h = tt
 written_stopped D f x see (Err e) some h = stopped D f x e some h
 
 pub put_stopped : (D : Doubles) (f : Form) (x : Scalar) (old new : List Token) (r : Result (Unit {0}) WriteError)
-    → writable_scalar_in Finite x ≡ true → Puts r (writes_scalar_in D f x) old new → IfErr r (MayStop D)
+    → writable_scalar_in Finite x ≡ true → Puts r (writes_scalar_in D f x) old new → IfErr r (IsWriteErrorIn D)
 put_stopped D f x old new (Ok done) some h = tt
 put_stopped D f x old new (Err e) some h = stopped D f x e some h
-
-pub never_finite : (D : Doubles) {X : Type 0} (r : Result X WriteError) → IfErr r (MayStop D) → D ≡ Finite
-    → r ≡ Err FiniteDouble → ⊥
-never_finite D (Ok t) h finite is = cc
-never_finite D (Err OutOfMemory) h finite is = cc
-never_finite Special (Err FiniteDouble) h finite is = cc
-never_finite Finite (Err FiniteDouble) h finite is = h

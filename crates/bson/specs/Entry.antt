@@ -29,9 +29,9 @@ abbrev pub document_with : Entry → Bson → Document
 document_with e w = holding (insert_pair (entry_key e) w (contents (entry_document e).now))
 
 -- the entry is occupied exactly if there is a value
-abbrev pub FitsValue : Entry → Option Bson → Type 0
-FitsValue (Occupied o) v = IsTrue (is_some v)
-FitsValue (Vacant e) v = v ≡ None
+abbrev pub MatchesValue : Entry → Option Bson → Type 0
+MatchesValue (Occupied o) v = IsTrue (is_some v)
+MatchesValue (Vacant e) v = v ≡ None
 
 -- once the loan r ends, the document has the last value written through r at e's key; without r it stays
 abbrev pub entry_lends : {E : Type 0} → Entry → Result (MutBor Bson) E → Fml

@@ -1,5 +1,5 @@
 -- What a value is written as in either order of keys, as functions for private clauses: `writes_in` where keys ascend,
--- and `writes_in_order` of `bson_order` where they are as given.
+-- and `writes_in_order` of `bson_model` where they are as given.
 use Rattle.std.specs.Prelude.{ℕ, List, Result, Ok}
 use Rattle.serde_json.specs.Data.{Data, Items, no_items, item, Members, no_members, member, put}
 use Rattle.serde_json.specs.Data as tree
@@ -19,9 +19,9 @@ ordered Ascending ps = in_order ps
 ordered AsGiven ps = ps
 
 -- where a member goes among those of the pairs behind it: here alone the orders differ
-abbrev pub put_by : KeyOrder → List ℕ → Data → Members → Members
-put_by Ascending k d ms = put k d ms
-put_by AsGiven k d ms = member k d ms
+abbrev pub put_in_order : KeyOrder → List ℕ → Data → Members → Members
+put_in_order Ascending k d ms = put k d ms
+put_in_order AsGiven k d ms = member k d ms
 
 abbrev mutual
   pub writes_by : KeyOrder → Doubles → Form → Value → Result Data Refusal
@@ -37,7 +37,7 @@ abbrev mutual
   pub writes_pairs_by : KeyOrder → Doubles → Form → Pairs → Result Members Refusal
   writes_pairs_by o D f no_pairs = Ok no_members
   writes_pairs_by o D f (pair k v ps) =
-      writes_by o D f v >>= λ d. writes_pairs_by o D f ps >>= λ ms. Ok (put_by o k d ms)
+      writes_by o D f v >>= λ d. writes_pairs_by o D f ps >>= λ ms. Ok (put_in_order o k d ms)
 
 -- each value of the pairs is so
 abbrev pub EachValue : (Value → Type 0) → Pairs → Type 0

@@ -91,8 +91,8 @@ symbol_of (bson.Symbol s) = Some s
 symbol_of _ = None
 
 -- the bytes of the text that a kind holds
-abbrev pub bytes_of : (Bson → Option (Text Global)) → Bson → Option (List ℕ)
-bytes_of held v = option_map string_bytes (held v)
+abbrev pub text_bytes_of : (Bson → Option (Text Global)) → Bson → Option (List ℕ)
+text_bytes_of held v = option_map string_bytes (held v)
 
 -- the sixteen bytes of a decimal
 abbrev pub decimal_of : Bson → Option (List ℕ)

@@ -1,7 +1,7 @@
 -- What a writer of values in memory has pushed: for private clauses.
 use Rattle.std.specs.Prelude.{◌≡◌, ◌++◌, ◌∷◌, [], ℕ, Bool, true, false, List, map, String, string_bytes}
 use Rattle.std.specs.declared.alloc.Global.{Global}
-use Rattle.bson_filter.specs.Walked.{once}
+use Rattle.bson_text.specs.Walked.{once}
 use Rattle.bson_model.specs.Sorted.{put_pair, sorted, sorted_pairs}
 use Rattle.bson_model.specs.Value.{Value, Pairs, no_pairs, pair}
 use Rattle.bson_store.specs.Small.{stored_pairs}
@@ -62,16 +62,16 @@ DocumentPushed old ps new = (d : Document) × Pushed old (string_bytes old.key) 
     × (document_view d ≡ pairs_by old.order ps)
 
 -- the old container was put aside, with the key there, for one of this kind that holds these
-abbrev pub IsBegun : BsonWriter → List ℕ → Begun → Bool → List (List ℕ × Bson) → BsonWriter → Type 0
-IsBegun old k begun kind ps new = (new.order ≡ old.order) × (is_document new.container ≡ kind) × (held new.container ≡ ps)
+abbrev pub IsContainerOpened : BsonWriter → List ℕ → Begun → Bool → List (List ℕ × Bson) → BsonWriter → Type 0
+IsContainerOpened old k begun kind ps new = (new.order ≡ old.order) × (is_document new.container ≡ kind) × (held new.container ≡ ps)
     × (begun.outer ≡ old.container) × (key_in old.container (string_bytes begun.key) ≡ key_in old.container k)
 
-abbrev pub ArrayBegun : BsonWriter → List ℕ → Begun → BsonWriter → Type 0
-ArrayBegun old k begun new = IsBegun old k begun false [] new
+abbrev pub ArrayOpened : BsonWriter → List ℕ → Begun → BsonWriter → Type 0
+ArrayOpened old k begun new = IsContainerOpened old k begun false [] new
 
-abbrev pub DocumentBegun : BsonWriter → Begun → BsonWriter → Type 0
-DocumentBegun old begun new = IsBegun old (string_bytes old.key) begun true [] new
+abbrev pub DocumentOpened : BsonWriter → Begun → BsonWriter → Type 0
+DocumentOpened old begun new = IsContainerOpened old (string_bytes old.key) begun true [] new
 
 abbrev pub CodeBegun : BsonWriter → List ℕ → List ℕ → Begun → BsonWriter → Type 0
 CodeBegun old k s begun new = (code : String Global) × (string_bytes code ≡ s)
-    × IsBegun old k begun false (([], bson.JavaScriptCode code) ∷ []) new
+    × IsContainerOpened old k begun false (([], bson.JavaScriptCode code) ∷ []) new

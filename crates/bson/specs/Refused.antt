@@ -2,8 +2,8 @@
 use Rattle.std.specs.Prelude.{◌≡◌}
 use Rattle.bson_scalar.specs.declared.error.Error.{Error}
 use Rattle.bson_scalar.specs.declared.error.Error.TheVariants.{InvalidObjectId, DeserializationError}
-use Rattle.bson_place.specs.declared.place.Reason.{Reason}
-use Rattle.bson_place.specs.declared.place.Reason.TheVariants.{BadObjectId, WrongShape}
+use Rattle.bson_tree.specs.declared.place.Reason.{Reason}
+use Rattle.bson_tree.specs.declared.place.Reason.TheVariants.{BadObjectId, WrongShape}
 
 -- the same fault of an object id's text, or the same message
 abbrev pub IsErrorOf : Reason → Error → Type 0

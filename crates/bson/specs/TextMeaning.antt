@@ -6,8 +6,12 @@ use Rattle.bson_scalar.specs.declared.form.Doubles.{Doubles}
 use Rattle.bson_scalar.specs.declared.form.Doubles.TheVariants.{Special}
 use Rattle.bson_model.specs.Value.{Value}
 use Rattle.bson_model.specs.Laws.{HasMeaningIn}
-use Rattle.bson_place.specs.Place.{IsFirstFaultIn}
-use Rattle.bson_order.specs.Texts.{HasMeaningInOrder}
+use Rattle.bson_model.specs.Means.{MeansIn}
+use Rattle.bson_model.specs.Texts.{ComesBackIn}
+use Rattle.bson_tree.specs.Place.{IsFirstFaultIn}
+use Rattle.bson_model.specs.Kept.{read_kept}
+use Rattle.bson_model.specs.OrderedMeans.{MeansInOrder}
+use Rattle.bson_model.specs.OrderedTexts.{HasMeaningInOrder, ComesBackInOrder}
 use Rattle.bson.specs.declared.extjson.key_order.KeyOrder.{KeyOrder}
 use Rattle.bson.specs.declared.extjson.key_order.KeyOrder.TheVariants.{Ascending, AsGiven}
 use Rattle.bson.specs.declared.extjson.text_error.TextError.{TextError}
@@ -40,9 +44,19 @@ HasTextMeaning = HasTextMeaningIn Special
 abbrev pub IsTextFault : List ℕ → TextError → Type 0
 IsTextFault = IsTextFaultIn Special
 
--- ---- for private clauses
+-- ---- in either order of keys
 
--- the bytes are a text that means the value, in the order
+-- the bytes are a text that means the value, whose keys are in the order
 abbrev pub HasTextMeaningBy : KeyOrder → Doubles → List ℕ → Value → Type 0
 HasTextMeaningBy Ascending D bytes v = HasTextMeaningIn D bytes v
 HasTextMeaningBy AsGiven D bytes v = IsUtf8 bytes × HasMeaningInOrder D bytes v
+
+-- the bytes are the text of a tree that means the value in the order
+abbrev pub MeansBy : KeyOrder → Doubles → List ℕ → Value → Type 0
+MeansBy Ascending D bytes v = (t : Data) × IsTextOf bytes t × MeansIn D t v
+MeansBy AsGiven D bytes v = (t : Data) × IsUtf8 bytes × (read_kept bytes ≡ Some t) × MeansInOrder D t v
+
+-- the text of the value in the order and in either form is read as the same value again
+abbrev pub ComesBackBy : KeyOrder → Doubles → Value → Type 0
+ComesBackBy Ascending D v = ComesBackIn D v
+ComesBackBy AsGiven D v = ComesBackInOrder D v

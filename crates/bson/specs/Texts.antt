@@ -15,9 +15,11 @@ use Rattle.bson_model.specs.Texts.{ReadsAgainIn}
 use Rattle.bson_model.specs.Value.{Value, Pairs, no_pairs, pair}
 use Rattle.bson_model.specs.Normal.{normal_form, plain}
 use Rattle.bson_model.specs.Laws.{IsTreeOfIn}
-use Rattle.bson_order.specs.Kept.{unordered}
-use Rattle.bson_order.specs.Texts.{IsOrderedTextOf}
-use Rattle.bson_order.specs.Written.{WrittenInOrder}
+use Rattle.bson_model.specs.Kept.{unordered}
+use Rattle.bson_model.specs.OrderedTexts.{IsOrderedTextOf}
+use Rattle.bson_model.specs.OrderedWritten.{WrittenInOrder}
+use Rattle.bson.specs.declared.extjson.key_order.KeyOrder.{KeyOrder}
+use Rattle.bson.specs.declared.extjson.key_order.KeyOrder.TheVariants.{Ascending, AsGiven}
 
 -- the compact text of the value's tree in the form
 pub record IsTextUnder (D : Doubles) (f : Form) (v : Value) (text : List ℕ) : Type 0 where
@@ -41,6 +43,17 @@ pub record IsTextInOrder (D : Doubles) (f : Form) (v : Value) (text : List ℕ) 
   pub by_default : IsTreeOfIn D f v (unordered tree)
   pub compact : text ≡ tree_text D f tree
 
+-- the compact text of the value in the form, its keys in the order
+abbrev pub IsTextBy : KeyOrder → Doubles → Form → Value → List ℕ → Type 0
+IsTextBy Ascending D f v text = IsTextUnder D f v text
+IsTextBy AsGiven D f v text = IsTextInOrder D f v text
+
+-- why a value is not written: where finite doubles are, for running out of memory alone
+abbrev pub IsWriteErrorIn : Doubles → WriteError → Type 0
+IsWriteErrorIn D OutOfMemory = Unit {0}
+IsWriteErrorIn Special FiniteDouble = Unit {0}
+IsWriteErrorIn Finite FiniteDouble = ⊥
+
 -- ---- for private clauses
 
 -- What a function returned is what writing gives, unless memory ran out: the tokens of the tree come after the old
@@ -59,12 +72,6 @@ GivesText (Err e) written = Stops e written
 abbrev pub AppendsText : Result (Unit {0}) WriteError → Result Data Refusal → List ℕ → List ℕ → Type 0
 AppendsText (Ok done) written old new = (t : Data) × (written ≡ Ok t) × (new ≡ old ++ text_of t)
 AppendsText (Err e) written old new = Stops e written × (new ≡ old)
-
--- why a value is not written: where finite doubles are, for running out of memory alone
-abbrev pub MayStop : Doubles → WriteError → Type 0
-MayStop D OutOfMemory = Unit {0}
-MayStop Special FiniteDouble = Unit {0}
-MayStop Finite FiniteDouble = ⊥
 
 -- the members of pairs as they stand, where each value is written by w
 abbrev pub writes_in_turn : (Value → Result Data Refusal) → Pairs → Result Members Refusal

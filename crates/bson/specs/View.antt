@@ -21,9 +21,9 @@ abbrev pub values_of : List Value → Values
 values_of [] = no_values
 values_of (v ∷ vs) = value v (values_of vs)
 
-abbrev pub pairs_of : List (List ℕ × Value) → Pairs
-pairs_of [] = no_pairs
-pairs_of (p ∷ ps) = pair p.0 p.1 (pairs_of ps)
+abbrev pub pairs_from_list : List (List ℕ × Value) → Pairs
+pairs_from_list [] = no_pairs
+pairs_from_list (p ∷ ps) = pair p.0 p.1 (pairs_from_list ps)
 
 -- one level, with each value inside already seen
 abbrev pub view_step : Bson-F Value Value Pairs → Value
@@ -53,7 +53,7 @@ abbrev pub scope_step : JavaScriptCodeWithScope-F Value Value Pairs → Value
 scope_step c = code_scope (string_bytes c.code) c.scope
 
 abbrev pub pairs_step : Document-F Value Value Pairs → Pairs
-pairs_step d = pairs_of d.pairs
+pairs_step d = pairs_from_list d.pairs
 
 abbrev pub bson_view : Bson → Value
 bson_view = fold-Bson Value Value Pairs view_step scope_step pairs_step
@@ -68,4 +68,4 @@ abbrev pub values_view : List Bson → Values
 values_view vs = values_of (map bson_view vs)
 
 abbrev pub pairs_view : List (List ℕ × Bson) → Pairs
-pairs_view ps = pairs_of (map (λ p. (p.0, bson_view p.1)) ps)
+pairs_view ps = pairs_from_list (map (λ p. (p.0, bson_view p.1)) ps)

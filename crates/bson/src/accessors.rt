@@ -2,7 +2,7 @@
 ghost use Rattle.std.specs.Prelude.{◌≡◌, ◌↔◌, IsSome, option_copied, option_map};
 ghost use Rattle.std.specs.Borrow.{LendsIf, sem};
 ghost use Rattle.bson.specs.declared.bson.Bson.TheVariants as value;
-ghost use Rattle.bson.specs.Kinds.{array_of, boolean_of, bytes_of, date_of, db_pointer_of};
+ghost use Rattle.bson.specs.Kinds.{array_of, boolean_of, text_bytes_of, date_of, db_pointer_of};
 ghost use Rattle.bson.specs.Kinds.{document_of, double_of, int32_of, int64_of, object_id_of};
 ghost use Rattle.bson.specs.Kinds.{string_of, symbol_of, timestamp_of};
 ghost use Rattle.bson.specs.Rows.{array_row, bson_row, date_row, document_row, object_id_row};
@@ -28,7 +28,7 @@ impl Bson {
 
     /// Returns the text of a `String`.
     pub fn as_str(&self) -> Option<&str>
-        ensures { option_copied result ≡ bytes_of string_of self.now }
+        ensures { option_copied result ≡ text_bytes_of string_of self.now }
     {
         match self {
             Bson::String(text) => Some(text.as_str()),
@@ -144,7 +144,7 @@ impl Bson {
 
     /// Returns the text of a `Symbol`.
     pub fn as_symbol(&self) -> Option<&str>
-        ensures { option_copied result ≡ bytes_of symbol_of self.now }
+        ensures { option_copied result ≡ text_bytes_of symbol_of self.now }
     {
         match self {
             Bson::Symbol(text) => Some(text.as_str()),

@@ -22,7 +22,7 @@ use Rattle.bson_scalar.specs.Scalar.{db_pointer}
 use Rattle.bson_model.specs.Normal.{map_scalars, map_scalars_of_items}
 use Rattle.bson_model.specs.Value.{Value, Values, no_values, value, Pairs, no_pairs, pair, scalar, code_scope, array}
 use Rattle.bson_model.specs.Value.{document}
-use Rattle.bson_bytes.specs.Grammar.{le, IsName, NoZero, IsSize, scope_bytes, framed, values}
+use Rattle.bson_bytes.specs.Grammar.{le, IsName, NoZero, IsSize, scope_bytes, framed, pair_values}
 use Rattle.bson_bytes.specs.Grammar.{binary_bytes, old_binary_bytes, insert_value, settle, one_each}
 use Rattle.bson_bytes.specs.Grammar.{IsDocument, is_document, IsList, is_empty, is_element, IsValue, is_double, is_text}
 use Rattle.bson_bytes.specs.Grammar.{is_embedded, is_array, is_binary, is_old_binary, is_undefined, is_object_id}
@@ -31,7 +31,7 @@ use Rattle.bson_bytes.specs.Grammar.{is_true, is_date, is_null, is_regex, is_poi
 use Rattle.bson_bytes.specs.Grammar.{is_int32, is_timestamp, is_int64, is_decimal, is_min, is_max}
 use Rattle.bson_bytes.specs.Laws.{IsRead}
 use Rattle.bson_bytes.specs.declared.keys.DuplicateKeys.TheVariants.{Replace}
-use Rattle.bson_bytes.specs.Reading.{reads}
+use Rattle.bson_bytes.specs.Reading.{reads_bytes}
 use Rattle.bson_bytes.specs.Writing.{scalar_bytes, name_bytes, type_of, value_bytes, items_bytes}
 use Rattle.bson_bytes.specs.Writing.{list_bytes, document_bytes, FitsScalar, FitsValue, FitsItems, FitsList}
 use Rattle.bson_bytes.specs.Writing.{FitsDocument}
@@ -129,7 +129,7 @@ one_each_written ps e = settle_written no_pairs ps ∙ ap as_written e
 record Numbered (d n : ℕ) (vs : Values) : Type 0 where
   pairs : Pairs
   spelled : IsList Replace d (items_bytes n vs) pairs
-  are : values pairs ≡ map_scalars_of_items by_byte vs
+  are : pair_values pairs ≡ map_scalars_of_items by_byte vs
 
 -- the document of a list that is in the grammar
 document_of : (e d : ℕ) (ps : Pairs) (list : List ℕ) → d ≡ suc e → IsList Replace e list ps → IsSize (length list + 5)
@@ -200,5 +200,5 @@ pub written_one : (d : ℕ) (ps qs : Pairs) → FitsDocument ps → FitsDocument
     → NestsPairs ps d → NestsPairs qs d → document_bytes ps ≡ document_bytes qs → as_written ps ≡ as_written qs
 written_one d ps qs f g t u h k e =
     ok_is (as_written ps) (as_written qs)
-    (sym (is_read Replace (suc d) (document_bytes ps) (as_written ps) (written_read d ps f t h)) ∙ ap (reads (suc d)) e
+    (sym (is_read Replace (suc d) (document_bytes ps) (as_written ps) (written_read d ps f t h)) ∙ ap (reads_bytes (suc d)) e
     ∙ is_read Replace (suc d) (document_bytes qs) (as_written qs) (written_read d qs g u k))

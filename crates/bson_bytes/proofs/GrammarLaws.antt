@@ -6,7 +6,7 @@ use Rattle.bson_model.specs.Value.{Pairs, no_pairs}
 use Rattle.bson_bytes.specs.declared.fault.FaultKind.TheVariants.{Trailing}
 use Rattle.bson_bytes.specs.Fault.{at}
 use Rattle.bson_bytes.specs.Grammar.{IsDocument, MayStand, settle, one_each}
-use Rattle.bson_bytes.specs.Reading.{settled, document_in, reads_in, none_before}
+use Rattle.bson_bytes.specs.Reading.{settled, document_in, reads_bytes_in, none_before}
 use Rattle.bson_bytes.specs.Laws.{IsReadIn, IsFrontIn}
 use Rattle.bson_bytes.specs.declared.keys.DuplicateKeys.{DuplicateKeys}
 use Rattle.bson_bytes.proofs.PartLaws.{IsBytes, bind_ok, if_ok, ok_is}
@@ -16,8 +16,8 @@ use Rattle.bson_bytes.proofs.Rounds.{of_mapped}
 use Rattle.bson_bytes.proofs.Standing.{may_stand, stand_from}
 
 pub grammar_from : (keys : DuplicateKeys) (d : ℕ) (bytes : List ℕ) (qs : Pairs) → IsBytes bytes
-    → reads_in keys d bytes ≡ Ok qs → IsReadIn keys d bytes qs
-unfolding reads_in
+    → reads_bytes_in keys d bytes ≡ Ok qs → IsReadIn keys d bytes qs
+unfolding reads_bytes_in
 grammar_from keys d bytes qs fits e =
     let read = document_in keys d (none_before keys) bytes in
     let test = λ (x : Pairs × List ℕ). cond (eqb (length x.1) 0) (Ok x.0) (Err (at Trailing x.1)) in
@@ -35,8 +35,8 @@ grammar_from keys d bytes qs fits e =
     }
 
 pub grammar_read : (keys : DuplicateKeys) (d : ℕ) (bytes : List ℕ) (ps : Pairs) → IsDocument keys d bytes ps
-    → MayStand keys ps → reads_in keys d bytes ≡ Ok (one_each ps)
-unfolding reads_in
+    → MayStand keys ps → reads_bytes_in keys d bytes ≡ Ok (one_each ps)
+unfolding reads_bytes_in
 grammar_read keys d bytes ps w once =
     let read : document_in keys d (none_before keys) bytes ≡ Ok (ps, []) =
     ap (document_in keys d (none_before keys)) (sym (append-nil bytes))
@@ -44,7 +44,7 @@ grammar_read keys d bytes ps w once =
     rw read refl
 
 pub is_read : (keys : DuplicateKeys) (d : ℕ) (bytes : List ℕ) (qs : Pairs) → IsReadIn keys d bytes qs
-    → reads_in keys d bytes ≡ Ok qs
+    → reads_bytes_in keys d bytes ≡ Ok qs
 is_read keys d bytes qs h =
     grammar_read keys d bytes h.elements h.grammar h.once ∙ ap (λ (ps : Pairs). Ok ps) (sym h.pairs)
 

@@ -14,3 +14,14 @@ pub mod Within
 pub mod Passed
 pub mod Texts
 pub mod Offered
+pub mod OfferedSource
+pub mod Loop
+pub mod Apart
+pub mod Sending
+pub mod Skips
+pub mod Steps
+pub mod Passing
+pub mod Found
+pub mod Finding
+pub mod Iterating
+pub mod Scalars

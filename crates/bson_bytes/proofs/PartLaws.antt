@@ -16,7 +16,7 @@ use Rattle.bson_bytes.specs.declared.fault.FaultKind.{FaultKind}
 use Rattle.bson_bytes.specs.declared.fault.FaultKind.TheVariants.{Short, Length, Utf8, End}
 use Rattle.bson_bytes.specs.Fault.{at, ◌>>=◌, or_fault}
 use Rattle.bson_bytes.specs.Grammar.{le, IsName, NoZero}
-use Rattle.bson_bytes.specs.Reading.{byte_at, bytes_at, number_at, size_at, zero_at, split_zero, behind, utf8_at}
+use Rattle.bson_bytes.specs.Reading.{byte_at, bytes_at, number_at, size_at, zero_at, split_zero, with_byte_before, utf8_at}
 use Rattle.bson_bytes.specs.Reading.{name_at, text_at}
 
 -- ---- bytes
@@ -195,7 +195,7 @@ Splits bytes k rest = NoZero k × (bytes ≡ k ++ 0 ∷ rest)
 -- one byte more, where the rest splits
 split_more : (b : ℕ) (bytes k rest : List ℕ) (o : Option (List ℕ × List ℕ)) → (b ≡ 0 → ⊥)
     → ((j r : List ℕ) → o ≡ Some (j, r) → Splits bytes j r)
-    → option_map (behind b) o ≡ Some (k, rest) → Splits (b ∷ bytes) k rest
+    → option_map (with_byte_before b) o ≡ Some (k, rest) → Splits (b ∷ bytes) k rest
 split_more b bytes k rest None n f e = absurd cc
 split_more b bytes k rest (Some p) n f e =
     let h = f p.0 p.1 refl in
@@ -205,7 +205,7 @@ split_more b bytes k rest (Some p) n f e =
 pub split_takes : (bytes k rest : List ℕ) → split_zero bytes ≡ Some (k, rest) → Splits bytes k rest
 split_takes [] k rest e = absurd cc
 split_takes (b ∷ bytes) k rest e =
-    elim (chosen (eqb b 0) (Some ([], bytes)) (option_map (behind b) (split_zero bytes)) (Some (k, rest)) e) [
+    elim (chosen (eqb b 0) (Some ([], bytes)) (option_map (with_byte_before b) (split_zero bytes)) (Some (k, rest)) e) [
       | inl z ↦
           let same : ◌≡◌ {A = List ℕ × List ℕ} ([], bytes) (k, rest) = cc in
           subst (λ (p : List ℕ × List ℕ). Splits (b ∷ bytes) p.0 p.1) same (tt, rw (eqb-true b 0 z.0) refl)
@@ -257,10 +257,10 @@ text_takes bytes s rest fits e =
     let end = zero_takes c.0.1 d.0 d.1 in
     let utf8 = utf8_takes c.0.0 n.1 u.0 u.1 in
     let len : n.0 ≡ length c.0.0 + 1 = absurd_or n.0 (length c.0.0) some text.spelled.1 in
-    let behind : n.1 ≡ c.0.0 ++ 0 ∷ d.0 = text.parts ∙ ap (λ (x : List ℕ). x ++ c.0.1) text.spelled.0 ∙ ap (λ (x : List ℕ). c.0.0 ++ x) end in
+    let with_byte_before : n.1 ≡ c.0.0 ++ 0 ∷ d.0 = text.parts ∙ ap (λ (x : List ℕ). x ++ c.0.1) text.spelled.0 ∙ ap (λ (x : List ℕ). c.0.0 ++ x) end in
     let whole : bytes ≡ (le w32 (length c.0.0 + 1) ++ (c.0.0 ++ 0 ∷ [])) ++ d.0 =
     size.parts ∙ ap (λ (x : List ℕ). x ++ n.1) size.spelled.0 ∙ ap (λ (k : ℕ). le w32 k ++ n.1) len
-    ∙ ap (λ (x : List ℕ). le w32 (length c.0.0 + 1) ++ x) behind ∙ regroup (le w32 (length c.0.0 + 1)) c.0.0 d.0 in
+    ∙ ap (λ (x : List ℕ). le w32 (length c.0.0 + 1) ++ x) with_byte_before ∙ regroup (le w32 (length c.0.0 + 1)) c.0.0 d.0 in
     let made : Takes IsTextBytes bytes c.0.0 d.0 = record {
       front = le w32 (length c.0.0 + 1) ++ (c.0.0 ++ 0 ∷ []);
       spelled = (refl, rw utf8.0 utf8.1, omega (arith, size.spelled.1, len));
@@ -277,7 +277,7 @@ text_again s rest utf8 lt =
     ap text_at (sym (regroup (le w32 (length s + 1)) s rest))
     ∙ rw (size_again (length s + 1) (s ++ 0 ∷ rest) lt, some, one, bytes_again s (0 ∷ rest), utf8) refl
 
-none_from : (b : ℕ) (o : Option (List ℕ × List ℕ)) → option_map (behind b) o ≡ None → o ≡ None
+none_from : (b : ℕ) (o : Option (List ℕ × List ℕ)) → option_map (with_byte_before b) o ≡ None → o ≡ None
 none_from b None e = refl
 none_from b (Some p) e = absurd cc
 
@@ -285,7 +285,7 @@ none_from b (Some p) e = absurd cc
 pub no_zero_from : (k : List ℕ) → split_zero k ≡ None → NoZero k
 no_zero_from [] e = tt
 no_zero_from (b ∷ k) e =
-    elim (chosen (eqb b 0) (Some ([], k)) (option_map (behind b) (split_zero k)) None e) [
+    elim (chosen (eqb b 0) (Some ([], k)) (option_map (with_byte_before b) (split_zero k)) None e) [
       | inl z ↦ absurd cc
       | inr n ↦ (eqb-false b 0 n.0, no_zero_from k (none_from b (split_zero k) n.1))
     ]

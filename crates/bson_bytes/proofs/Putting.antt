@@ -17,7 +17,7 @@ use Rattle.bson_model.specs.Value.{document}
 use Rattle.bson_bytes.specs.Grammar.{le, NoZero, IsSize, text_bytes, scope_size, framed}
 use Rattle.bson_bytes.specs.Putting.{Put, then, put_sized, put_text, is_free, put_regex, put_pointer}
 use Rattle.bson_bytes.specs.Putting.{put_scalar, put_name, put_room, put_length, put_end, put_value, put_items}
-use Rattle.bson_bytes.specs.Putting.{put_pairs}
+use Rattle.bson_bytes.specs.Putting.{put_elements}
 use Rattle.bson_bytes.specs.Putting.{put_document}
 use Rattle.bson_bytes.specs.Reading.{split_zero}
 use Rattle.bson_bytes.specs.Writing.{Cause, zero_in_key, zero_in_regex, too_long, scalar_bytes, subtyped_size}
@@ -180,7 +180,7 @@ prefixed out a (Ok x) b p g t = (t.0, t.1 ∙ append_assoc out a b)
 prefixed out a (Err c) b p g t = t
 
 told_scope : (s : List ℕ) (ps : Pairs) (out : List ℕ)
-    → ((mid : List ℕ) → Told mid (put_pairs ps mid) (list_bytes ps) (FitsList ps) (λ c. ListFails c ps))
+    → ((mid : List ℕ) → Told mid (put_elements ps mid) (list_bytes ps) (FitsList ps) (λ c. ListFails c ps))
     → Told out (put_value (code_scope s ps) out) (value_bytes (code_scope s ps)) (FitsValue (code_scope s ps))
     (λ c. ValueFails c (code_scope s ps))
 unfolding put_value
@@ -188,7 +188,7 @@ told_scope s ps out h =
     let bytes = framed (list_bytes ps) in
     let body = text_bytes s ++ bytes in
     let size : 4 + length body ≡ scope_size s bytes = ap (λ (n : ℕ). 4 + n) (length-append (text_bytes s) bytes) in
-    let put = λ (a : List ℕ). then (put_pairs ps (put_room a)) (put_end (length a)) in
+    let put = λ (a : List ℕ). then (put_elements ps (put_room a)) (put_end (length a)) in
     let fits = IsSize (length s + 1) × (FitsList ps × IsSize (length (list_bytes ps) + 5)) in
     let inner = λ (c : Cause). ListFails c ps ⊎ (FitsList ps × IsLong c (length (list_bytes ps) + 5)) in
     let fails = λ (c : Cause). IsLong c (length s + 1) ⊎ (IsSize (length s + 1) × inner c) in
@@ -196,7 +196,7 @@ told_scope s ps out h =
     told_then (put_room out) (put_text s (put_room out)) put (text_bytes s) bytes (IsSize (length s + 1))
     (FitsList ps × IsSize (length (list_bytes ps) + 5)) (λ c. IsLong c (length s + 1))
     inner (told_sized (length s + 1) (text_bytes s) (put_room out))
-    (λ mid. told_end mid (put_pairs ps (put_room mid)) (list_bytes ps) (FitsList ps) (λ c. ListFails c ps)
+    (λ mid. told_end mid (put_elements ps (put_room mid)) (list_bytes ps) (FitsList ps) (λ c. ListFails c ps)
     (h (put_room mid))) in
     let r = then (then (put_text s (put_room out)) put) (put_length (length out)) in
     let whole : Told out r (le w32 (4 + length body) ++ body) (fits × IsSize (4 + length body))
@@ -205,7 +205,7 @@ told_scope s ps out h =
     subst (λ (n : ℕ). Told out r (le w32 n ++ body) (fits × IsSize n) (λ c. fails c ⊎ (fits × IsLong c n))) size whole
 
 mutual
-  unfolding put_value put_items put_pairs
+  unfolding put_value put_items put_elements
 
   pub told_value : (v : Value) (out : List ℕ) → Told out (put_value v out) (value_bytes v) (FitsValue v) (λ c. ValueFails c v)
   told_value (scalar x) out = told_scalar x out
@@ -214,7 +214,7 @@ mutual
       told_end out (put_items 0 vs (put_room out)) (items_bytes 0 vs) (FitsItems vs) (λ c. ItemsFail c vs)
       (told_items 0 vs (put_room out))
   told_value (document ps) out =
-      told_end out (put_pairs ps (put_room out)) (list_bytes ps) (FitsList ps) (λ c. ListFails c ps) (told_pairs ps (put_room out))
+      told_end out (put_elements ps (put_room out)) (list_bytes ps) (FitsList ps) (λ c. ListFails c ps) (told_pairs ps (put_room out))
 
   pub told_items : (n : ℕ) (vs : Values) (out : List ℕ)
       → Told out (put_items n vs out) (items_bytes n vs) (FitsItems vs) (λ c. ItemsFail c vs)
@@ -228,19 +228,19 @@ mutual
       (λ b. told_items (n + 1) vs b))
 
   pub told_pairs : (ps : Pairs) (out : List ℕ)
-      → Told out (put_pairs ps out) (list_bytes ps) (FitsList ps) (λ c. ListFails c ps)
+      → Told out (put_elements ps out) (list_bytes ps) (FitsList ps) (λ c. ListFails c ps)
   told_pairs no_pairs out = (tt, sym (append-nil out))
   told_pairs (pair k v ps) out =
-      told_then out (put_name (type_of v) k out) (λ a. then (put_value v a) (λ b. put_pairs ps b)) (name_bytes (type_of v) k)
+      told_then out (put_name (type_of v) k out) (λ a. then (put_value v a) (λ b. put_elements ps b)) (name_bytes (type_of v) k)
       (value_bytes v ++ list_bytes ps) (NoZero k) (FitsValue v × FitsList ps) (λ c. HasZeroKey c k)
       (λ c. ValueFails c v ⊎ (FitsValue v × ListFails c ps)) (told_name (type_of v) k out)
-      (λ mid. told_then mid (put_value v mid) (λ b. put_pairs ps b) (value_bytes v) (list_bytes ps) (FitsValue v) (FitsList ps)
+      (λ mid. told_then mid (put_value v mid) (λ b. put_elements ps b) (value_bytes v) (list_bytes ps) (FitsValue v) (FitsList ps)
       (λ c. ValueFails c v) (λ c. ListFails c ps) (told_value v mid) (λ b. told_pairs ps b))
 
 pub told_document : (ps : Pairs) (out : List ℕ)
     → Told out (put_document ps out) (document_bytes ps) (FitsDocument ps) (λ c. DocumentFails c ps)
 told_document ps out =
-    told_end out (put_pairs ps (put_room out)) (list_bytes ps) (FitsList ps) (λ c. ListFails c ps) (told_pairs ps (put_room out))
+    told_end out (put_elements ps (put_room out)) (list_bytes ps) (FitsList ps) (λ c. ListFails c ps) (told_pairs ps (put_room out))
 
 pub told_ok : (ps : Pairs) (new : List ℕ) → put_document ps [] ≡ Ok new → FitsDocument ps × (new ≡ document_bytes ps)
 told_ok ps new h =

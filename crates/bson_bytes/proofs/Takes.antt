@@ -21,7 +21,7 @@ use Rattle.bson_bytes.specs.Grammar.{is_double, is_text, is_embedded, is_array, 
 use Rattle.bson_bytes.specs.Grammar.{is_int32, is_int64, is_old_binary, is_undefined, is_object_id, is_date, is_regex}
 use Rattle.bson_bytes.specs.Grammar.{is_pointer, is_code, is_symbol, is_scope, is_timestamp, is_decimal, is_max}
 use Rattle.bson_bytes.specs.Grammar.{is_min}
-use Rattle.bson_bytes.specs.Grammar.{values, settle, text_bytes, IsText}
+use Rattle.bson_bytes.specs.Grammar.{pair_values, settle, text_bytes, IsText}
 use Rattle.bson_bytes.specs.Reading.{byte_at, bytes_at, number_at, size_at, name_at, text_at, binary_at, boolean_at}
 use Rattle.bson_bytes.specs.Reading.{value_with, list_at, sized, document_in, mapped, settled, regex_at, pointer_at}
 use Rattle.bson_bytes.specs.Reading.{timestamp_at, scope_at, old_binary_at, plain_binary_at, Before, none_before, noted}
@@ -211,7 +211,7 @@ value_takes d h tag.String bytes p fits e = text_part d tag.String (λ s. model.
 value_takes {keys} d h tag.EmbeddedDocument bytes p fits e =
     stepped (IsOf keys (none_before keys) (settle no_pairs) d) d tag.EmbeddedDocument (λ ps. model.document ps) (λ front ps w. rw w.2 (is_embedded d front w.0 w.1.0 (may_stand keys w.0 w.1.1))) bytes (settled no_pairs (document_in keys d (none_before keys) bytes)) p (λ ps rest r. mapped_takes (none_before keys) (settle no_pairs) d h bytes ps rest fits r) e
 value_takes {keys} d h tag.Array bytes p fits e =
-    stepped (IsOf keys None values d) d tag.Array (λ vs. model.array vs) (λ front vs w. rw w.2 (is_array d front w.0 w.1.0)) bytes (mapped values (document_in keys d None bytes)) p (λ vs rest r. mapped_takes None values d h bytes vs rest fits r) e
+    stepped (IsOf keys None pair_values d) d tag.Array (λ vs. model.array vs) (λ front vs w. rw w.2 (is_array d front w.0 w.1.0)) bytes (mapped pair_values (document_in keys d None bytes)) p (λ vs rest r. mapped_takes None pair_values d h bytes vs rest fits r) e
 value_takes d h tag.Binary bytes p fits e = binary_takes d bytes p fits e
 value_takes d h tag.Undefined bytes p fits e = empty_part d tag.Undefined (model.scalar kind.undefined) (is_undefined d) bytes p fits e
 value_takes d h tag.ObjectId bytes p fits e = bytes_part 12 d tag.ObjectId (λ s. model.scalar (kind.object_id s)) (λ s w. is_object_id d s w) bytes p fits e

@@ -15,11 +15,11 @@ use Rattle.bson_bytes.specs.declared.fault.FaultKind.TheVariants.{Short, Length,
 use Rattle.bson_bytes.specs.declared.fault.FaultKind.TheVariants.{Trailing, DuplicateKey}
 use Rattle.bson_bytes.specs.declared.keys.DuplicateKeys.{DuplicateKeys}
 use Rattle.bson_bytes.specs.Fault.{at, ◌>>=◌, or_fault}
-use Rattle.bson_bytes.specs.Grammar.{settle, values}
+use Rattle.bson_bytes.specs.Grammar.{settle, pair_values}
 use Rattle.bson_bytes.specs.Reading.{byte_at, bytes_at, number_at, size_at, zero_at, split_zero, utf8_at, name_at}
 use Rattle.bson_bytes.specs.Reading.{text_at, old_binary_at, plain_binary_at, binary_at, boolean_at, regex_at}
 use Rattle.bson_bytes.specs.Reading.{pointer_at, timestamp_at, mapped, settled, scope_at, value_with, list_at, sized}
-use Rattle.bson_bytes.specs.Reading.{document_in, reads_in, Before, none_before, noted, is_new, key_at}
+use Rattle.bson_bytes.specs.Reading.{document_in, reads_bytes_in, Before, none_before, noted, is_new, key_at}
 use Rattle.bson_bytes.specs.Tags.{kind_of}
 use Rattle.bson_bytes.proofs.PartLaws.{split_takes}
 
@@ -199,8 +199,8 @@ value_within keys d doc tag.EmbeddedDocument n bytes le =
     onto n (settled no_pairs (document_in keys d (none_before keys) bytes)) (λ ps. document ps)
     (onto n (document_in keys d (none_before keys) bytes) (settle no_pairs) (doc (none_before keys) n bytes le))
 value_within keys d doc tag.Array n bytes le =
-    onto n (mapped values (document_in keys d None bytes)) (λ vs. array vs)
-    (onto n (document_in keys d None bytes) values (doc None n bytes le))
+    onto n (mapped pair_values (document_in keys d None bytes)) (λ vs. array vs)
+    (onto n (document_in keys d None bytes) pair_values (doc None n bytes le))
 value_within keys d doc tag.Binary n bytes le = binary_within n bytes le
 value_within keys d doc tag.Undefined n bytes le = le
 value_within keys d doc tag.ObjectId n bytes le =
@@ -271,9 +271,9 @@ front_fault keys d bytes f e =
     placed left_by (length bytes) (settled no_pairs (document_in keys d (none_before keys) bytes)) f
     (settled_within keys d bytes) e
 
-pub fault_stands : (keys : DuplicateKeys) (d : ℕ) (bytes : List ℕ) (f : Fault) → reads_in keys d bytes ≡ Err f
+pub fault_stands : (keys : DuplicateKeys) (d : ℕ) (bytes : List ℕ) (f : Fault) → reads_bytes_in keys d bytes ≡ Err f
     → f.left ≤ length bytes
-unfolding reads_in
+unfolding reads_bytes_in
 fault_stands keys d bytes f e =
     let n = length bytes in
     let read = settled no_pairs (document_in keys d (none_before keys) bytes) in

@@ -18,6 +18,6 @@ or_fault (Some x) k bytes = Ok x
 or_fault None k bytes = Err (at k bytes)
 
 -- what a function returned, seen by view, is what reading gives
-abbrev pub Gives : {X Y : Type 0} → (X → Y) → Result X Fault → Result Y Fault → Type 0
-Gives view (Ok x) read = read ≡ Ok (view x)
-Gives view (Err f) read = read ≡ Err f
+abbrev pub ReturnsReading : {X Y : Type 0} → (X → Y) → Result X Fault → Result Y Fault → Type 0
+ReturnsReading view (Ok x) read = read ≡ Ok (view x)
+ReturnsReading view (Err f) read = read ≡ Err f

@@ -78,9 +78,9 @@ abbrev pub one_each : Pairs → Pairs
 one_each ps = settle no_pairs ps
 
 -- the values of the elements, without their keys
-abbrev pub values : Pairs → Values
-values no_pairs = no_values
-values (pair k v ps) = value v (values ps)
+abbrev pub pair_values : Pairs → Values
+pair_values no_pairs = no_values
+pair_values (pair k v ps) = value v (pair_values ps)
 
 -- ---- keys that stand twice
 --
@@ -127,7 +127,7 @@ mutual
         → IsValue keys d tag.EmbeddedDocument bytes (document (one_each ps))
     -- 0x04 e_name document
     is_array : (d : ℕ) (bytes : List ℕ) (ps : Pairs) → IsDocument keys d bytes ps
-        → IsValue keys d tag.Array bytes (array (values ps))
+        → IsValue keys d tag.Array bytes (array (pair_values ps))
     -- 0x05 e_name binary
     is_binary : (d b : ℕ) (s : List ℕ) → b < 256 → b ≢ 2 → IsSize (length s)
         → IsValue keys d tag.Binary (binary_bytes b s) (scalar (kind.binary (subtype_of b) s))

@@ -5,5 +5,19 @@ pub mod Tags
 pub mod Fault
 pub mod Reading
 pub mod Putting
+pub mod Source
+pub mod Fixed
+pub mod Leaves
+pub mod Digest
+pub mod TextWritten
+pub mod Printed
+pub mod Raw
+pub mod Contents
+pub mod Elements
+pub mod View
+pub mod Skip
+pub mod Left
+pub mod Held
+pub mod Nested
 -- what public clauses cite of the crates below, so that a caller names this crate alone
 pub use Rattle.bson_model.specs.Value

@@ -72,23 +72,23 @@ unfoldable mutual
   pub put_value : Value → List ℕ → Put
   put_value (scalar x) out = put_scalar x out
   put_value (code_scope s ps) out =
-      then (then (put_text s (put_room out)) (λ a. then (put_pairs ps (put_room a)) (put_end (length a))))
+      then (then (put_text s (put_room out)) (λ a. then (put_elements ps (put_room a)) (put_end (length a))))
       (put_length (length out))
   put_value (array vs) out = then (put_items 0 vs (put_room out)) (put_end (length out))
-  put_value (document ps) out = then (put_pairs ps (put_room out)) (put_end (length out))
+  put_value (document ps) out = then (put_elements ps (put_room out)) (put_end (length out))
 
   pub put_items : ℕ → Values → List ℕ → Put
   put_items n no_values out = Ok out
   put_items n (value v vs) out =
       then (put_value v (out ++ name_bytes (type_of v) (decimal n))) (λ b. put_items (n + 1) vs b)
 
-  pub put_pairs : Pairs → List ℕ → Put
-  put_pairs no_pairs out = Ok out
-  put_pairs (pair k v ps) out =
-      then (put_name (type_of v) k out) (λ a. then (put_value v a) (λ b. put_pairs ps b))
+  pub put_elements : Pairs → List ℕ → Put
+  put_elements no_pairs out = Ok out
+  put_elements (pair k v ps) out =
+      then (put_name (type_of v) k out) (λ a. then (put_value v a) (λ b. put_elements ps b))
 
 abbrev pub put_document : Pairs → List ℕ → Put
-put_document ps out = then (put_pairs ps (put_room out)) (put_end (length out))
+put_document ps out = then (put_elements ps (put_room out)) (put_end (length out))
 
 -- ---- what a function that puts returns
 
@@ -100,6 +100,6 @@ StopsFor errors.Regex put = put ≡ Err zero_in_regex
 StopsFor errors.Size put = put ≡ Err too_long
 
 -- these bytes are what is put, unless memory ran out
-abbrev pub Puts : {X : Type 0} → Result X Error → List ℕ → Put → Type 0
-Puts (Ok x) new put = put ≡ Ok new
-Puts (Err e) new put = StopsFor e put
+abbrev pub PutsBytes : {X : Type 0} → Result X Error → List ℕ → Put → Type 0
+PutsBytes (Ok x) new put = put ≡ Ok new
+PutsBytes (Err e) new put = StopsFor e put

@@ -18,7 +18,7 @@ use Rattle.bson_bytes.specs.declared.fault.Fault.{Fault}
 use Rattle.bson_bytes.specs.declared.keys.DuplicateKeys.{DuplicateKeys}
 use Rattle.bson_bytes.specs.declared.keys.DuplicateKeys.TheVariants.{Replace, Refuse}
 use Rattle.bson_bytes.specs.Fault.{at, ◌>>=◌, or_fault}
-use Rattle.bson_bytes.specs.Grammar.{settle, values}
+use Rattle.bson_bytes.specs.Grammar.{settle, pair_values}
 use Rattle.bson_bytes.specs.Tags.{kind_of}
 
 abbrev pub byte_at : List ℕ → Result (ℕ × List ℕ) Fault
@@ -44,13 +44,13 @@ zero_at [] = Err (at Short [])
 zero_at (b ∷ bytes) = if b == 0 then Ok bytes else Err (at End (b ∷ bytes))
 
 -- the byte before the first of the two
-abbrev pub behind : ℕ → List ℕ × List ℕ → List ℕ × List ℕ
-behind b p = (b ∷ p.0, p.1)
+abbrev pub with_byte_before : ℕ → List ℕ × List ℕ → List ℕ × List ℕ
+with_byte_before b p = (b ∷ p.0, p.1)
 
 -- the bytes before the first 0, and those behind it
 abbrev pub split_zero : List ℕ → Option (List ℕ × List ℕ)
 split_zero [] = None
-split_zero (b ∷ bytes) = if b == 0 then Some ([], bytes) else option_map (behind b) (split_zero bytes)
+split_zero (b ∷ bytes) = if b == 0 then Some ([], bytes) else option_map (with_byte_before b) (split_zero bytes)
 
 -- UTF-8, which stood at the place
 abbrev pub utf8_at : List ℕ → List ℕ → Result (List ℕ) Fault
@@ -166,7 +166,7 @@ value_with keys inner tag.EmbeddedDocument bytes = do
   x ← settled no_pairs (inner (none_before keys) bytes)
   Ok (document x.0, x.1)
 value_with keys inner tag.Array bytes = do
-  x ← mapped values (inner None bytes)
+  x ← mapped pair_values (inner None bytes)
   Ok (array x.0, x.1)
 value_with keys inner tag.Binary bytes = binary_at bytes
 value_with keys inner tag.Undefined bytes = Ok (scalar kind.undefined, bytes)
@@ -226,8 +226,8 @@ document_in keys (suc d) before bytes = do
   sized n.0 bytes x
 
 -- all of the bytes
-unfoldable pub reads_in : DuplicateKeys → ℕ → List ℕ → Result Pairs Fault
-reads_in keys d bytes = do
+unfoldable pub reads_bytes_in : DuplicateKeys → ℕ → List ℕ → Result Pairs Fault
+reads_bytes_in keys d bytes = do
   x ← settled no_pairs (document_in keys d (none_before keys) bytes)
   if length x.1 == 0 then Ok x.0 else Err (at Trailing x.1)
 
@@ -235,5 +235,5 @@ reads_in keys d bytes = do
 abbrev pub document_at : ℕ → List ℕ → Result (Pairs × List ℕ) Fault
 document_at d = document_in Replace d None
 
-abbrev pub reads : ℕ → List ℕ → Result Pairs Fault
-reads d = reads_in Replace d
+abbrev pub reads_bytes : ℕ → List ℕ → Result Pairs Fault
+reads_bytes d = reads_bytes_in Replace d

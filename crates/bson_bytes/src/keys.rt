@@ -4,7 +4,7 @@
 ///
 /// ```
 /// let twice = b"\x0b\0\0\0\x0aa\0\x0aa\0\0";
-/// let read = from_slice_with(alloc, ReadOptions::default(), twice)?;
+/// let read = from_bytes(alloc, ReadOptions::default(), twice)?;
 /// println!(rt; "{read}")?; // { "a": null }
 /// ```
 #[derive(Clone, Copy, Debug, Drop, PartialEq, Eq)]

@@ -3,7 +3,7 @@ ghost use Rattle.std.specs.Prelude.{◌≡◌, ◌↔◌, ◌++◌, ◌<◌, ◌
 ghost use Rattle.bson_bytes.specs.declared.fault.Fault.{Fault};
 ghost use Rattle.bson_bytes.specs.Grammar.{IsDocument};
 ghost use Rattle.bson_bytes.specs.Laws.{IsRead, IsReadIn};
-ghost use Rattle.bson_bytes.specs.Reading.{reads_in};
+ghost use Rattle.bson_bytes.specs.Reading.{reads_bytes_in};
 ghost use Rattle.bson_bytes.specs.declared.keys.DuplicateKeys.{DuplicateKeys};
 ghost use Rattle.bson_bytes.specs.Writing.{document_bytes, as_written, Cause, FitsDocument, DocumentFails};
 ghost use Rattle.bson_bytes.specs.Writing.{TypedDocument, NestsPairs};
@@ -13,7 +13,7 @@ ghost use Rattle.bson_model.specs.Value.{Pairs};
 /// document is read as a fault.
 pub fn reading_is_grammar()
     ensures { (keys : DuplicateKeys) (d : ℕ) (bytes : List ℕ) (ps : Pairs) → ((i : ℕ) → slice_index bytes i < 256)
-        → (reads_in keys d bytes ≡ Ok ps) ↔ IsReadIn keys d bytes ps }
+        → (reads_bytes_in keys d bytes ≡ Ok ps) ↔ IsReadIn keys d bytes ps }
 {}
 
 /// Proves that bytes that are read without duplicate keys are read as the same document if
@@ -25,7 +25,7 @@ pub fn refusing_keys_changes_no_document()
 
 /// Proves that the position of a fault is one of the bytes, or their end.
 pub fn fault_stands_in_the_bytes()
-    ensures { (keys : DuplicateKeys) (d : ℕ) (bytes : List ℕ) (f : Fault) → reads_in keys d bytes ≡ Err f
+    ensures { (keys : DuplicateKeys) (d : ℕ) (bytes : List ℕ) (f : Fault) → reads_bytes_in keys d bytes ≡ Err f
         → f.left ≤ length bytes }
 {}
 

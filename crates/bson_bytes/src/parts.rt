@@ -1,7 +1,7 @@
 //! The parts of an element: each reader answers a value and the bytes behind it.
 ghost use Rattle.std.specs.Prelude.{◌≡◌, ◌≤◌, ◌<◌, ◌^◌, length, option_map, string_bytes, IfOk, IfSome};
 ghost use Rattle.std.specs.Int.{w32, w64};
-ghost use Rattle.bson_bytes.specs.Fault.{Gives};
+ghost use Rattle.bson_bytes.specs.Fault.{ReturnsReading};
 ghost use Rattle.bson_bytes.specs.Reading.{byte_at, bytes_at, number_at, size_at, zero_at, split_zero};
 ghost use Rattle.bson_bytes.specs.Reading.{utf8_at, name_at, passed, text_at};
 ghost use Rattle.bson_bytes.specs.Putting.{is_free};
@@ -17,7 +17,7 @@ use std::str;
 ///
 /// - `Short`: there is no byte.
 pub fn byte_at(bytes: &[u8]) -> Result<(u8, &[u8]), Fault>
-    ensures given { Gives (λ x. (x.0, x.1.now)) result (byte_at bytes.now) }
+    ensures given { ReturnsReading (λ x. (x.0, x.1.now)) result (byte_at bytes.now) }
     ensures shorter { IfOk result (λ x. length x.1.now < length bytes.now) }
 {
     match bytes {
@@ -32,7 +32,7 @@ pub fn byte_at(bytes: &[u8]) -> Result<(u8, &[u8]), Fault>
 ///
 /// - `Short`: there are fewer than `count` bytes.
 pub fn bytes_at(count: usize, bytes: &[u8]) -> Result<(&[u8], &[u8]), Fault>
-    ensures given { Gives (λ x. (x.0.now, x.1.now)) result (bytes_at count bytes.now) }
+    ensures given { ReturnsReading (λ x. (x.0.now, x.1.now)) result (bytes_at count bytes.now) }
     ensures exact { IfOk result (λ x. length x.0.now ≡ count) }
     ensures shorter { IfOk result (λ x. length x.1.now ≤ length bytes.now) }
 {
@@ -48,7 +48,7 @@ pub fn bytes_at(count: usize, bytes: &[u8]) -> Result<(&[u8], &[u8]), Fault>
 ///
 /// - `Short`: there are fewer than 4 bytes.
 pub fn u32_at(bytes: &[u8]) -> Result<(u32, &[u8]), Fault>
-    ensures given { Gives (λ x. (x.0, x.1.now)) result (number_at w32 bytes.now) }
+    ensures given { ReturnsReading (λ x. (x.0, x.1.now)) result (number_at w32 bytes.now) }
     ensures shorter { IfOk result (λ x. length x.1.now ≤ length bytes.now) }
 {
     if bytes.len() < 4 {
@@ -65,7 +65,7 @@ pub fn u32_at(bytes: &[u8]) -> Result<(u32, &[u8]), Fault>
 ///
 /// - `Short`: there are fewer than 8 bytes.
 pub fn u64_at(bytes: &[u8]) -> Result<(u64, &[u8]), Fault>
-    ensures given { Gives (λ x. (x.0, x.1.now)) result (number_at w64 bytes.now) }
+    ensures given { ReturnsReading (λ x. (x.0, x.1.now)) result (number_at w64 bytes.now) }
     ensures shorter { IfOk result (λ x. length x.1.now ≤ length bytes.now) }
 {
     if bytes.len() < 8 {
@@ -86,7 +86,7 @@ pub fn u64_at(bytes: &[u8]) -> Result<(u64, &[u8]), Fault>
 /// - `Length`: the number is negative.
 #[tactic(auto, unfolding(crate::specs::Reading::size_at))]
 pub fn size_at(bytes: &[u8]) -> Result<(usize, &[u8]), Fault>
-    ensures given { Gives (λ x. (x.0, x.1.now)) result (size_at bytes.now) }
+    ensures given { ReturnsReading (λ x. (x.0, x.1.now)) result (size_at bytes.now) }
     ensures small { IfOk result (λ x. x.0 < 2 ^ 31) }
     ensures shorter { IfOk result (λ x. length x.1.now ≤ length bytes.now) }
 {
@@ -104,7 +104,7 @@ pub fn size_at(bytes: &[u8]) -> Result<(usize, &[u8]), Fault>
 /// - `Short`: there is no byte.
 /// - `End`: the first byte is not 0.
 pub fn zero_at(bytes: &[u8]) -> Result<&[u8], Fault>
-    ensures given { Gives (λ x. x.now) result (zero_at bytes.now) }
+    ensures given { ReturnsReading (λ x. x.now) result (zero_at bytes.now) }
     ensures shorter { IfOk result (λ x. length x.now ≤ length bytes.now) }
 {
     match bytes {
@@ -142,7 +142,7 @@ pub fn is_free(bytes: &[u8]) -> bool
 }
 
 fn utf8_at<'a>(text: &'a [u8], bytes: &[u8]) -> Result<&'a str, Fault>
-    ensures { Gives (λ s. s.now) result (utf8_at text.now bytes.now) }
+    ensures { ReturnsReading (λ s. s.now) result (utf8_at text.now bytes.now) }
 {
     match str::from_utf8(text) {
         Ok(s) => Ok(s),
@@ -158,7 +158,7 @@ fn utf8_at<'a>(text: &'a [u8], bytes: &[u8]) -> Result<&'a str, Fault>
 /// - `Utf8`: the bytes before the first 0 are not UTF-8.
 #[tactic(auto, unfolding(crate::specs::Reading::name_at))]
 pub fn name_at(bytes: &[u8]) -> Result<(&str, &[u8]), Fault>
-    ensures given { Gives (λ x. (x.0.now, x.1.now)) result (name_at bytes.now) }
+    ensures given { ReturnsReading (λ x. (x.0.now, x.1.now)) result (name_at bytes.now) }
     ensures shorter { IfOk result (λ x. length x.1.now ≤ length bytes.now) }
 {
     let Some((name, rest)) = split_zero(bytes) else {
@@ -169,7 +169,7 @@ pub fn name_at(bytes: &[u8]) -> Result<(&str, &[u8]), Fault>
 
 // Passes over the name of an element, which may be of any bytes.
 fn behind_any_name(bytes: &[u8]) -> Result<&[u8], Fault>
-    ensures given { Gives (λ x. x.now) result (passed (name_at bytes.now)) }
+    ensures given { ReturnsReading (λ x. x.now) result (passed (name_at bytes.now)) }
     ensures shorter { IfOk result (λ x. length x.now ≤ length bytes.now) }
 {
     let (_, rest) = name_at(bytes)?;
@@ -183,7 +183,7 @@ fn behind_any_name(bytes: &[u8]) -> Result<&[u8], Fault>
 /// - `Short`: no byte is 0.
 /// - `Utf8`: the bytes before the first 0 are not UTF-8.
 pub fn behind_name(bytes: &[u8]) -> Result<&[u8], Fault>
-    ensures given { Gives (λ x. x.now) result (passed (name_at bytes.now)) }
+    ensures given { ReturnsReading (λ x. x.now) result (passed (name_at bytes.now)) }
     ensures shorter { IfOk result (λ x. length x.now ≤ length bytes.now) }
 {
     for (i, byte) in bytes.iter().enumerate() {
@@ -207,7 +207,7 @@ pub fn behind_name(bytes: &[u8]) -> Result<&[u8], Fault>
 /// - `Utf8`: the text is not UTF-8.
 #[tactic(auto, unfolding(crate::specs::Reading::text_at))]
 pub fn text_at(bytes: &[u8]) -> Result<(&str, &[u8]), Fault>
-    ensures given { Gives (λ x. (x.0.now, x.1.now)) result (text_at bytes.now) }
+    ensures given { ReturnsReading (λ x. (x.0.now, x.1.now)) result (text_at bytes.now) }
     ensures shorter { IfOk result (λ x. length x.1.now ≤ length bytes.now) }
 {
     let (size, place) = size_at(bytes)?;
@@ -241,7 +241,7 @@ pub fn kind_of(tag: u8) -> Option<ElementType>
 ///
 /// - `Short`: there are fewer than 12 bytes.
 pub fn twelve_at(bytes: &[u8]) -> Result<([u8; 12], &[u8]), Fault>
-    ensures given { Gives (λ x. (x.0, x.1.now)) result (bytes_at 12 bytes.now) }
+    ensures given { ReturnsReading (λ x. (x.0, x.1.now)) result (bytes_at 12 bytes.now) }
     ensures shorter { IfOk result (λ x. length x.1.now ≤ length bytes.now) }
 {
     let (front, rest) = bytes_at(12, bytes)?;
@@ -257,7 +257,7 @@ pub fn twelve_at(bytes: &[u8]) -> Result<([u8; 12], &[u8]), Fault>
 ///
 /// - `Short`: there are fewer than 16 bytes.
 pub fn sixteen_at(bytes: &[u8]) -> Result<([u8; 16], &[u8]), Fault>
-    ensures given { Gives (λ x. (x.0, x.1.now)) result (bytes_at 16 bytes.now) }
+    ensures given { ReturnsReading (λ x. (x.0, x.1.now)) result (bytes_at 16 bytes.now) }
     ensures shorter { IfOk result (λ x. length x.1.now ≤ length bytes.now) }
 {
     let (front, rest) = bytes_at(16, bytes)?;

@@ -3,7 +3,7 @@ ghost use Rattle.std.specs.Prelude.{◌≡◌, ◌≤◌, ◌+◌, ◌++◌, len
 ghost use Rattle.std.specs.Int.{w32, w64};
 ghost use Rattle.bson_bytes.specs.Grammar.{le, old_binary_bytes, binary_bytes};
 ghost use Rattle.bson_bytes.specs.Putting.{put_sized, put_text, put_regex, put_binary, put_pointer, put_name};
-ghost use Rattle.bson_bytes.specs.Putting.{put_room, put_length, put_end, Puts};
+ghost use Rattle.bson_bytes.specs.Putting.{put_room, put_length, put_end, PutsBytes};
 ghost use Rattle.bson_bytes.specs.Writing.{name_bytes, TypedScalar};
 ghost use Rattle.bson_scalar.specs.Scalar as kind;
 ghost use Rattle.bson_types.specs.DbPointer.{namespace_of, id_of};
@@ -66,7 +66,7 @@ pub fn put_timestamp(out: &mut Vec<u8>, timestamp: Timestamp) -> Result<(), Allo
 /// - `OutOfMemory`: a request for memory was refused.
 #[inline]
 pub fn put_text(out: &mut Vec<u8>, text: &str) -> Result<(), Error>
-    ensures put { Puts result out.new.items (put_text text.now out.old.items) }
+    ensures put { PutsBytes result out.new.items (put_text text.now out.old.items) }
     ensures grows { OnOk result (length out.old.items ≤ length out.new.items) }
 {
     if text.len() >= 0x7fff_ffff {
@@ -86,7 +86,7 @@ pub fn put_text(out: &mut Vec<u8>, text: &str) -> Result<(), Error>
 /// - `Size`: the length is 2^31 or more. It includes the 4 bytes of a second length.
 /// - `OutOfMemory`: a request for memory was refused.
 pub fn put_binary(out: &mut Vec<u8>, binary: &Binary) -> Result<(), Error>
-    ensures put { Puts result out.new.items
+    ensures put { PutsBytes result out.new.items
         (put_binary (subtype_byte binary.now.subtype) binary.now.bytes.items out.old.items) }
     ensures typed { TypedScalar (kind.binary binary.now.subtype binary.now.bytes.items) }
     ensures grows { OnOk result (length out.old.items ≤ length out.new.items) }
@@ -100,7 +100,7 @@ pub fn put_binary(out: &mut Vec<u8>, binary: &Binary) -> Result<(), Error>
 }
 
 fn put_plain_binary(out: &mut Vec<u8>, byte: u8, bytes: &[u8]) -> Result<(), Error>
-    ensures put { Puts result out.new.items (put_sized (length bytes.now) (binary_bytes byte bytes.now) out.old.items) }
+    ensures put { PutsBytes result out.new.items (put_sized (length bytes.now) (binary_bytes byte bytes.now) out.old.items) }
     ensures grows { OnOk result (length out.old.items ≤ length out.new.items) }
 {
     if bytes.len() >= 0x8000_0000 {
@@ -113,7 +113,7 @@ fn put_plain_binary(out: &mut Vec<u8>, byte: u8, bytes: &[u8]) -> Result<(), Err
 }
 
 fn put_old_binary(out: &mut Vec<u8>, bytes: &[u8]) -> Result<(), Error>
-    ensures put { Puts result out.new.items (put_sized (length bytes.now + 4) (old_binary_bytes bytes.now) out.old.items) }
+    ensures put { PutsBytes result out.new.items (put_sized (length bytes.now + 4) (old_binary_bytes bytes.now) out.old.items) }
     ensures grows { OnOk result (length out.old.items ≤ length out.new.items) }
 {
     if bytes.len() >= 0x7fff_fffc {
@@ -133,7 +133,7 @@ fn put_old_binary(out: &mut Vec<u8>, bytes: &[u8]) -> Result<(), Error>
 /// - `Regex`: the pattern or the options contain a 0.
 /// - `OutOfMemory`: a request for memory was refused.
 pub fn put_regex(out: &mut Vec<u8>, regex: &Regex) -> Result<(), Error>
-    ensures put { Puts result out.new.items
+    ensures put { PutsBytes result out.new.items
         (put_regex (string_bytes regex.now.pattern) (string_bytes regex.now.options) out.old.items) }
     ensures grows { OnOk result (length out.old.items ≤ length out.new.items) }
 {
@@ -158,7 +158,7 @@ pub fn put_regex(out: &mut Vec<u8>, regex: &Regex) -> Result<(), Error>
 /// - `OutOfMemory`: a request for memory was refused.
 #[tactic(auto, using(crate::proofs::Texts::string_utf8))]
 pub fn put_pointer(out: &mut Vec<u8>, pointer: &DbPointer) -> Result<(), Error>
-    ensures put { Puts result out.new.items (put_pointer (namespace_of pointer.now) (id_of pointer.now) out.old.items) }
+    ensures put { PutsBytes result out.new.items (put_pointer (namespace_of pointer.now) (id_of pointer.now) out.old.items) }
     ensures typed { OnOk result (TypedScalar (kind.db_pointer (namespace_of pointer.now) (id_of pointer.now))) }
     ensures grows { OnOk result (length out.old.items ≤ length out.new.items) }
 {
@@ -175,7 +175,7 @@ pub fn put_pointer(out: &mut Vec<u8>, pointer: &DbPointer) -> Result<(), Error>
 /// - `OutOfMemory`: a request for memory was refused.
 #[inline]
 pub fn put_key(out: &mut Vec<u8>, kind: ElementType, key: &str) -> Result<(), Error>
-    ensures put { Puts result out.new.items (put_name kind key.now out.old.items) }
+    ensures put { PutsBytes result out.new.items (put_name kind key.now out.old.items) }
     ensures grows { OnOk result (length out.old.items ≤ length out.new.items) }
 {
     if !is_free(key.as_bytes()) {
@@ -208,7 +208,7 @@ pub fn put_name(out: &mut Vec<u8>, kind: ElementType, name: &str) -> Result<(), 
 #[tactic(auto, unfolding(crate::specs::Grammar::le, crate::specs::Putting::put_length))]
 pub fn put_length(out: &mut Vec<u8>, start: usize) -> Result<(), Error>
     requires { start + 4 ≤ vec_len out.old }
-    ensures put { Puts result out.new.items (put_length start out.old.items) }
+    ensures put { PutsBytes result out.new.items (put_length start out.old.items) }
     ensures grows { OnOk result (length out.old.items ≤ length out.new.items) }
 {
     let size = out.len() - start;
@@ -242,7 +242,7 @@ pub fn put_room(out: &mut Vec<u8>) -> Result<(), AllocError>
 #[inline]
 pub fn put_end(out: &mut Vec<u8>, start: usize) -> Result<(), Error>
     requires { start + 4 ≤ vec_len out.old }
-    ensures put { Puts result out.new.items (put_end start out.old.items) }
+    ensures put { PutsBytes result out.new.items (put_end start out.old.items) }
     ensures grows { OnOk result (length out.old.items ≤ length out.new.items) }
 {
     out.push(0)?;

@@ -8,7 +8,7 @@
 
 use bson_convert::fault::Fault;
 use bson_convert::mode::{Mode, mode_of};
-use bson_convert::program::{exit_with, words_given};
+use bson_convert::program::{report_failure, words_given};
 use bson_convert::run::run;
 use std::process::ExitCode;
 
@@ -19,12 +19,12 @@ const USAGE: &str = "usage: bson_cli canonical|relaxed|show";
 fn main(rt: HostRuntime) -> ExitCode {
     let answer = match read_mode(&rt) {
         Ok(Some(mode)) => run(rt.alloc(), mode, &mut rt.stdin(), &mut rt.stdout()),
-        Ok(None) => return exit_with(&rt, USAGE, 2),
+        Ok(None) => return report_failure(&rt, USAGE, 2),
         Err(fault) => Err(fault),
     };
     match answer {
         Ok(()) => ExitCode::SUCCESS,
-        Err(fault) => exit_with(&rt, fault.line(), 1),
+        Err(fault) => report_failure(&rt, fault.line(), 1),
     }
 }
 

@@ -12,15 +12,15 @@ use Rattle.bson_model.specs.Normal.{writable_in, normal_form, InRange}
 use Rattle.bson_model.specs.Value.{Value, Pairs, document}
 use Rattle.bson_model.specs.Writing.{writes_in}
 use Rattle.bson_model.proofs.Offered.{tree_is_in, writable_is_in}
-use Rattle.bson_order.specs.Kept.{unordered}
-use Rattle.bson_order.specs.Writing.{writes_in_order}
-use Rattle.bson_order.specs.Written.{WrittenInOrder}
-use Rattle.bson_order.proofs.Offered.{default_written, has_no_float, one_written, ordered_text, written_from}
-use Rattle.bson_order.proofs.Offered.{writable_is, written_to}
+use Rattle.bson_model.specs.Kept.{unordered}
+use Rattle.bson_model.specs.OrderedWriting.{writes_in_order}
+use Rattle.bson_model.specs.OrderedWritten.{WrittenInOrder}
+use Rattle.bson_model.proofs.OfferedInOrder.{default_written, has_no_float, one_written, ordered_text, written_from}
+use Rattle.bson_model.proofs.OfferedInOrder.{writable_is, written_to}
 use Rattle.bson.specs.Texts.{IsTextInOrder}
-use Rattle.bson_source.specs.Printed.{IsPrinted}
+use Rattle.bson_bytes.specs.Printed.{IsPrinted}
 use Rattle.bson_codec.specs.Documents.{IsLine, WritesLine}
-use Rattle.bson_codec.specs.Texts.{IsTextOf}
+use Rattle.bson_codec.specs.Texts.{IsDocumentTextOf}
 use Rattle.bson_codec.specs.Told.{newline}
 use Rattle.bson_codec.specs.declared.documents.Line.TheVariants.{TextInOrder}
 use Rattle.bson_codec.specs.declared.documents.Run.{Run}
@@ -59,7 +59,7 @@ text_written f v text t = sym (writable_is Finite f v) ∙ ap is_ok (written_to 
 
 -- a line of a dump in its own order, with finite doubles
 pub line_is : (run : Run) (f : Form) (bytes text line : List ℕ) → run.line ≡ TextInOrder f → run.options.doubles ≡ Finite
-    → IsTextOf f run.depth bytes text → (line ≡ text ++ newline) × IsUtf8 line → IsLine run bytes line
+    → IsDocumentTextOf f run.depth bytes text → (line ≡ text ++ newline) × IsUtf8 line → IsLine run bytes line
 line_is run f bytes text line form finite decoded is =
     let v = document decoded.pairs in
     let t = decoded.text_in_order in

@@ -14,8 +14,8 @@ use Rattle.bson.specs.Pairs.{get, insert_pair}
 use Rattle.bson.specs.View.{bson_view, document_view, pairs_view, contents}
 use Rattle.bson.specs.declared.bson.Bson.{Bson}
 use Rattle.bson.specs.declared.document.Document.{Document}
-use Rattle.bson_source.specs.Source.{keys_back, with_pair}
-use Rattle.bson_source.proofs.Offered.{keys_back_more}
+use Rattle.bson_bytes.specs.Source.{keys_back, with_pair}
+use Rattle.bson_bytes.proofs.OfferedSource.{keys_back_more}
 use Rattle.bson_codec.proofs.Listed.{pairs_view-put}
 use Rattle.bson_codec.proofs.Seen.{document_view-pairs}
 use Rattle.bson_codec.specs.Reading.{AreKeys}

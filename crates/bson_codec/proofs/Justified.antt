@@ -6,7 +6,7 @@ use Rattle.std.specs.Io.KnownBytes.{Consumes}
 use Rattle.bson_model.specs.Value.{Pairs}
 use Rattle.bson_bytes.proofs.Offered.{is_read}
 use Rattle.bson_bytes.specs.Laws.{IsRead, IsFront}
-use Rattle.bson_bytes.specs.Reading.{reads}
+use Rattle.bson_bytes.specs.Reading.{reads_bytes}
 use Rattle.bson_bytes.specs.declared.fault.Fault.{Fault}
 use Rattle.bson_bytes.specs.declared.fault.FaultKind.{FaultKind}
 use Rattle.bson_bytes.specs.declared.keys.DuplicateKeys.TheVariants.{Replace}
@@ -23,13 +23,13 @@ use Rattle.bson_codec.specs.declared.run_end.RunFault.TheVariants.{OutOfMemory}
 -- the documents that bytes are read as are one
 pub read_one : (d : ℕ) (bytes : List ℕ) (ps qs : Pairs) → IsRead d bytes ps → IsRead d bytes qs → ps ≡ qs
 read_one d bytes ps qs h k =
-    let a : reads d bytes ≡ Ok ps = is_read Replace d bytes ps h in
-    let b : reads d bytes ≡ Ok qs = is_read Replace d bytes qs k in cc
+    let a : reads_bytes d bytes ≡ Ok ps = is_read Replace d bytes ps h in
+    let b : reads_bytes d bytes ≡ Ok qs = is_read Replace d bytes qs k in cc
 
 -- a document has no fault
 pub faultless : (k : FaultKind) (n d : ℕ) (bytes : List ℕ) (ps : Pairs) → IsRead d bytes ps
-    → IsPlacedFault k n bytes (reads d bytes) → ⊥
-faultless k n d bytes ps h (f, e, w, l) = let o : reads d bytes ≡ Ok ps = is_read Replace d bytes ps h in absurd cc
+    → IsPlacedFault k n bytes (reads_bytes d bytes) → ⊥
+faultless k n d bytes ps h (f, e, w, l) = let o : reads_bytes d bytes ≡ Ok ps = is_read Replace d bytes ps h in absurd cc
 
 -- a document of which nothing can be written has no text
 pub no_line : (fault : RunFault) (run : Run) (bytes : List ℕ) (ps : Pairs) → HasNoLine fault run bytes

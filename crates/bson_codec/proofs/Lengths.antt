@@ -50,5 +50,5 @@ length_front bytes more h =
     (ap (λ (k : ℕ). ltb k (2 ^ 31)) (sym c.value) ∙ c.small) in
     ap (λ (k : ℕ). take k (bytes ++ more)) (ap promised first ∙ size) ∙ take_at bytes more (length bytes) refl
 
-pub one_piece : (a b x y : List ℕ) → BeginsWithLength a → BeginsWithLength b → a ++ x ≡ b ++ y → a ≡ b
-one_piece a b x y h k e = sym (length_front a x h) ∙ ap front_of e ∙ length_front b y k
+pub one_span : (a b x y : List ℕ) → BeginsWithLength a → BeginsWithLength b → a ++ x ≡ b ++ y → a ≡ b
+one_span a b x y h k e = sym (length_front a x h) ∙ ap front_of e ∙ length_front b y k

@@ -2,7 +2,7 @@ pub mod Seen
 pub mod Listed
 pub mod Distinct
 pub mod Ends
-pub mod Elements
+pub mod ElementLaws
 pub mod Typed
 pub mod Streams
 pub mod Runs
@@ -13,3 +13,7 @@ pub mod Inside
 pub mod Decoded
 pub mod Offered
 pub mod Utf8
+mod Normalized
+pub mod Once
+pub mod Put
+pub mod Whole

@@ -4,7 +4,7 @@ use Rattle.std.proofs.Common.{◌∙◌, subst, string_bytes}
 use Rattle.std.specs.Str.{bytes_eq}
 use Rattle.bson_store.specs.declared.small.Pair.{Pair}
 use Rattle.bson_model.specs.Value.{Value, Values, no_values, value, Pairs, no_pairs, pair}
-use Rattle.bson_bytes.specs.Grammar.{values, insert_value, settle, one_each}
+use Rattle.bson_bytes.specs.Grammar.{pair_values, insert_value, settle, one_each}
 use Rattle.bson_bytes.specs.Reading.{key_at, name_at}
 use Rattle.bson_bytes.specs.declared.keys.DuplicateKeys.{DuplicateKeys}
 use Rattle.bson_bytes.specs.declared.keys.DuplicateKeys.TheVariants.{Replace, Refuse}
@@ -13,8 +13,8 @@ use Rattle.bson.specs.Put.{put_entries}
 use Rattle.bson.specs.View.{bson_view, document_view, values_view, pairs_view, contents}
 use Rattle.bson.specs.declared.bson.Bson.{Bson}
 use Rattle.bson.specs.declared.document.Document.{Document}
-use Rattle.bson_source.specs.Source.{ReadsTo, keys_before, with_pair}
-use Rattle.bson_source.specs.declared.stop.Stop.{Stop}
+use Rattle.bson_bytes.specs.Source.{ReadsTo, keys_before, with_pair}
+use Rattle.bson_bytes.specs.declared.stop.Stop.{Stop}
 use Rattle.bson_codec.proofs.Seen.{document_view-pairs}
 use Rattle.bson_codec.specs.Reading.{OfKind, entries_view}
 
@@ -59,12 +59,12 @@ values_last : (xs : List Bson) (x : Bson) → values_view (xs ++ x ∷ []) ≡ v
 values_last [] x = refl
 values_last (y ∷ xs) x = ap (value (bson_view y)) (values_last xs x)
 
-items_last : (ps : Pairs) (k : List ℕ) (v : Value) → values (with_pair ps k v) ≡ value_last (values ps) v
+items_last : (ps : Pairs) (k : List ℕ) (v : Value) → pair_values (with_pair ps k v) ≡ value_last (pair_values ps) v
 items_last no_pairs k v = refl
 items_last (pair l w ps) k v = ap (value w) (items_last ps k v)
 
-pub items_more : (xs : List Bson) (x : Bson) (ps : Pairs) (k : List ℕ) → values_view xs ≡ values ps
-    → values_view (xs ++ x ∷ []) ≡ values (with_pair ps k (bson_view x))
+pub items_more : (xs : List Bson) (x : Bson) (ps : Pairs) (k : List ℕ) → values_view xs ≡ pair_values ps
+    → values_view (xs ++ x ∷ []) ≡ pair_values (with_pair ps k (bson_view x))
 items_more xs x ps k is =
     values_last xs x ∙ ap (λ (q : Values). value_last q (bson_view x)) is ∙ sym (items_last ps k (bson_view x))
 
@@ -86,10 +86,10 @@ pair_put Holds true A B old new key x ps k v t put list name is =
 pair_put Holds false A B old new key x ps k v t put list name is = absurd cc
 
 pub item_put : (b : Bool) (D E : Type 0) (old new : List Bson) (x : Bson) (ps : Pairs) (k : List ℕ) (v : Value) → b ≡ false
-    → (values_view old ≡ values ps → values_view new ≡ values (with_pair ps k (bson_view x)))
-    → OfKind b D (values_view old ≡ values ps) → bson_view x ≡ v → OfKind b E (values_view new ≡ values (with_pair ps k v))
+    → (values_view old ≡ pair_values ps → values_view new ≡ pair_values (with_pair ps k (bson_view x)))
+    → OfKind b D (values_view old ≡ pair_values ps) → bson_view x ≡ v → OfKind b E (values_view new ≡ pair_values (with_pair ps k v))
 item_put true D E old new x ps k v t put list is = absurd cc
-item_put false D E old new x ps k v t put list is = put list ∙ ap (λ w. values (with_pair ps k w)) is
+item_put false D E old new x ps k v t put list is = put list ∙ ap (λ w. pair_values (with_pair ps k w)) is
 
 -- ---- names
 

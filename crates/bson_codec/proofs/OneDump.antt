@@ -8,9 +8,9 @@ use Rattle.bson.specs.declared.extjson.options.Options.{Options}
 use Rattle.bson_scalar.specs.TreeText.{tree_text}
 use Rattle.bson_model.specs.Value.{Pairs}
 use Rattle.bson_bytes.proofs.Offered.{size_again}
-use Rattle.bson_bytes.specs.Reading.{reads, size_at}
+use Rattle.bson_bytes.specs.Reading.{reads_bytes, size_at}
 use Rattle.bson_codec.proofs.Justified.{faultless, no_line, read_one}
-use Rattle.bson_codec.proofs.Lengths.{Counted, counted, length_front, one_piece}
+use Rattle.bson_codec.proofs.Lengths.{Counted, counted, length_front, one_span}
 use Rattle.bson_codec.proofs.Runs.{same_rest}
 use Rattle.bson_codec.proofs.Streams.{sized}
 use Rattle.bson_codec.specs.Documents.{BeginsWithLength, Dump, none, written, passed_over, EndsInside, HasNoLine, IsLine}
@@ -61,7 +61,7 @@ either_line run bytes line fault h bad =
 
 one_fault : (run : Run) (bytes : List ℕ) (f g : RunFault) → HasNoLine f run bytes → HasNoLine g run bytes → f ≡ g
 one_fault run bytes (Malformed k n) (Malformed l m) (a, e, w, s) (b, h, v, t) =
-    let read : reads run.depth bytes ≡ reads run.depth bytes = refl in
+    let read : reads_bytes run.depth bytes ≡ reads_bytes run.depth bytes = refl in
     let same : a ≡ b = cc in
     let kinds : k ≡ l = cc in
     let left : n ≡ m = omega (arith, s, t, ap (λ f. f.left) same) in cc
@@ -88,7 +88,7 @@ Step run number start bytes line said over =
 
 record Last (run : Run) (bytes output told : List ℕ) (number refused : ℕ) : Type 0 where
   before : List ℕ
-  piece : List ℕ
+  span : List ℕ
   out : List ℕ
   line : List ℕ
   tells : List ℕ
@@ -96,8 +96,8 @@ record Last (run : Run) (bytes output told : List ℕ) (number refused : ℕ) : 
   left : ℕ
   over : ℕ
   dump : Dump run before out tells number left
-  step : Step run (number + 1) (length before) piece line said over
-  bytes_are : bytes ≡ before ++ piece
+  step : Step run (number + 1) (length before) span line said over
+  bytes_are : bytes ≡ before ++ span
   output_is : output ≡ out ++ line
   told_is : told ≡ tells ++ said
   refused_are : refused ≡ left + over
@@ -109,7 +109,7 @@ last_of {run = run} n (written {before = before} {output = output} {told = told}
     let count : number ≡ n = omega (arith, e) in
     record {
       before = before;
-      piece = bytes;
+      span = bytes;
       out = output;
       line = line;
       tells = told;
@@ -127,7 +127,7 @@ last_of {run = run} n (passed_over {before = before} {output = output} {told = t
     let count : number ≡ n = omega (arith, e) in
     record {
       before = before;
-      piece = bytes;
+      span = bytes;
       out = output;
       line = [];
       tells = told;
@@ -182,21 +182,21 @@ same_count zero run a b output other told tells x y refused left d e g =
 same_count (suc n) run a b output other told tells x y refused left d e g =
     let i = last_of n d refl in
     let j = last_of n e refl in
-    let whole : i.before ++ (i.piece ++ x) ≡ j.before ++ (j.piece ++ y) =
-    sym (append_assoc i.before i.piece x) ∙ ap (λ (z : List ℕ). z ++ x) (sym i.bytes_are) ∙ g
-    ∙ ap (λ (z : List ℕ). z ++ y) j.bytes_are ∙ append_assoc j.before j.piece y in
-    let k = same_count n run i.before j.before i.out j.out i.tells j.tells (i.piece ++ x) (j.piece ++ y) i.left j.left
+    let whole : i.before ++ (i.span ++ x) ≡ j.before ++ (j.span ++ y) =
+    sym (append_assoc i.before i.span x) ∙ ap (λ (z : List ℕ). z ++ x) (sym i.bytes_are) ∙ g
+    ∙ ap (λ (z : List ℕ). z ++ y) j.bytes_are ∙ append_assoc j.before j.span y in
+    let k = same_count n run i.before j.before i.out j.out i.tells j.tells (i.span ++ x) (j.span ++ y) i.left j.left
     i.dump j.dump whole in
-    let rests : i.piece ++ x ≡ j.piece ++ y =
-    same_rest i.before (i.piece ++ x) j.before (j.piece ++ y) whole (ap length k.bytes) in
-    let p : i.piece ≡ j.piece =
-    one_piece i.piece j.piece x y (step_length run (n + 1) (length i.before) i.piece i.line i.said i.over i.step)
-    (step_length run (n + 1) (length j.before) j.piece j.line j.said j.over j.step) rests in
-    let placed : Step run (n + 1) (length i.before) j.piece j.line j.said j.over =
-    subst (λ (z : List ℕ). Step run (n + 1) (length z) j.piece j.line j.said j.over) (sym k.bytes) j.step in
-    let moved : Step run (n + 1) (length i.before) i.piece j.line j.said j.over =
+    let rests : i.span ++ x ≡ j.span ++ y =
+    same_rest i.before (i.span ++ x) j.before (j.span ++ y) whole (ap length k.bytes) in
+    let p : i.span ≡ j.span =
+    one_span i.span j.span x y (step_length run (n + 1) (length i.before) i.span i.line i.said i.over i.step)
+    (step_length run (n + 1) (length j.before) j.span j.line j.said j.over j.step) rests in
+    let placed : Step run (n + 1) (length i.before) j.span j.line j.said j.over =
+    subst (λ (z : List ℕ). Step run (n + 1) (length z) j.span j.line j.said j.over) (sym k.bytes) j.step in
+    let moved : Step run (n + 1) (length i.before) i.span j.line j.said j.over =
     subst (λ (z : List ℕ). Step run (n + 1) (length i.before) z j.line j.said j.over) (sym p) placed in
-    let q = one_step run (n + 1) (length i.before) i.piece i.line j.line i.said j.said i.over j.over i.step moved in
+    let q = one_step run (n + 1) (length i.before) i.span i.line j.line i.said j.said i.over j.over i.step moved in
     record {
       bytes = let u = k.bytes in let v = i.bytes_are in let w = j.bytes_are in cc;
       outputs = let u = k.outputs in let v = i.output_is in let w = j.output_is in let z = q.0 in cc;
@@ -231,17 +231,17 @@ begun zero n m run bytes output told refused d e = record {
 begun (suc k) n m run bytes output told refused d e =
     let i = last_of (k + n) d (omega (arith, e)) in
     let b = begun k n (k + n) run i.before i.out i.tells i.left i.dump refl in
-    let long : 4 ≤ length i.piece =
-    (counted i.piece (step_length run (k + n + 1) (length i.before) i.piece i.line i.said i.over i.step)).long in
+    let long : 4 ≤ length i.span =
+    (counted i.span (step_length run (k + n + 1) (length i.before) i.span i.line i.said i.over i.step)).long in
     record {
       front = b.front;
-      behind = b.behind ++ i.piece;
+      behind = b.behind ++ i.span;
       output = b.output;
       told = b.told;
       refused = b.refused;
       dump = b.dump;
-      parts = i.bytes_are ∙ ap (λ (z : List ℕ). z ++ i.piece) b.parts ∙ append_assoc b.front b.behind i.piece;
-      some = λ le. omega (arith, long, length-append b.behind i.piece);
+      parts = i.bytes_are ∙ ap (λ (z : List ℕ). z ++ i.span) b.parts ∙ append_assoc b.front b.behind i.span;
+      some = λ le. omega (arith, long, length-append b.behind i.span);
     }
 
 -- the first of so many, of a dump that has no fewer
@@ -294,17 +294,17 @@ stuck : (n m : ℕ) (run : Run) (done rest bytes more output other told tells : 
 stuck n m run done rest bytes more output other told tells refused left fault d e whole bad last lt =
     let f = first_of (suc n) m run bytes other tells left e (omega (arith, lt)) in
     let i = last_of n f.dump refl in
-    let parts : done ++ rest ≡ i.before ++ (i.piece ++ (f.behind ++ more)) =
+    let parts : done ++ rest ≡ i.before ++ (i.span ++ (f.behind ++ more)) =
     whole ∙ ap (λ (z : List ℕ). z ++ more) f.parts ∙ append_assoc f.front f.behind more
-    ∙ ap (λ (z : List ℕ). z ++ (f.behind ++ more)) i.bytes_are ∙ append_assoc i.before i.piece (f.behind ++ more) in
-    let s = same_count n run done i.before output i.out told i.tells rest (i.piece ++ (f.behind ++ more)) refused i.left d
+    ∙ ap (λ (z : List ℕ). z ++ (f.behind ++ more)) i.bytes_are ∙ append_assoc i.before i.span (f.behind ++ more) in
+    let s = same_count n run done i.before output i.out told i.tells rest (i.span ++ (f.behind ++ more)) refused i.left d
     i.dump parts in
-    let rests : rest ≡ i.piece ++ (f.behind ++ more) =
-    same_rest done rest i.before (i.piece ++ (f.behind ++ more)) parts (ap length s.bytes) in
-    let here : front_of rest ≡ i.piece =
-    ap front_of rests ∙ length_front i.piece (f.behind ++ more)
-    (step_length run (n + 1) (length i.before) i.piece i.line i.said i.over i.step) in
-    stuck_at run (n + 1) (length i.before) i.piece i.line i.said i.over fault i.step
+    let rests : rest ≡ i.span ++ (f.behind ++ more) =
+    same_rest done rest i.before (i.span ++ (f.behind ++ more)) parts (ap length s.bytes) in
+    let here : front_of rest ≡ i.span =
+    ap front_of rests ∙ length_front i.span (f.behind ++ more)
+    (step_length run (n + 1) (length i.before) i.span i.line i.said i.over i.step) in
+    stuck_at run (n + 1) (length i.before) i.span i.line i.said i.over fault i.step
     (subst (HasNoLine fault run) here bad) (λ over. last (subst (IsPassedOver run) (sym here) over))
 
 either_by : (run : Run) (all other output tells told done rest : List ℕ) (count n left refused : ℕ) (b : Bool)

@@ -6,8 +6,8 @@ use Rattle.std.specs.Io.KnownBytes.{Appends, Consumes, IsAtEnd, Keeps}
 use Rattle.std.proofs.KnownBytes.{Appends-nil, Appends-trans, Consumes-nil, Consumes-trans}
 use Rattle.std.proofs.lemmas.List.{append-nil, length-append}
 use Rattle.bson_codec.specs.Documents.{Dump, none, written, passed_over}
-use Rattle.bson_codec.specs.Documents.{DoneDocuments, EndsFor, EndsAt, HasNoLine, IsGiven, IsJudged, IsLine, IsOfBytes}
-use Rattle.bson_codec.specs.Documents.{IsPassedOver, IsUngiven, IsUntold, Running, TakesFront}
+use Rattle.bson_codec.specs.Documents.{DoneDocuments, EndsFor, EndsAt, HasNoLine, IsHandled, IsConversionFault, IsLine, IsOfBytes}
+use Rattle.bson_codec.specs.Documents.{IsPassedOver, IsUnhandled, IsUntold, DocumentsRun, TakesFront}
 use Rattle.bson_codec.specs.Streams.{WritesBeginning, front_of}
 use Rattle.bson_codec.specs.Told.{told_of}
 use Rattle.bson_codec.specs.declared.documents.Run.{Run}
@@ -15,7 +15,7 @@ use Rattle.bson_codec.specs.declared.run_end.RunFault.{RunFault}
 use Rattle.bson_codec.specs.declared.run_end.RunFault.TheVariants.{Malformed, FiniteDouble, CannotRead, CannotWrite}
 use Rattle.bson_codec.specs.declared.run_end.RunFault.TheVariants.{OutOfMemory}
 
-pub run_begins : (run : Run) (before had told : Option (List ℕ)) → Running run before before had had told told 0 0 0
+pub run_begins : (run : Run) (before had told : Option (List ℕ)) → DocumentsRun run before before had had told told 0 0 0
 run_begins run before had told = record {
   done = [];
   output = [];
@@ -35,9 +35,9 @@ appends_kept (Some x) (Some y) (Some z) bs p q = q ∙ p
 
 pub run_goes_on : (run : Run) (before mid after had holds after_holds told tells after_tells : Option (List ℕ))
     (number refused start n behind : ℕ) (bytes : List ℕ)
-    → Running run before mid had holds told tells number refused start → Consumes mid after bytes
-    → IsGiven n run (number + 1) start bytes holds after_holds tells after_tells → behind ≡ start + length bytes
-    → Running run before after had after_holds told after_tells (number + 1) (refused + n) behind
+    → DocumentsRun run before mid had holds told tells number refused start → Consumes mid after bytes
+    → IsHandled n run (number + 1) start bytes holds after_holds tells after_tells → behind ≡ start + length bytes
+    → DocumentsRun run before after had after_holds told after_tells (number + 1) (refused + n) behind
 run_goes_on run before mid after had holds after_holds told tells after_tells number refused start n behind bytes r taken (inl g) place =
     let line = g.1.0.0 in
     let same : refused + n ≡ refused = omega (arith, g.0) in
@@ -73,22 +73,22 @@ run_goes_on run before mid after had holds after_holds told tells after_tells nu
 
 pub cut_line : (run : Run) (number start : ℕ) (bytes line : List ℕ) (had holds tells : Option (List ℕ))
     → IsLine run bytes line → WritesBeginning had holds line
-    → IsUngiven CannotWrite run number start bytes had holds tells tells
+    → IsUnhandled CannotWrite run number start bytes had holds tells tells
 cut_line run number start bytes line had holds tells is cut =
     (cut.beginning, [], inl ((line, is, cut.starts), refl), (cut.written, Appends-nil tells))
 
 pub untold : (e : RunFault) (run : Run) (number start : ℕ) (bytes : List ℕ) (fault : RunFault)
     (had told tells : Option (List ℕ)) → HasNoLine fault run bytes → IsPassedOver run bytes
-    → IsUntold e number start fault told tells → IsUngiven e run number start bytes had had told tells
+    → IsUntold e number start fault told tells → IsUnhandled e run number start bytes had had told tells
 untold e run number start bytes fault had told tells bad over (inl p) =
-    subst (λ (it : RunFault). IsUngiven it run number start bytes had had told tells) (sym p.0)
+    subst (λ (it : RunFault). IsUnhandled it run number start bytes had had told tells) (sym p.0)
     ([], [], (refl, refl), (Appends-nil had, appends_kept told told tells [] (Appends-nil told) p.1))
 untold e run number start bytes fault had told tells bad over (inr p) =
-    subst (λ (it : RunFault). IsUngiven it run number start bytes had had told tells) (sym p.0)
+    subst (λ (it : RunFault). IsUnhandled it run number start bytes had had told tells) (sym p.0)
     ([], p.1.0, inr ((fault, bad, over, p.1.1), refl), (Appends-nil had, p.1.2))
 
 pub judged_ends : (e : RunFault) (run : Run) (number start : ℕ) (bytes : List ℕ) (had told : Option (List ℕ))
-    → IsJudged e run bytes → (IsOfBytes e → IsPassedOver run bytes → ⊥) → IsUngiven e run number start bytes had had told told
+    → IsConversionFault e run bytes → (IsOfBytes e → IsPassedOver run bytes → ⊥) → IsUnhandled e run number start bytes had had told told
 judged_ends (Malformed k n) run number start bytes had told p last =
     ([], [], (p, last tt, refl, refl), (Appends-nil had, Appends-nil told))
 judged_ends FiniteDouble run number start bytes had told p last =
@@ -99,7 +99,7 @@ judged_ends OutOfMemory run number start bytes had told p last =
     ([], [], (refl, refl), (Appends-nil had, Appends-nil told))
 
 -- what is passed over has no line
-pub bad_bytes : (e : RunFault) (run : Run) (bytes : List ℕ) → IsOfBytes e → IsJudged e run bytes → HasNoLine e run bytes
+pub bad_bytes : (e : RunFault) (run : Run) (bytes : List ℕ) → IsOfBytes e → IsConversionFault e run bytes → HasNoLine e run bytes
 bad_bytes (Malformed k n) run bytes is p = p
 bad_bytes FiniteDouble run bytes is p = p
 bad_bytes CannotRead run bytes is p = p
@@ -107,12 +107,12 @@ bad_bytes CannotWrite run bytes is p = p
 bad_bytes OutOfMemory run bytes is p = absurd is
 
 pub one_at_most : (n : ℕ) (run : Run) (number start : ℕ) (bytes : List ℕ) (had holds told tells : Option (List ℕ))
-    → IsGiven n run number start bytes had holds told tells → n ≤ 1
+    → IsHandled n run number start bytes had holds told tells → n ≤ 1
 one_at_most n run number start bytes had holds told tells (inl g) = omega (arith, g.0)
 one_at_most n run number start bytes had holds told tells (inr g) = omega (arith, g.0)
 
 pub run_is_done : (run : Run) (before mid after had holds told tells : Option (List ℕ)) (number refused start : ℕ)
-    (bytes : List ℕ) → Running run before mid had holds told tells number refused start → Consumes mid after bytes
+    (bytes : List ℕ) → DocumentsRun run before mid had holds told tells number refused start → Consumes mid after bytes
     → bytes ≡ [] → IsAtEnd after → DoneDocuments run before after had holds told tells number refused
 run_is_done run before mid after had holds told tells number refused start bytes r taken nothing end = record {
   bytes = r.done;
@@ -128,9 +128,9 @@ run_is_done run before mid after had holds told tells number refused start bytes
 
 pub run_ends : (run : Run) (before mid after had holds after_holds told tells after_tells : Option (List ℕ))
     (count refused start number : ℕ) (fault : RunFault) (taken : List ℕ)
-    → (r : Running run before mid had holds told tells count refused start) → Consumes mid after taken
+    → (r : DocumentsRun run before mid had holds told tells count refused start) → Consumes mid after taken
     → number ≡ count + 1 → TakesFront fault before r.done taken
-    → IsUngiven fault run number start taken holds after_holds tells after_tells
+    → IsUnhandled fault run number start taken holds after_holds tells after_tells
     → EndsAt run before after had after_holds told after_tells fault number refused start
 run_ends run before mid after had holds after_holds told tells after_tells count refused start number fault taken r given next front (more, said, why, (w, t)) = record {
   done = r.done;
@@ -196,7 +196,7 @@ given_front OutOfMemory before mid done taken c some h = tt
 
 pub run_ends_unread : (run : Run) (before mid after had holds told tells : Option (List ℕ))
     (count refused start number : ℕ) (fault : RunFault) (taken : List ℕ)
-    → Running run before mid had holds told tells count refused start → Consumes mid after taken → number ≡ count + 1
+    → DocumentsRun run before mid had holds told tells count refused start → Consumes mid after taken → number ≡ count + 1
     → (fault ≡ CannotRead) ⊎ (fault ≡ OutOfMemory)
     → EndsAt run before after had holds told tells fault number refused start
 run_ends_unread run before mid after had holds told tells count refused start number fault taken r given next why =
@@ -206,16 +206,16 @@ run_ends_unread run before mid after had holds told tells count refused start nu
 
 pub run_ends_at : (run : Run) (before mid after had holds after_holds told tells after_tells : Option (List ℕ))
     (count refused start number : ℕ) (fault : RunFault) (taken : List ℕ)
-    → Running run before mid had holds told tells count refused start → Consumes mid after taken → number ≡ count + 1
+    → DocumentsRun run before mid had holds told tells count refused start → Consumes mid after taken → number ≡ count + 1
     → taken ≢ [] → ((all : List ℕ) → mid ≡ Some all → taken ≡ front_of all)
-    → IsUngiven fault run number start taken holds after_holds tells after_tells
+    → IsUnhandled fault run number start taken holds after_holds tells after_tells
     → EndsAt run before after had after_holds told after_tells fault number refused start
 run_ends_at run before mid after had holds after_holds told tells after_tells count refused start number fault taken r given next some front why =
     run_ends run before mid after had holds after_holds told tells after_tells count refused start number fault taken r
     given next (given_front fault before mid r.done taken r.given some front) why
 
 pub run_stops_between : (run : Run) (before mid had holds told tells : Option (List ℕ))
-    (count refused start number : ℕ) → Running run before mid had holds told tells count refused start
+    (count refused start number : ℕ) → DocumentsRun run before mid had holds told tells count refused start
     → number ≡ count + 1 → EndsAt run before mid had holds told tells CannotRead number refused start
 run_stops_between run before mid had holds told tells count refused start number r next =
     run_ends_unread run before mid mid had holds told tells count refused start number CannotRead [] r (Consumes-nil mid) next

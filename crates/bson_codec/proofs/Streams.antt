@@ -13,7 +13,7 @@ use Rattle.bson_bytes.specs.Reading.{size_at}
 use Rattle.bson_bytes.specs.declared.fault.Fault.{Fault}
 use Rattle.bson_bytes.specs.declared.keys.DuplicateKeys.{DuplicateKeys}
 use Rattle.bson_bytes.proofs.Offered.{length-le, wide32, size_again}
-use Rattle.bson_codec.specs.Streams.{IsTaken, front_of, promised, most}
+use Rattle.bson_codec.specs.Streams.{IsConsumed, front_of, promised, most}
 
 -- the bytes of a document begin with their number
 pub record Sized (bytes : List ℕ) : Type 0 where
@@ -86,29 +86,29 @@ front_read d all ps rest h =
     ap (λ (k : ℕ). take k all) says ∙ ap (take n) h.parts ∙ take_at h.front rest n refl in
     subst (λ (bytes : List ℕ). IsRead d bytes ps) (sym same) h.read
 
-taken : (before after : Option (List ℕ)) (new : List ℕ) → IsTaken before after [] new → Consumes before after new
+taken : (before after : Option (List ℕ)) (new : List ℕ) → IsConsumed before after [] new → Consumes before after new
 taken before after new t = subst (Consumes before after) (sym t.1) t.2
 
-pub took_whole : (before mid after : Option (List ℕ)) (one two : List ℕ) → IsTaken before mid [] one
-    → IsTaken mid after one two → Consumes before after two
+pub took_whole : (before mid after : Option (List ℕ)) (one two : List ℕ) → IsConsumed before mid [] one
+    → IsConsumed mid after one two → Consumes before after two
 took_whole before mid after one two first second =
     subst (Consumes before after) (sym second.1)
     (Consumes-trans before mid after one second.0 (taken before mid one first) second.2)
 
 -- the length, or the end
 length_first : (all start one : List ℕ) (before mid : Option (List ℕ)) → before ≡ Some all → start ≡ []
-    → IsTaken before mid start one → (length one ≡ 4) ⊎ IsAtEnd mid → length one ≤ 4
-    → IsTaken (Some all) mid [] one × (one ≡ take 4 all)
+    → IsConsumed before mid start one → (length one ≡ 4) ⊎ IsAtEnd mid → length one ≤ 4
+    → IsConsumed (Some all) mid [] one × (one ≡ take 4 all)
 length_first all start one before mid known empty first e b =
-    let from_none : IsTaken before mid [] one = subst (λ (s : List ℕ). IsTaken before mid s one) empty first in
-    let from_all : IsTaken (Some all) mid [] one =
-    subst (λ (x : Option (List ℕ)). IsTaken x mid [] one) known from_none in
+    let from_none : IsConsumed before mid [] one = subst (λ (s : List ℕ). IsConsumed before mid s one) empty first in
+    let from_all : IsConsumed (Some all) mid [] one =
+    subst (λ (x : Option (List ℕ)). IsConsumed x mid [] one) known from_none in
     (from_all, counted 4 all one mid (left_of all one mid (taken (Some all) mid one from_all)) e b)
 
 -- the length, and then as many bytes as it says
 pub take_front : (all start one two : List ℕ) (before mid after : Option (List ℕ)) (size : ℕ) → before ≡ Some all
-    → start ≡ [] → IsTaken before mid start one → (length one ≡ 4) ⊎ IsAtEnd mid → length one ≤ 4
-    → size ≡ promised one → IsTaken mid after one two → (length two ≡ size) ⊎ IsAtEnd after → length two ≤ size
+    → start ≡ [] → IsConsumed before mid start one → (length one ≡ 4) ⊎ IsAtEnd mid → length one ≤ 4
+    → size ≡ promised one → IsConsumed mid after one two → (length two ≡ size) ⊎ IsAtEnd after → length two ≤ size
     → two ≡ front_of all
 take_front all start one two before mid after size known empty first e b says second f c =
     let begun = length_first all start one before mid known empty first e b in
@@ -117,7 +117,7 @@ take_front all start one two before mid after size known empty first e b says se
 
 -- fewer bytes than a length are all
 pub take_short : (all start one : List ℕ) (before mid : Option (List ℕ)) → before ≡ Some all → start ≡ []
-    → IsTaken before mid start one → (length one ≡ 4) ⊎ IsAtEnd mid → length one ≤ 4 → length one < 4
+    → IsConsumed before mid start one → (length one ≡ 4) ⊎ IsAtEnd mid → length one ≤ 4 → length one < 4
     → one ≡ front_of all
 take_short all start one before mid known empty first (inl e) b few = absurd (omega (arith, e, few))
 take_short all start one before mid known empty first (inr end) b few =
@@ -134,7 +134,7 @@ on_three (Err e) a b c f = tt
 
 -- where something came, something is there
 pub on_some : {X E : Type 0} (r : Result X E) (before after : Option (List ℕ)) (one two : List ℕ) (P : Type 0)
-    → OnOk r (IsTaken before after one two) → 4 ≤ length one → OnOk r (two ≡ [] → P)
+    → OnOk r (IsConsumed before after one two) → 4 ≤ length one → OnOk r (two ≡ [] → P)
 on_some (Ok x) before after one two P t le =
     λ nothing. absurd (omega (arith, le, ap length nothing, ap length t.1, length-append one t.0))
 on_some (Err e) before after one two P t le = tt

@@ -18,7 +18,7 @@ use Rattle.bson.specs.declared.bson.Bson.{Bson, the_lemmas as of_values}
 use Rattle.bson.specs.declared.bson.JavaScriptCodeWithScope.{JavaScriptCodeWithScope, the_lemmas as of_scopes}
 use Rattle.bson.specs.declared.bson.Bson.TheVariants as kinds
 use Rattle.bson.specs.declared.document.Document.{Document}
-use Rattle.bson_codec.proofs.Elements.{item_here}
+use Rattle.bson_codec.proofs.ElementLaws.{item_here}
 use Rattle.bson_codec.proofs.Seen.{document_view-pairs}
 
 -- ---- no key stands twice

@@ -9,7 +9,7 @@ use Rattle.std.proofs.lemmas.Bool.{lt-ltb}
 use Rattle.bson_bytes.specs.declared.fault.FaultKind.{FaultKind}
 use Rattle.bson_bytes.specs.declared.fault.FaultKind.TheVariants as kind
 use Rattle.bson_codec.specs.Documents.{Dump, none, written, passed_over}
-use Rattle.bson_codec.specs.Told.{newline, place_of, told_of, words_for, words_of}
+use Rattle.bson_codec.specs.Told.{newline, place_text, told_of, fault_kind_message, run_fault_message}
 use Rattle.bson_codec.specs.declared.documents.Run.{Run}
 use Rattle.bson_codec.specs.declared.run_end.RunFault.{RunFault}
 use Rattle.bson_codec.specs.declared.run_end.RunFault.TheVariants.{Malformed, FiniteDouble, CannotRead, CannotWrite}
@@ -33,25 +33,25 @@ decimal_utf8 : (n : ℕ) → IsUtf8 (decimal n)
 unfolding digits
 decimal_utf8 n = digits_utf8 64 n [] IsUtf8-nil
 
-kind_utf8 : (k : FaultKind) → IsUtf8 (words_for k)
-kind_utf8 kind.Depth = IsUtf8-are_ascii (words_for kind.Depth) refl
-kind_utf8 kind.Short = IsUtf8-are_ascii (words_for kind.Short) refl
-kind_utf8 kind.Length = IsUtf8-are_ascii (words_for kind.Length) refl
-kind_utf8 kind.Tag = IsUtf8-are_ascii (words_for kind.Tag) refl
-kind_utf8 kind.End = IsUtf8-are_ascii (words_for kind.End) refl
-kind_utf8 kind.Utf8 = IsUtf8-are_ascii (words_for kind.Utf8) refl
-kind_utf8 kind.Boolean = IsUtf8-are_ascii (words_for kind.Boolean) refl
-kind_utf8 kind.Trailing = IsUtf8-are_ascii (words_for kind.Trailing) refl
-kind_utf8 kind.DuplicateKey = IsUtf8-are_ascii (words_for kind.DuplicateKey) refl
+kind_utf8 : (k : FaultKind) → IsUtf8 (fault_kind_message k)
+kind_utf8 kind.Depth = IsUtf8-are_ascii (fault_kind_message kind.Depth) refl
+kind_utf8 kind.Short = IsUtf8-are_ascii (fault_kind_message kind.Short) refl
+kind_utf8 kind.Length = IsUtf8-are_ascii (fault_kind_message kind.Length) refl
+kind_utf8 kind.Tag = IsUtf8-are_ascii (fault_kind_message kind.Tag) refl
+kind_utf8 kind.End = IsUtf8-are_ascii (fault_kind_message kind.End) refl
+kind_utf8 kind.Utf8 = IsUtf8-are_ascii (fault_kind_message kind.Utf8) refl
+kind_utf8 kind.Boolean = IsUtf8-are_ascii (fault_kind_message kind.Boolean) refl
+kind_utf8 kind.Trailing = IsUtf8-are_ascii (fault_kind_message kind.Trailing) refl
+kind_utf8 kind.DuplicateKey = IsUtf8-are_ascii (fault_kind_message kind.DuplicateKey) refl
 
-words_utf8 : (fault : RunFault) → IsUtf8 (words_of fault)
+words_utf8 : (fault : RunFault) → IsUtf8 (run_fault_message fault)
 words_utf8 (Malformed k n) = kind_utf8 k
-words_utf8 FiniteDouble = IsUtf8-are_ascii (words_of FiniteDouble) refl
-words_utf8 CannotRead = IsUtf8-are_ascii (words_of CannotRead) refl
-words_utf8 CannotWrite = IsUtf8-are_ascii (words_of CannotWrite) refl
-words_utf8 OutOfMemory = IsUtf8-are_ascii (words_of OutOfMemory) refl
+words_utf8 FiniteDouble = IsUtf8-are_ascii (run_fault_message FiniteDouble) refl
+words_utf8 CannotRead = IsUtf8-are_ascii (run_fault_message CannotRead) refl
+words_utf8 CannotWrite = IsUtf8-are_ascii (run_fault_message CannotWrite) refl
+words_utf8 OutOfMemory = IsUtf8-are_ascii (run_fault_message OutOfMemory) refl
 
-place_utf8 : (fault : RunFault) → IsUtf8 (place_of fault)
+place_utf8 : (fault : RunFault) → IsUtf8 (place_text fault)
 place_utf8 (Malformed k n) =
     IsUtf8-append (codes " at its byte ") (decimal n) (IsUtf8-are_ascii (codes " at its byte ") refl) (decimal_utf8 n)
 place_utf8 FiniteDouble = IsUtf8-nil

@@ -9,7 +9,7 @@ use Rattle.bson_model.specs.Displayed.{display_text}
 use Rattle.bson_model.specs.Normal.{writable_in}
 use Rattle.bson_model.specs.Value.{Pairs, document}
 use Rattle.bson_bytes.specs.Laws.{IsRead, IsFront}
-use Rattle.bson_bytes.specs.Reading.{reads, size_at}
+use Rattle.bson_bytes.specs.Reading.{reads_bytes, size_at}
 use Rattle.bson_codec.specs.Errors.{IsPlacedFault}
 use Rattle.bson_codec.specs.Streams.{front_of}
 use Rattle.bson_codec.specs.Told.{newline, told_of}
@@ -48,7 +48,7 @@ IsUnwritable o line ps = ⊥
 
 -- of the bytes nothing can be written, for the fault
 abbrev pub HasNoLine : RunFault → Run → List ℕ → Type 0
-HasNoLine (Malformed k n) run bytes = IsPlacedFault k n bytes (reads run.depth bytes)
+HasNoLine (Malformed k n) run bytes = IsPlacedFault k n bytes (reads_bytes run.depth bytes)
 HasNoLine FiniteDouble run bytes = (ps : Pairs) × IsRead run.depth bytes ps × IsUnwritable run.options run.line ps
 HasNoLine other run bytes = ⊥
 
@@ -169,9 +169,9 @@ pub record EndsInside (run : Run) (all output verdicts : List ℕ) (fault : RunF
 -- ---- for private clauses
 
 -- why the bytes gave no line, or memory ran out
-abbrev pub IsJudged : RunFault → Run → List ℕ → Type 0
-IsJudged OutOfMemory run bytes = Unit {0}
-IsJudged fault run bytes = HasNoLine fault run bytes
+abbrev pub IsConversionFault : RunFault → Run → List ℕ → Type 0
+IsConversionFault OutOfMemory run bytes = Unit {0}
+IsConversionFault fault run bytes = HasNoLine fault run bytes
 
 -- the fault of a run that the error is
 abbrev pub run_fault : Error → RunFault
@@ -179,22 +179,22 @@ run_fault (errors.Malformed k n) = Malformed k n
 run_fault errors.OutOfMemory = OutOfMemory
 
 -- why the document has no such line, or memory ran out
-abbrev pub IsUnwritten : RunFault → Options → Line → Pairs → Type 0
-IsUnwritten FiniteDouble o l ps = IsUnwritable o l ps
-IsUnwritten OutOfMemory o l ps = Unit {0}
-IsUnwritten other o l ps = ⊥
+abbrev pub IsLineFault : RunFault → Options → Line → Pairs → Type 0
+IsLineFault FiniteDouble o l ps = IsUnwritable o l ps
+IsLineFault OutOfMemory o l ps = Unit {0}
+IsLineFault other o l ps = ⊥
 
 -- the line was written; or the document was refused, passed over and told so, which counts as 1
-abbrev pub IsGiven : ℕ → Run → (number start : ℕ) → List ℕ → (had holds told tells : Option (List ℕ)) → Type 0
-IsGiven n run number start bytes had holds told tells =
+abbrev pub IsHandled : ℕ → Run → (number start : ℕ) → List ℕ → (had holds told tells : Option (List ℕ)) → Type 0
+IsHandled n run number start bytes had holds told tells =
     ((n ≡ 0) × (((line : List ℕ) × IsLine run bytes line × Appends had holds line) × Keeps told tells))
     ⊎ ((n ≡ 1) × (IsPassedOver run bytes
     × (((fault : RunFault) × HasNoLine fault run bytes × Appends told tells (told_of number start fault))
     × Keeps had holds)))
 
 -- the run ends for the fault, and this was written of the line and told
-abbrev pub IsUngiven : RunFault → Run → (number start : ℕ) → List ℕ → (had holds told tells : Option (List ℕ)) → Type 0
-IsUngiven e run number start bytes had holds told tells = (more : List ℕ) × (said : List ℕ)
+abbrev pub IsUnhandled : RunFault → Run → (number start : ℕ) → List ℕ → (had holds told tells : Option (List ℕ)) → Type 0
+IsUnhandled e run number start bytes had holds told tells = (more : List ℕ) × (said : List ℕ)
     × EndsFor e run number start bytes more said × (Appends had holds more × Appends told tells said)
 
 -- the verdict was not told whole
@@ -204,7 +204,7 @@ IsUntold e number start fault told tells =
     ⊎ ((e ≡ CannotWrite) × ((said : List ℕ) × StartsWith (told_of number start fault) said × Appends told tells said))
 
 -- how far a run has come
-pub record Running (run : Run) (before after had holds told tells : Option (List ℕ)) (number refused start : ℕ)
+pub record DocumentsRun (run : Run) (before after had holds told tells : Option (List ℕ)) (number refused start : ℕ)
     : Type 0 where
   pub done : List ℕ
   pub output : List ℕ

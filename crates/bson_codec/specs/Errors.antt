@@ -2,8 +2,8 @@
 use Rattle.std.specs.Prelude.{◌≡◌, ◌≤◌, ℕ, ◌+◌, ◌-◌, List, length, Result, Err}
 use Rattle.bson_bytes.specs.declared.fault.Fault.{Fault}
 use Rattle.bson_bytes.specs.declared.fault.FaultKind.{FaultKind}
-use Rattle.bson_source.specs.declared.stop.Stop.{Stop}
-use Rattle.bson_source.specs.declared.stop.Stop.TheVariants as stops
+use Rattle.bson_bytes.specs.declared.stop.Stop.{Stop}
+use Rattle.bson_bytes.specs.declared.stop.Stop.TheVariants as stops
 use Rattle.bson_codec.specs.declared.de.Error.{Error}
 use Rattle.bson_codec.specs.declared.de.Error.TheVariants as errors
 
@@ -12,9 +12,9 @@ abbrev pub IsPlacedFault : {Y : Type 0} → FaultKind → ℕ → List ℕ → R
 IsPlacedFault k n bytes read = (f : Fault) × (read ≡ Err f) × (k ≡ f.kind) × (n + f.left ≡ length bytes)
 
 -- that fault, or memory ran out
-abbrev pub IsFaultOf : {Y : Type 0} → Error → List ℕ → Result Y Fault → Type 0
-IsFaultOf errors.OutOfMemory bytes read = Unit {0}
-IsFaultOf (errors.Malformed k n) bytes read = IsPlacedFault k n bytes read
+abbrev pub IsReadFault : {Y : Type 0} → Error → List ℕ → Result Y Fault → Type 0
+IsReadFault errors.OutOfMemory bytes read = Unit {0}
+IsReadFault (errors.Malformed k n) bytes read = IsPlacedFault k n bytes read
 
 -- that fault, where no memory is taken
 abbrev pub IsFaultAlone : {Y : Type 0} → Error → List ℕ → Result Y Fault → Type 0

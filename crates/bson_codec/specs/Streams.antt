@@ -4,7 +4,7 @@ use Rattle.std.specs.Io.{StartsWith}
 use Rattle.std.specs.Io.KnownBytes.{Appends, Consumes, Keeps}
 use Rattle.bson_model.specs.Value.{Pairs}
 use Rattle.bson_bytes.specs.declared.fault.Fault.{Fault}
-use Rattle.bson_bytes.specs.Reading.{reads, size_at}
+use Rattle.bson_bytes.specs.Reading.{reads_bytes, size_at}
 use Rattle.bson_bytes.specs.Writing.{document_bytes, FitsDocument}
 use Rattle.bson_codec.specs.Errors.{IsPlacedFault}
 use Rattle.bson_codec.specs.Writing.{IsRefusal}
@@ -33,19 +33,19 @@ abbrev pub IsRefusedInput : ℕ → (before after : Option (List ℕ)) → Reade
 IsRefusedInput d before after read_errors.CannotRead = Unit {0}
 IsRefusedInput d before after read_errors.OutOfMemory = Unit {0}
 IsRefusedInput d before after (read_errors.Malformed k n) =
-    (bytes : List ℕ) × Consumes before after bytes × IsPlacedFault k n bytes (reads d bytes)
+    (bytes : List ℕ) × Consumes before after bytes × IsPlacedFault k n bytes (reads_bytes d bytes)
 
 -- ---- writing
 
 -- the writer or memory is wanting
-abbrev pub IsKept : WriterError → Type 0
-IsKept write_errors.CannotWrite = Unit {0}
-IsKept (write_errors.NoBytes e) = e ≡ errors.OutOfMemory
+abbrev pub IsSystemFailure : WriterError → Type 0
+IsSystemFailure write_errors.CannotWrite = Unit {0}
+IsSystemFailure (write_errors.NoBytes e) = e ≡ errors.OutOfMemory
 
 -- a document that has no bytes writes none; a writer that fails took a beginning
-abbrev pub IsUnwritten : WriterError → Pairs → (had holds : Option (List ℕ)) → Type 0
-IsUnwritten (write_errors.NoBytes e) ps had holds = IsRefusal e ps × Keeps had holds
-IsUnwritten write_errors.CannotWrite ps had holds = FitsDocument ps × WritesBeginning had holds (document_bytes ps)
+abbrev pub IsWriteFailure : WriterError → Pairs → (had holds : Option (List ℕ)) → Type 0
+IsWriteFailure (write_errors.NoBytes e) ps had holds = IsRefusal e ps × Keeps had holds
+IsWriteFailure write_errors.CannotWrite ps had holds = FitsDocument ps × WritesBeginning had holds (document_bytes ps)
 
 -- ---- the front of bytes
 
@@ -65,5 +65,5 @@ front_of bytes = take (promised (take 4 bytes)) bytes
 -- ---- for private clauses
 
 -- the bytes that were taken from the reader were added
-abbrev pub IsTaken : (before after : Option (List ℕ)) (old new : List ℕ) → Type 0
-IsTaken before after old new = (more : List ℕ) × (new ≡ old ++ more) × Consumes before after more
+abbrev pub IsConsumed : (before after : Option (List ℕ)) (old new : List ℕ) → Type 0
+IsConsumed before after old new = (more : List ℕ) × (new ≡ old ++ more) × Consumes before after more

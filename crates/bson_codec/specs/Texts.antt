@@ -7,7 +7,7 @@ use Rattle.bson_scalar.specs.declared.form.Doubles.TheVariants.{Finite}
 use Rattle.bson_scalar.specs.declared.form.Form.{Form}
 
 -- the bytes are a document, and the text is the compact text of its tree in the form, its keys in their own order
-pub record IsTextOf (f : Form) (depth : ℕ) (bytes text : List ℕ) : Type 0 where
+pub record IsDocumentTextOf (f : Form) (depth : ℕ) (bytes text : List ℕ) : Type 0 where
   pub pairs : Pairs
   pub read : IsRead depth bytes pairs
   pub text_in_order : IsTextInOrder Finite f (document pairs) text

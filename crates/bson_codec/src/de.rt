@@ -2,11 +2,11 @@
 ghost use Rattle.std.specs.Prelude.{◌≡◌, ◌↔◌, ◌-◌, IfOk, IfErr, OnOk, OnErr, IsTrue, false, length};
 ghost use Rattle.bson_model.specs.Value.{Pairs, no_pairs};
 ghost use Rattle.bson_bytes.specs.Laws.{IsRead, IsReadIn, IsFront, IsFrontIn, IsCanonical};
-ghost use Rattle.bson_bytes.specs.Reading.{document_at, document_in, reads, reads_in, settled, none_before};
+ghost use Rattle.bson_bytes.specs.Reading.{document_at, document_in, reads_bytes, reads_bytes_in, settled, none_before};
 ghost use Rattle.bson_bytes.specs.declared.error.Error.TheVariants as causes;
 ghost use Rattle.bson_bytes.specs.declared.keys.DuplicateKeys.TheVariants.{Replace};
 ghost use Rattle.bson.specs.View.{document_view};
-ghost use Rattle.bson_codec.specs.Errors.{IsFaultOf, IsFaultAlone, StandsIn, located};
+ghost use Rattle.bson_codec.specs.Errors.{IsReadFault, IsFaultAlone, StandsIn, located};
 ghost use Rattle.bson_codec.specs.declared.de.Error.TheVariants as errors;
 
 use crate::read::{document_at, read_document};
@@ -15,15 +15,15 @@ use crate::ser::to_vec;
 use bson::Document;
 pub use bson_bytes::fault::FaultKind;
 pub use bson_bytes::keys::DuplicateKeys;
-use bson_source::nothing;
-use bson_source::stop::Stop;
+use bson_bytes::nothing;
+use bson_bytes::stop::Stop;
 use std::alloc::{AllocError, Global};
 
 /// How deep documents, arrays and scopes may nest where a caller has no limit of its own: the limit
 /// of MongoDB's server.
 pub const DEPTH: usize = 100;
 
-/// How bytes are read by [`from_slice_with`] and [`front_with`]. The default is the depth [`DEPTH`],
+/// How bytes are read by [`from_bytes`] and [`front_of_bytes`]. The default is the depth [`DEPTH`],
 /// and that any key may stand twice.
 ///
 /// ```
@@ -32,7 +32,7 @@ pub const DEPTH: usize = 100;
 ///     ..ReadOptions::default()
 /// };
 /// let twice = b"\x0b\0\0\0\x0aa\0\x0aa\0\0";
-/// if let Err(error) = from_slice_with(alloc, options, twice) {
+/// if let Err(error) = from_bytes(alloc, options, twice) {
 ///     println!(rt; "{error}")?; // no BSON document, by the byte at 8
 /// }
 /// ```
@@ -100,13 +100,13 @@ pub fn from_slice(alloc: Global, bytes: &[u8], depth: usize) -> Result<Document>
     ensures only { (ps : Pairs) → IsRead depth bytes.now ps
         → IfOk result (λ d. document_view d ≡ ps) × IfErr result (λ e. e ≡ errors.OutOfMemory) }
     // Which fault it is, and where.
-    ensures fault { IfErr result (λ e. IsFaultOf e bytes.now (reads depth bytes.now)) }
+    ensures fault { IfErr result (λ e. IsReadFault e bytes.now (reads_bytes depth bytes.now)) }
 {
     let options = ReadOptions {
         depth,
         duplicate_keys: DuplicateKeys::Replace,
     };
-    from_slice_with(alloc, options, bytes)
+    from_bytes(alloc, options, bytes)
 }
 
 /// Returns the document that the bytes are, read as the options say, otherwise as [`from_slice`].
@@ -122,7 +122,7 @@ pub fn from_slice(alloc: Global, bytes: &[u8], depth: usize) -> Result<Document>
 ///
 /// The fault of a duplicate key is at its second position. A fault before it comes first. A fault
 /// after it does not count, nor does a length around it, which is checked after its part.
-pub fn from_slice_with(alloc: Global, options: ReadOptions, bytes: &[u8]) -> Result<Document>
+pub fn from_bytes(alloc: Global, options: ReadOptions, bytes: &[u8]) -> Result<Document>
     // What is read is in the grammar, and no key stands twice where the options refuse that.
     ensures ok { IfOk result (λ d. IsReadIn options.duplicate_keys options.depth bytes.now (document_view d)) }
     // What is so is read as its one document, unless memory runs out.
@@ -130,7 +130,7 @@ pub fn from_slice_with(alloc: Global, options: ReadOptions, bytes: &[u8]) -> Res
         → IfOk result (λ d. document_view d ≡ ps) × IfErr result (λ e. e ≡ errors.OutOfMemory) }
     // Which fault it is, and where.
     ensures fault { IfErr result
-        (λ e. IsFaultOf e bytes.now (reads_in options.duplicate_keys options.depth bytes.now)) }
+        (λ e. IsReadFault e bytes.now (reads_bytes_in options.duplicate_keys options.depth bytes.now)) }
 {
     match read_document(alloc, bytes, options.depth, options.duplicate_keys) {
         Ok(document) => Ok(document),
@@ -153,16 +153,16 @@ pub fn front(alloc: Global, bytes: &[u8], depth: usize) -> Result<(Document, &[u
     ensures only { (ps : Pairs) (rest : _) → IsFront depth bytes.now ps rest
         → IfOk result (λ x. (document_view x.0 ≡ ps) × (x.1.now ≡ rest)) × IfErr result (λ e. e ≡ errors.OutOfMemory) }
     // Which fault it is, and where.
-    ensures fault { IfErr result (λ e. IsFaultOf e bytes.now (settled no_pairs (document_at depth bytes.now))) }
+    ensures fault { IfErr result (λ e. IsReadFault e bytes.now (settled no_pairs (document_at depth bytes.now))) }
 {
     let options = ReadOptions {
         depth,
         duplicate_keys: DuplicateKeys::Replace,
     };
-    front_with(alloc, options, bytes)
+    front_of_bytes(alloc, options, bytes)
 }
 
-/// Returns the document at the front of the bytes, as [`from_slice_with`] reads it, and the bytes
+/// Returns the document at the front of the bytes, as [`from_bytes`] reads it, and the bytes
 /// after it.
 ///
 /// # Errors
@@ -170,7 +170,11 @@ pub fn front(alloc: Global, bytes: &[u8], depth: usize) -> Result<(Document, &[u
 /// - `Malformed`: the bytes do not begin with a document as the options say. It has the first fault
 ///   and its offset.
 /// - `OutOfMemory`: a request for memory was refused.
-pub fn front_with(alloc: Global, options: ReadOptions, bytes: &[u8]) -> Result<(Document, &[u8])>
+pub fn front_of_bytes(
+    alloc: Global,
+    options: ReadOptions,
+    bytes: &[u8],
+) -> Result<(Document, &[u8])>
     // What is read is in the grammar, and no key stands twice where the options refuse that.
     ensures ok { IfOk result
         (λ x. IsFrontIn options.duplicate_keys options.depth bytes.now (document_view x.0) x.1.now) }
@@ -178,7 +182,7 @@ pub fn front_with(alloc: Global, options: ReadOptions, bytes: &[u8]) -> Result<(
     ensures only { (ps : Pairs) (rest : _) → IsFrontIn options.duplicate_keys options.depth bytes.now ps rest
         → IfOk result (λ x. (document_view x.0 ≡ ps) × (x.1.now ≡ rest)) × IfErr result (λ e. e ≡ errors.OutOfMemory) }
     // Which fault it is, and where.
-    ensures fault { IfErr result (λ e. IsFaultOf e bytes.now (settled no_pairs
+    ensures fault { IfErr result (λ e. IsReadFault e bytes.now (settled no_pairs
         (document_in options.duplicate_keys options.depth (none_before options.duplicate_keys) bytes.now))) }
 {
     match document_at(alloc, bytes, options.depth, options.duplicate_keys) {
@@ -206,7 +210,7 @@ pub fn is_document(bytes: &[u8], depth: usize) -> Result<()>
     // What is in the grammar is never refused.
     ensures only { OnErr result ((ps : Pairs) → IsRead depth bytes.now ps → ⊥) }
     // Which fault it is, and where.
-    ensures fault { IfErr result (λ e. IsFaultAlone e bytes.now (reads depth bytes.now)) }
+    ensures fault { IfErr result (λ e. IsFaultAlone e bytes.now (reads_bytes depth bytes.now)) }
 {
     match nothing::is_document(bytes, depth) {
         Ok(()) => Ok(()),

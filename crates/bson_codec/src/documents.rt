@@ -7,8 +7,8 @@ ghost use Rattle.bson_bytes.specs.Laws.{IsRead};
 ghost use Rattle.bson.specs.View.{document_view};
 ghost use Rattle.bson.specs.Doubles.TheVariants.{Special};
 ghost use Rattle.bson.specs.Form.TheVariants.{Canonical};
-ghost use Rattle.bson_codec.specs.Documents.{BeginsWithLength, DoneDocuments, EndsAt, IsGiven, IsJudged};
-ghost use Rattle.bson_codec.specs.Documents.{IsJustified, IsLine, IsOfBytes, IsUngiven, IsUntold, IsUnwritten};
+ghost use Rattle.bson_codec.specs.Documents.{BeginsWithLength, DoneDocuments, EndsAt, IsHandled, IsConversionFault};
+ghost use Rattle.bson_codec.specs.Documents.{IsJustified, IsLine, IsOfBytes, IsUnhandled, IsUntold, IsLineFault};
 ghost use Rattle.bson_codec.specs.Documents.{WritesLine, run_fault};
 ghost use Rattle.bson_codec.specs.Told.{newline, told_of};
 ghost use Rattle.bson_codec.specs.declared.documents.Line.TheVariants.{Text, TextInOrder};
@@ -19,7 +19,7 @@ use crate::de::{DEPTH, Error, from_slice, is_document};
 use crate::run_end::{RunEnd, RunFault, verdict};
 use crate::stream::{ReaderError, take_document, write_whole};
 use crate::text::decode_text;
-use bson::extjson::{Doubles, Form, Options, WriteError};
+use bson::extjson::{Doubles, Form, KeyOrder, Options, WriteError};
 use bson::{Bson, Document};
 use bson_bytes::parts::size_at;
 use std::alloc::Global;
@@ -68,7 +68,7 @@ pub enum Line {
 pub struct Run {
     /// The number of levels to which documents, arrays and scopes may nest.
     pub depth: usize,
-    /// Whether finite doubles are accepted.
+    /// Whether finite doubles are accepted. The order of keys is that of `line`.
     pub options: Options,
     /// What is written for each document.
     pub line: Line,
@@ -204,9 +204,9 @@ fn give<W: Write, T: Write>(
     writer: &mut W,
     report: &mut T,
 ) -> Result<u64, RunFault>
-    ensures ok { IfOk result (λ n. IsGiven n run number start bytes.now (W.contents writer.old)
+    ensures ok { IfOk result (λ n. IsHandled n run number start bytes.now (W.contents writer.old)
         (W.contents writer.new) (T.contents report.old) (T.contents report.new)) }
-    ensures fault { IfErr result (λ e. IsUngiven e run number start bytes.now (W.contents writer.old)
+    ensures fault { IfErr result (λ e. IsUnhandled e run number start bytes.now (W.contents writer.old)
         (W.contents writer.new) (T.contents report.old) (T.contents report.new)) }
 {
     match line_of(alloc, run, bytes) {
@@ -231,7 +231,7 @@ fn give<W: Write, T: Write>(
 // What is written of the document that the bytes are.
 fn line_of(alloc: Global, run: Run, bytes: &[u8]) -> Result<Vec<u8>, RunFault>
     ensures ok { IfOk result (λ line. IsLine run bytes.now line.items) }
-    ensures fault { IfErr result (λ e. IsJudged e run bytes.now) }
+    ensures fault { IfErr result (λ e. IsConversionFault e run bytes.now) }
 {
     match run.line {
         Line::Text(form) => text_line(alloc, run, form, read(alloc, run, bytes)?),
@@ -247,7 +247,7 @@ fn line_of(alloc: Global, run: Run, bytes: &[u8]) -> Result<Vec<u8>, RunFault>
 // Reads the document.
 fn read(alloc: Global, run: Run, bytes: &[u8]) -> Result<Document, RunFault>
     ensures ok { IfOk result (λ document. IsRead run.depth bytes.now (document_view document)) }
-    ensures fault { IfErr result (λ e. IsJudged e run bytes.now) }
+    ensures fault { IfErr result (λ e. IsConversionFault e run bytes.now) }
 {
     match from_slice(alloc, bytes, run.depth) {
         Ok(document) => Ok(document),
@@ -259,9 +259,13 @@ fn read(alloc: Global, run: Run, bytes: &[u8]) -> Result<Document, RunFault>
 fn text_line(alloc: Global, run: Run, form: Form, document: Document) -> Result<Vec<u8>, RunFault>
     ensures ok { IfOk result
         (λ line. WritesLine run.options (Text form) (document_view document) line.items × IsUtf8 line.items) }
-    ensures fault { IfErr result (λ e. IsUnwritten e run.options (Text form) (document_view document)) }
+    ensures fault { IfErr result (λ e. IsLineFault e run.options (Text form) (document_view document)) }
 {
-    match Bson::Document(document).into_text_with(alloc, run.options, form) {
+    let sorted = Options {
+        key_order: KeyOrder::Ascending,
+        ..run.options
+    };
+    match Bson::Document(document).into_text(alloc, sorted, form) {
         Ok(text) => end_line(text),
         Err(WriteError::FiniteDouble) => Err(RunFault::FiniteDouble),
         Err(WriteError::OutOfMemory) => Err(RunFault::OutOfMemory),
@@ -273,7 +277,7 @@ fn text_line(alloc: Global, run: Run, form: Form, document: Document) -> Result<
 fn ordered_line(alloc: Global, run: Run, form: Form, bytes: &[u8]) -> Result<Vec<u8>, RunFault>
     requires { run.line ≡ TextInOrder form }
     ensures ok { IfOk result (λ line. IsLine run bytes.now line.items) }
-    ensures fault { IfErr result (λ e. IsJudged e run bytes.now) }
+    ensures fault { IfErr result (λ e. IsConversionFault e run bytes.now) }
 {
     match run.options.doubles {
         Doubles::Finite => match decode_text(alloc, form, bytes, run.depth) {
@@ -298,9 +302,13 @@ fn fault_of(error: Error) -> RunFault
 fn value_line(alloc: Global, run: Run, form: Form, document: Document) -> Result<Vec<u8>, RunFault>
     ensures ok { IfOk result
         (λ line. WritesLine run.options (TextInOrder form) (document_view document) line.items × IsUtf8 line.items) }
-    ensures fault { IfErr result (λ e. IsUnwritten e run.options (TextInOrder form) (document_view document)) }
+    ensures fault { IfErr result (λ e. IsLineFault e run.options (TextInOrder form) (document_view document)) }
 {
-    match Bson::Document(document).into_text_in_order(alloc, run.options, form) {
+    let ordered = Options {
+        key_order: KeyOrder::AsGiven,
+        ..run.options
+    };
+    match Bson::Document(document).into_text(alloc, ordered, form) {
         Ok(text) => end_line(text),
         Err(WriteError::FiniteDouble) => Err(RunFault::FiniteDouble),
         Err(WriteError::OutOfMemory) => Err(RunFault::OutOfMemory),

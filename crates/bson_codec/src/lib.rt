@@ -1,13 +1,17 @@
-//! BSON bytes (BSON 1.1, bsonspec.org) and documents: `de` reads bytes, and `ser` writes them. Which
-//! bytes are which document, and which are written, is said by `bson_bytes`.
+//! BSON bytes (BSON 1.1, bsonspec.org) and documents: `de` reads bytes, and `ser` writes them.
+//! `pack` writes the bytes of a text's document without a value. `bson_bytes` says which bytes are
+//! which document, and which are written.
 #![tactic(auto)]
 
 pub mod de;
 pub mod documents;
+mod elements;
 pub mod laws;
+pub mod pack;
 mod pair_list;
 mod read;
 pub mod run_end;
+mod scalars;
 pub mod ser;
 pub mod stream;
 pub mod text;
@@ -15,7 +19,7 @@ mod values;
 mod write;
 
 pub use de::{
-    ReadOptions, from_slice, from_slice_with, front, front_with, is_canonical, is_document,
+    ReadOptions, from_bytes, from_slice, front, front_of_bytes, is_canonical, is_document,
 };
 pub use documents::run_documents;
 pub use ser::to_vec;

@@ -1,14 +1,14 @@
 //! The pairs of a document that is read.
 ghost use Rattle.std.specs.Prelude.{◌≡◌, ◌≤◌, true, [], IfOk, OnOk, length, string_bytes};
 ghost use Rattle.bson.specs.View.{bson_view, document_view, contents};
-ghost use Rattle.bson_bytes.specs.Fault.{Gives};
+ghost use Rattle.bson_bytes.specs.Fault.{ReturnsReading};
 ghost use Rattle.bson_bytes.specs.Grammar.{one_each};
 ghost use Rattle.bson_bytes.specs.Reading.{key_at};
 ghost use Rattle.bson_bytes.specs.declared.keys.DuplicateKeys.{DuplicateKeys};
 ghost use Rattle.bson_bytes.specs.declared.keys.DuplicateKeys.TheVariants.{Replace, Refuse};
 ghost use Rattle.bson_codec.specs.Reading.{entries_view, AreKeys};
 ghost use Rattle.bson_model.specs.Value.{Pairs, no_pairs};
-ghost use Rattle.bson_source.specs.Source.{keys_back, keys_before, with_pair};
+ghost use Rattle.bson_bytes.specs.Source.{keys_back, keys_before, with_pair};
 
 use bson::{Bson, Document};
 use bson_bytes::fault::{Fault, FaultKind, fault_at};
@@ -31,7 +31,7 @@ pub(crate) trait PairList: Drop {
     /// Reads the key at the front of the bytes, which may be the next one of the list.
     fn key_at<'b>(&self, bytes: &'b [u8]) -> Result<(&'b str, &'b [u8]), Fault>
         ensures given { (ps : Pairs) → holds ps self.now
-            → Gives (λ x. (x.0.now, x.1.now)) result (key_at (keys_before keys true ps) bytes.now) }
+            → ReturnsReading (λ x. (x.0.now, x.1.now)) result (key_at (keys_before keys true ps) bytes.now) }
         ensures shorter { IfOk result (λ x. length x.1.now ≤ length bytes.now) };
 
     /// Adds a pair.

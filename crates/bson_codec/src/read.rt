@@ -1,17 +1,17 @@
 //! Documents from bytes, by the one loop over elements.
 ghost use Rattle.std.specs.Prelude.{◌≡◌};
 ghost use Rattle.bson.specs.View.{document_view};
-ghost use Rattle.bson_bytes.specs.Reading.{document_in, none_before, reads_in, settled};
+ghost use Rattle.bson_bytes.specs.Reading.{document_in, none_before, reads_bytes_in, settled};
 ghost use Rattle.bson_model.specs.Value.{no_pairs};
-ghost use Rattle.bson_source.specs.Source.{ReadsTo, ReadsAllTo};
-ghost use Rattle.bson_source.specs.declared.stop.Stop.TheVariants as stops;
+ghost use Rattle.bson_bytes.specs.Source.{ReadsTo, ReadsAllTo};
+ghost use Rattle.bson_bytes.specs.declared.stop.Stop.TheVariants as stops;
 
 use crate::pair_list::{AnyPairs, DistinctPairs};
 use crate::values::Values;
 use bson::Document;
 use bson_bytes::keys::DuplicateKeys;
-use bson_source::source;
-use bson_source::stop::Stop;
+use bson_bytes::source;
+use bson_bytes::stop::Stop;
 use std::alloc::Global;
 
 /// Reads all of the bytes as a document.
@@ -22,7 +22,7 @@ pub(crate) fn read_document(
     keys: DuplicateKeys,
 ) -> Result<Document, Stop>
     ensures { ReadsAllTo (λ e. e ≡ stops.OutOfMemory) (λ ps d. document_view d ≡ ps) result
-        (reads_in keys depth bytes.now) }
+        (reads_bytes_in keys depth bytes.now) }
 {
     match keys {
         DuplicateKeys::Replace => {

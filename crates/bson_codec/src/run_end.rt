@@ -1,6 +1,6 @@
 //! Why a run over documents ends, or passes a document over, and what is told of it.
 ghost use Rattle.std.specs.Prelude.{◌≡◌, IfOk, string_bytes};
-ghost use Rattle.bson_codec.specs.Told.{place_of, told_of, told_with, words_for, words_of};
+ghost use Rattle.bson_codec.specs.Told.{place_text, told_of, told_with, fault_kind_message, run_fault_message};
 
 use bson_bytes::fault::FaultKind;
 use std::alloc::{AllocError, Global};
@@ -99,7 +99,7 @@ fn at_place(
 impl RunFault {
     /// Returns what is wrong, in words for people.
     pub fn message(self) -> &'static str
-        ensures { result.now ≡ words_of self }
+        ensures { result.now ≡ run_fault_message self }
     {
         match self {
             RunFault::Malformed { kind, .. } => words_for(kind),
@@ -112,7 +112,7 @@ impl RunFault {
 
     // Where in the document.
     fn place(self, alloc: Global) -> Result<String, AllocError>
-        ensures { IfOk result (λ place. string_bytes place ≡ place_of self) }
+        ensures { IfOk result (λ place. string_bytes place ≡ place_text self) }
     {
         match self {
             RunFault::Malformed { offset, .. } => format!(in alloc; " at its byte {offset}"),
@@ -126,7 +126,7 @@ impl RunFault {
 
 // What is wrong with bytes.
 fn words_for(kind: FaultKind) -> &'static str
-    ensures { result.now ≡ words_for kind }
+    ensures { result.now ≡ fault_kind_message kind }
 {
     match kind {
         FaultKind::Depth => "nested too deep",

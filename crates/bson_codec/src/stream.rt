@@ -5,7 +5,7 @@ ghost use Rattle.bson_model.specs.Value.{Pairs};
 ghost use Rattle.bson_bytes.specs.Laws.{IsRead, IsFront};
 ghost use Rattle.bson_bytes.specs.Writing.{document_bytes, FitsDocument};
 ghost use Rattle.bson.specs.View.{document_view};
-ghost use Rattle.bson_codec.specs.Streams.{IsRefusedInput, IsHindrance, IsUnwritten, IsKept, IsTaken, WritesBeginning};
+ghost use Rattle.bson_codec.specs.Streams.{IsRefusedInput, IsHindrance, IsWriteFailure, IsSystemFailure, IsConsumed, WritesBeginning};
 ghost use Rattle.bson_codec.specs.Streams.{front_of, promised};
 ghost use Rattle.bson_codec.specs.declared.stream.ReaderError.TheVariants as read_errors;
 ghost use Rattle.bson_codec.specs.declared.stream.WriterError.TheVariants as write_errors;
@@ -130,9 +130,9 @@ pub fn to_writer<W: Write>(
         (Appends (W.contents writer.old) (W.contents writer.new) (document_bytes (document_view document.now))) }
     ensures fits { OnOk result (FitsDocument (document_view document.now)) }
     // Where each part fits, memory or the writer is wanting.
-    ensures only { FitsDocument (document_view document.now) → IfErr result (λ e. IsKept e) }
+    ensures only { FitsDocument (document_view document.now) → IfErr result (λ e. IsSystemFailure e) }
     // Why, and what was written.
-    ensures cause { IfErr result (λ e. IsUnwritten e (document_view document.now) (W.contents writer.old)
+    ensures cause { IfErr result (λ e. IsWriteFailure e (document_view document.now) (W.contents writer.old)
         (W.contents writer.new)) }
 {
     match to_vec(alloc, document) {
@@ -174,7 +174,7 @@ fn fill<R: Read>(
     requires room { 0 < length block.old }
     requires fewer { vec_len bytes.old ≤ count }
     ensures taken { OnOk result
-        (IsTaken (R.remaining reader.old) (R.remaining reader.new) bytes.old.items bytes.new.items) }
+        (IsConsumed (R.remaining reader.old) (R.remaining reader.new) bytes.old.items bytes.new.items) }
     ensures end { OnOk result ((length bytes.new.items ≡ count) ⊎ IsAtEnd (R.remaining reader.new)) }
     ensures bound { OnOk result (length bytes.new.items ≤ count) }
     ensures some { (more : List ℕ) × Consumes (R.remaining reader.old) (R.remaining reader.new) more }
@@ -187,14 +187,14 @@ fn fill<R: Read>(
         } else {
             block.len()
         };
-        let piece = &mut block[..room];
-        let Ok(given) = reader.read(piece) else {
+        let span = &mut block[..room];
+        let Ok(given) = reader.read(span) else {
             return Err(ReaderError::CannotRead);
         };
         if given == 0 {
             return Ok(());
         }
-        let Ok(()) = bytes.extend_from_slice(&piece[..given]) else {
+        let Ok(()) = bytes.extend_from_slice(&span[..given]) else {
             return Err(ReaderError::OutOfMemory);
         };
     }

@@ -1,17 +1,17 @@
 //! The text of a document's bytes.
 ghost use Rattle.std.specs.Prelude.{◌≡◌, IfOk, IfErr, string_bytes};
 ghost use Rattle.bson_bytes.specs.Laws.{IsRead};
-ghost use Rattle.bson_bytes.specs.Reading.{reads};
-ghost use Rattle.bson_codec.specs.Errors.{IsFaultOf};
-ghost use Rattle.bson_codec.specs.Texts.{IsTextOf};
+ghost use Rattle.bson_bytes.specs.Reading.{reads_bytes};
+ghost use Rattle.bson_codec.specs.Errors.{IsReadFault};
+ghost use Rattle.bson_codec.specs.Texts.{IsDocumentTextOf};
 ghost use Rattle.bson_codec.specs.declared.de.Error.TheVariants as errors;
 ghost use Rattle.bson_model.specs.Value.{Pairs};
 
 use crate::de::{Error, from_slice, locate};
 use bson::Bson;
-use bson::extjson::{Doubles, Form, Options, WriteError};
-use bson_source::stop::Stop;
-use bson_source::text::document_text;
+use bson::extjson::{Doubles, Form, KeyOrder, Options, WriteError};
+use bson_bytes::stop::Stop;
+use bson_bytes::text::document_text;
 use std::alloc::Global;
 
 /// Reads all of the bytes as a document (BSON 1.1), and returns its compact text in the form (MongoDB
@@ -31,11 +31,11 @@ use std::alloc::Global;
 /// ```
 pub fn decode_text(alloc: Global, form: Form, bytes: &[u8], depth: usize) -> Result<String, Error>
     // The bytes are a document, and this is its text.
-    ensures ok { IfOk result (λ s. IsTextOf form depth bytes.now (string_bytes s)) }
+    ensures ok { IfOk result (λ s. IsDocumentTextOf form depth bytes.now (string_bytes s)) }
     // The bytes of a document are refused only if memory runs out.
     ensures only { (ps : Pairs) → IsRead depth bytes.now ps → IfErr result (λ e. e ≡ errors.OutOfMemory) }
     // Which fault it is, and where.
-    ensures fault { IfErr result (λ e. IsFaultOf e bytes.now (reads depth bytes.now)) }
+    ensures fault { IfErr result (λ e. IsReadFault e bytes.now (reads_bytes depth bytes.now)) }
 {
     match document_text(alloc, form, bytes, depth) {
         Ok(text) => Ok(text),
@@ -47,15 +47,16 @@ pub fn decode_text(alloc: Global, form: Form, bytes: &[u8], depth: usize) -> Res
 
 // Decodes the bytes through a document in memory.
 fn decode_by_value(alloc: Global, form: Form, bytes: &[u8], depth: usize) -> Result<String, Error>
-    ensures ok { IfOk result (λ s. IsTextOf form depth bytes.now (string_bytes s)) }
+    ensures ok { IfOk result (λ s. IsDocumentTextOf form depth bytes.now (string_bytes s)) }
     ensures only { (ps : Pairs) → IsRead depth bytes.now ps → IfErr result (λ e. e ≡ errors.OutOfMemory) }
-    ensures fault { IfErr result (λ e. IsFaultOf e bytes.now (reads depth bytes.now)) }
+    ensures fault { IfErr result (λ e. IsReadFault e bytes.now (reads_bytes depth bytes.now)) }
 {
     let options = Options {
         doubles: Doubles::Finite,
+        key_order: KeyOrder::AsGiven,
     };
     let document = from_slice(alloc, bytes, depth)?;
-    match Bson::Document(document).into_text_in_order(alloc, options, form) {
+    match Bson::Document(document).into_text(alloc, options, form) {
         Ok(text) => Ok(text),
         Err(WriteError::OutOfMemory) => Err(Error::OutOfMemory),
         Err(WriteError::FiniteDouble) => unreachable!(),

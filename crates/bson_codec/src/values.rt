@@ -1,20 +1,20 @@
 //! A sink that makes values in memory.
 ghost use Rattle.std.specs.Prelude.{◌≡◌, ◌≤◌, ℕ, true, List, length, IfOk, OnOk, string_bytes};
 ghost use Rattle.bson.specs.View.{bson_view, document_view, values_view};
-ghost use Rattle.bson_bytes.specs.Grammar.{values};
+ghost use Rattle.bson_bytes.specs.Grammar.{pair_values};
 ghost use Rattle.bson_bytes.specs.Reading.{key_at, name_at};
 ghost use Rattle.bson_codec.specs.Reading.{OfKind};
 ghost use Rattle.bson_model.specs.Value.{Pairs, scalar, code_scope};
-ghost use Rattle.bson_source.specs.Fixed.{fixed_view};
-ghost use Rattle.bson_source.specs.Source.{ReadsTo, keys_before, with_pair};
-ghost use Rattle.bson_source.specs.declared.stop.Stop.TheVariants as stops;
+ghost use Rattle.bson_bytes.specs.Fixed.{fixed_view};
+ghost use Rattle.bson_bytes.specs.Source.{ReadsTo, keys_before, with_pair};
+ghost use Rattle.bson_bytes.specs.declared.stop.Stop.TheVariants as stops;
 
 use crate::pair_list::PairList;
 use bson::{Binary, Bson, DbPointer, Document, JavaScriptCodeWithScope, ObjectId, Regex};
+use bson_bytes::fixed::FixedScalar;
 use bson_bytes::parts::behind_name;
-use bson_source::fixed::FixedScalar;
-use bson_source::sink::ValueSink;
-use bson_source::stop::Stop;
+use bson_bytes::sink::ValueSink;
+use bson_bytes::stop::Stop;
 use bson_types::spec::BinarySubtype;
 use std::alloc::{AllocError, Global};
 use std::marker::PhantomData;
@@ -59,7 +59,7 @@ impl<P: PairList> ValueSink for Values<P> {
 
     ghost wrote = { λ old v x new. bson_view x ≡ v };
 
-    ghost begun = { λ b old ps list new. OfKind b (P.holds ps list.pairs) (values_view list.items.items ≡ values ps) };
+    ghost begun = { λ b old ps list new. OfKind b (P.holds ps list.pairs) (values_view list.items.items ≡ pair_values ps) };
 
     ghost named = { λ b old k name new. OfKind b (string_bytes name ≡ k) (Unit {0}) };
 
@@ -179,8 +179,8 @@ fn no_key(alloc: Global, bytes: &[u8]) -> Result<(String, &[u8]), Stop>
 }
 
 fn put_item(items: &mut Vec<Bson>, value: Bson) -> Result<(), AllocError>
-    ensures { OnOk result ((ps : Pairs) (k : List ℕ) → values_view items.old.items ≡ values ps
-        → values_view items.new.items ≡ values (with_pair ps k (bson_view value))) }
+    ensures { OnOk result ((ps : Pairs) (k : List ℕ) → values_view items.old.items ≡ pair_values ps
+        → values_view items.new.items ≡ pair_values (with_pair ps k (bson_view value))) }
 {
     Ok(items.push(value)?)
 }

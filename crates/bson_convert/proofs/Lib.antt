@@ -1,5 +1,5 @@
 mod Again
-mod Arranged
+mod Normalized
 mod CanonicalTexts
 mod Converting
 mod Deep

@@ -2,7 +2,7 @@
 -- with its code is refused here.
 use Rattle.std.proofs.Common.{◌≡◌, refl}
 use Rattle.std.specs.Prelude.{codes}
-use Rattle.bson_place.specs.declared.place.Reason.TheVariants as reason
+use Rattle.bson_tree.specs.declared.place.Reason.TheVariants as reason
 use Rattle.bson_convert.specs.Words.{name_of, words_for, words_of, fault_for, line_of}
 use Rattle.bson_convert.specs.declared.mode.Mode.TheVariants as mode
 use Rattle.bson_convert.specs.declared.no_bytes.NoBytes.TheVariants as without

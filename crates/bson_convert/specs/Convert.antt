@@ -2,9 +2,9 @@
 use Rattle.std.specs.Prelude.{◌≡◌, ◌≤◌, ℕ, List, [], ◌∷◌, ◌++◌, Some, IsUtf8, string_bytes}
 use Rattle.serde_json.specs.Data.{Data, depth}
 use Rattle.serde_json.specs.Read.{read, max_depth}
+use Rattle.bson.specs.Options.{default_options}
 use Rattle.bson.specs.declared.extjson.options.Options.{Options}
 use Rattle.bson_scalar.specs.TreeText.{tree_text}
-use Rattle.bson_scalar.specs.declared.form.Doubles.TheVariants.{Special}
 use Rattle.bson_scalar.specs.declared.form.Form.{Form}
 use Rattle.bson_scalar.specs.declared.form.Form.TheVariants as form
 use Rattle.bson_model.specs.Means.{MeansIn}
@@ -13,20 +13,16 @@ use Rattle.bson_model.specs.Value.{Value}
 use Rattle.bson_model.specs.Normal.{normal_form}
 use Rattle.bson_model.specs.Written.{WrittenIn}
 use Rattle.bson_model.specs.Laws.{HasMeaningIn, IsTreeOfIn}
-use Rattle.bson_place.specs.Place.{IsFirstFaultIn}
+use Rattle.bson_tree.specs.Place.{IsFirstFaultIn}
 use Rattle.bson.specs.TextMeaning.{IsTextOf, IsNoText, HasTextMeaningIn}
 use Rattle.bson.specs.Texts.{IsTextUnder}
 use Rattle.bson_convert.specs.declared.converted.Tried.{Tried}
-use Rattle.bson_convert.specs.declared.converted.Tried.TheVariants.{Written, Arranged}
+use Rattle.bson_convert.specs.declared.converted.Tried.TheVariants.{Written, Normalized}
 use Rattle.bson_convert.specs.declared.mode.Mode.{Mode}
 use Rattle.bson_convert.specs.declared.mode.Mode.TheVariants.{Canonical, Relaxed, Show}
 use Rattle.bson_convert.specs.declared.error.Error.{Error}
 use Rattle.bson_convert.specs.Difference.{IsFirstDifferenceAt}
 use Rattle.bson_convert.specs.declared.error.Error.TheVariants.{NotJson, NotExtendedJson, NotCanonical, OutOfMemory}
-
--- what is done where no options are given
-abbrev pub default_options : Options
-default_options = record { doubles = Special }
 
 -- ---- the output
 
@@ -135,9 +131,9 @@ IsConvertedText o mode bytes text =
 -- that text, or a text of the same tree as the bytes', which means something
 abbrev pub IsTried : Options → Mode → List ℕ → Tried → Type 0
 IsTried o mode bytes (Written text) = IsConvertedText o mode bytes text.items
-IsTried o mode bytes (Arranged text) = IsUtf8 bytes × (read (string_bytes text) ≡ read bytes) × IsAccepted o (string_bytes text)
+IsTried o mode bytes (Normalized text) = IsUtf8 bytes × (read (string_bytes text) ≡ read bytes) × IsAccepted o (string_bytes text)
 
 -- the text that was written is UTF-8; the other is by its type
 abbrev pub IsUtf8Tried : Tried → Type 0
 IsUtf8Tried (Written text) = IsUtf8 text.items
-IsUtf8Tried (Arranged text) = Unit {0}
+IsUtf8Tried (Normalized text) = Unit {0}

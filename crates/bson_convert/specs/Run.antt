@@ -3,8 +3,9 @@ use Rattle.std.specs.Prelude.{◌≡◌, ℕ, ◌<◌, List, length, Option, Som
 use Rattle.std.specs.Io.{StartsWith}
 use Rattle.std.specs.Io.KnownBytes.{Keeps, Appends, Consumes, IsAtEnd}
 use Rattle.bson.specs.declared.extjson.options.Options.{Options}
-use Rattle.bson_convert.specs.Convert.{default_options, ConvertsIn, IsRefusedIn}
-use Rattle.bson_convert.specs.Words.{fault_of}
+use Rattle.bson.specs.Options.{default_options}
+use Rattle.bson_convert.specs.Convert.{ConvertsIn, IsRefusedIn}
+use Rattle.bson_convert.specs.Words.{fault_kind}
 use Rattle.bson_convert.specs.declared.error.Error.{Error}
 use Rattle.bson_convert.specs.declared.mode.Mode.{Mode}
 use Rattle.bson_convert.specs.declared.fault.Fault.{Fault}
@@ -49,7 +50,7 @@ pub record CutShortIn (o : Options) (mode : Mode) (before after had holds : Opti
 
 -- the bytes are rejected for an error of this kind
 abbrev pub IsRefusedAs : Options → Fault → List ℕ → Type 0
-IsRefusedAs o fault bytes = (error : Error) × IsRefusedIn o error bytes × (fault_of error ≡ Some fault)
+IsRefusedAs o fault bytes = (error : Error) × IsRefusedIn o error bytes × (fault_kind error ≡ Some fault)
 
 -- all that the reader had is rejected for an error of this kind
 pub record RefusesIn (o : Options) (fault : Fault) (before after : Option (List ℕ)) : Type 0 where
@@ -58,11 +59,11 @@ pub record RefusesIn (o : Options) (fault : Fault) (before after : Option (List 
   pub refused : IsRefusedAs o fault bytes
 
 -- what each kind says of the bytes
-abbrev pub FailsIn : Options → Fault → Mode → (before after had holds : Option (List ℕ)) → Type 0
-FailsIn o CannotRead mode before after had holds = Keeps had holds
-FailsIn o OutOfMemory mode before after had holds = Keeps had holds
-FailsIn o CannotWrite mode before after had holds = CutShortIn o mode before after had holds
-FailsIn o fault mode before after had holds = RefusesIn o fault before after × Keeps had holds
+abbrev pub RunFailsIn : Options → Fault → Mode → (before after had holds : Option (List ℕ)) → Type 0
+RunFailsIn o CannotRead mode before after had holds = Keeps had holds
+RunFailsIn o OutOfMemory mode before after had holds = Keeps had holds
+RunFailsIn o CannotWrite mode before after had holds = CutShortIn o mode before after had holds
+RunFailsIn o fault mode before after had holds = RefusesIn o fault before after × Keeps had holds
 
 abbrev pub Accepts : Mode → (before after : Option (List ℕ)) → List ℕ → Type 0
 Accepts = AcceptsIn default_options
@@ -76,5 +77,5 @@ CutShort = CutShortIn default_options
 abbrev pub Refuses : Fault → (before after : Option (List ℕ)) → Type 0
 Refuses = RefusesIn default_options
 
-abbrev pub Fails : Fault → Mode → (before after had holds : Option (List ℕ)) → Type 0
-Fails = FailsIn default_options
+abbrev pub RunFails : Fault → Mode → (before after had holds : Option (List ℕ)) → Type 0
+RunFails = RunFailsIn default_options

@@ -1,7 +1,7 @@
 -- The names of the modes, the messages of errors and their kinds.
 use Rattle.std.specs.Prelude.{ℕ, List, ◌++◌, Option, None, Some, codes}
-use Rattle.bson_place.specs.declared.place.Reason.{Reason}
-use Rattle.bson_place.specs.declared.place.Reason.TheVariants as reason
+use Rattle.bson_tree.specs.declared.place.Reason.{Reason}
+use Rattle.bson_tree.specs.declared.place.Reason.TheVariants as reason
 use Rattle.bson_convert.specs.declared.mode.Mode.{Mode}
 use Rattle.bson_convert.specs.declared.mode.Mode.TheVariants as mode
 use Rattle.bson_convert.specs.declared.no_bytes.NoBytes.{NoBytes}
@@ -41,14 +41,14 @@ fault_for (reason.BadObjectId e) = fault.BadObjectId
 fault_for (reason.WrongShape message) = fault.NotExtendedJson
 
 -- the kind of an error; missing bytes and a text that is not canonical are not errors of a run
-abbrev pub fault_of : Error → Option Fault
-fault_of error.CannotRead = Some fault.CannotRead
-fault_of error.NotJson = Some fault.NotJson
-fault_of (error.NotExtendedJson place) = Some (fault_for place.reason)
-fault_of (error.NoBytes why) = None
-fault_of (error.NotCanonical column) = None
-fault_of error.OutOfMemory = Some fault.OutOfMemory
-fault_of error.CannotWrite = Some fault.CannotWrite
+abbrev pub fault_kind : Error → Option Fault
+fault_kind error.CannotRead = Some fault.CannotRead
+fault_kind error.NotJson = Some fault.NotJson
+fault_kind (error.NotExtendedJson place) = Some (fault_for place.reason)
+fault_kind (error.NoBytes why) = None
+fault_kind (error.NotCanonical column) = None
+fault_kind error.OutOfMemory = Some fault.OutOfMemory
+fault_kind error.CannotWrite = Some fault.CannotWrite
 
 abbrev pub line_of : Fault → List ℕ
 line_of fault.CannotRead = codes "bson_cli: cannot read"

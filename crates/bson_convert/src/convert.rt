@@ -5,11 +5,11 @@ ghost use Rattle.bson_model.specs.Means.{Means, MeansIn};
 ghost use Rattle.bson_model.specs.Value as model;
 ghost use Rattle.bson_convert.specs.Convert.{Converts, ConvertsIn, IsKept, IsKeptIn, IsRefused, IsRefusedIn};
 ghost use Rattle.bson.specs.declared.extjson.options.Options.{Options};
-ghost use Rattle.bson_convert.specs.Convert.{default_options, IsConvertedText, IsTried, IsUtf8Tried, newline};
+ghost use Rattle.bson_convert.specs.Convert.{IsConvertedText, IsTried, IsUtf8Tried, newline};
 ghost use Rattle.bson.specs.TextMeaning.{IsTextOf, IsTextFaultIn};
 ghost use Rattle.bson.specs.declared.extjson.text_error.TextError.{TextError};
 
-use crate::converted::{Tried, read_arranged, try_line, try_text};
+use crate::converted::{Tried, read_normalized, try_line, try_text};
 use crate::error::Error;
 use crate::mode::Mode;
 use bson::extjson::Options;
@@ -45,23 +45,16 @@ pub fn convert(alloc: Global, mode: Mode, bytes: &[u8]) -> Result<Vec<u8>, Error
         → IfErr result (λ fault. fault ≡ Error.OutOfMemory) }
     ensures fault { IfErr result (λ fault. IsRefused fault bytes.now) }
 {
-    convert_with(alloc, default_options(), mode, bytes)
-}
-
-/// Returns the options of a call without options: finite doubles are rejected.
-pub fn default_options() -> Options
-    ensures { result ≡ default_options }
-{
-    Options::default()
+    convert_sorted(alloc, Options::default(), mode, bytes)
 }
 
 /// Returns the text of [`convert`] with options, which say what a text means and which values have
-/// one.
+/// one. The keys of each document ascend, whatever the options say.
 ///
 /// # Errors
 ///
 /// The errors of [`convert`].
-pub fn convert_with(
+pub fn convert_sorted(
     alloc: Global,
     options: Options,
     mode: Mode,
@@ -79,11 +72,11 @@ pub fn convert_with(
     convert_line(alloc, options, mode, bytes, &mut Scratch::new(alloc))
 }
 
-/// Converts the bytes as [`convert_with`] does, with memory that serves one text after another.
+/// Converts the bytes as [`convert_sorted`] does, with memory that serves one text after another.
 ///
 /// # Errors
 ///
-/// The errors of [`convert_with`].
+/// The errors of [`convert_sorted`].
 pub fn convert_line(
     alloc: Global,
     options: Options,
@@ -104,8 +97,8 @@ pub fn convert_line(
     end_line(text)
 }
 
-/// Returns the text of [`convert_with`], and frees the bytes once they are read or arranged. Then
-/// they need no memory in addition to the output of the arranged text.
+/// Returns the text of [`convert_sorted`], and frees the bytes once they are read or normalized. Then
+/// they need no memory in addition to the output of the normalized text.
 ///
 /// # Errors
 ///
@@ -129,7 +122,7 @@ pub fn convert_whole(
     end_line(text)
 }
 
-/// Returns the text of [`convert_with`] without the newline.
+/// Returns the text of [`convert_sorted`] without the newline.
 ///
 /// # Errors
 ///
@@ -137,11 +130,11 @@ pub fn convert_whole(
 ///
 /// ```
 /// let bytes = br#"[{"$numberLong": "5"}]"#;
-/// if let Ok(text) = text_with(alloc, Options::default(), Mode::Relaxed, bytes) {
+/// if let Ok(text) = converted_text(alloc, Options::default(), Mode::Relaxed, bytes) {
 ///     println!(rt; "{}", str::from_utf8(&text)?)?; // [5]
 /// }
 /// ```
-pub fn text_with(
+pub fn converted_text(
     alloc: Global,
     options: Options,
     mode: Mode,
@@ -156,7 +149,7 @@ pub fn text_with(
     line_text(alloc, options, mode, bytes, &mut Scratch::new(alloc))
 }
 
-/// [`text_with`] with the memory of a run.
+/// [`converted_text`] with the memory of a run.
 pub(crate) fn line_text(
     alloc: Global,
     options: Options,
@@ -174,7 +167,7 @@ pub(crate) fn line_text(
     finish(alloc, options, mode, tried)
 }
 
-// What was written at once, or the text of the arranged one.
+// What was written at once, or the text of the normalized one.
 fn finish(alloc: Global, options: Options, mode: Mode, tried: Tried) -> Result<Vec<u8>, Error>
     ensures ok { (bytes : List ℕ) → IsTried options mode bytes tried
         → IfOk result (λ text. IsConvertedText options mode bytes text.items) }
@@ -184,7 +177,7 @@ fn finish(alloc: Global, options: Options, mode: Mode, tried: Tried) -> Result<V
 {
     match tried {
         Tried::Written(text) => Ok(text),
-        Tried::Arranged(arranged) => read_arranged(alloc, options, mode, arranged.as_str()),
+        Tried::Normalized(normalized) => read_normalized(alloc, options, mode, normalized.as_str()),
     }
 }
 

@@ -1,11 +1,11 @@
 //! A text that is written as another is read, and why one means nothing.
 //!
-//! If a text cannot be written as it is read, it is arranged: each object has each key once, in
-//! ascending order. The arranged text has the same tree. One walk over it finds the first fault. If
-//! there is none, the arranged text is written as it is read.
+//! If a text cannot be written as it is read, it is normalized: each object has each key once, in
+//! ascending order. The normalized text has the same tree. One walk over it finds the first fault. If
+//! there is none, the normalized text is written as it is read.
 ghost use Rattle.std.specs.Prelude.{◌≡◌, IfOk, IfErr, IsUtf8, OnOk, ℕ, List, string_bytes};
 ghost use Rattle.serde_json.specs.Read.{read};
-ghost use Rattle.bson_distinct.specs.Arranged.{IsArrangedText};
+ghost use Rattle.bson_tokens.specs.Normalized.{IsNormalizedText};
 ghost use Rattle.bson_tokens.specs.Parts.{IsBroken};
 ghost use Rattle.bson_convert.specs.Convert.{IsAccepted, IsConvertedText, IsRefusedIn, IsTried, IsUtf8Tried};
 ghost use Rattle.bson.specs.declared.extjson.options.Options.{Options};
@@ -13,11 +13,11 @@ ghost use Rattle.bson.specs.declared.extjson.options.Options.{Options};
 use crate::error::Error;
 use crate::mode::Mode;
 use bson::extjson::{Form, Options};
-use bson_distinct::arrange::arrange_text;
-use bson_distinct::arrangement::Arrangement;
-use bson_filter::fault::{first_fault_in, first_fault_of_arranged};
-use bson_filter::filter::{show_text, sort_text};
-use bson_filter::stop::Stop;
+use bson_text::fault::{first_fault_in, first_fault_of_normalized};
+use bson_text::filter::{show_text, sort_text};
+use bson_text::stop::Stop;
+use bson_tokens::arrangement::Arrangement;
+use bson_tokens::normalize::normalize_text;
 use json::Scratch;
 use std::alloc::{AllocError, Global};
 
@@ -26,7 +26,7 @@ use std::alloc::{AllocError, Global};
 /// ```
 /// let options = Options::default();
 /// let bytes = br#"{"a": 1.5, "a": 7}"#.as_slice();
-/// if let Ok(Tried::Arranged(text)) = try_text(alloc, options, Mode::Relaxed, bytes) {
+/// if let Ok(Tried::Normalized(text)) = try_text(alloc, options, Mode::Relaxed, bytes) {
 ///     println!(rt; "{text}")?; // {"a":7}
 /// }
 /// ```
@@ -35,11 +35,11 @@ pub enum Tried {
     /// The text that the mode asks for.
     Written(Vec<u8>),
     /// The text of the same tree that is to be read in its place. The tree has a meaning.
-    Arranged(String),
+    Normalized(String),
 }
 
 /// Writes the text of the value that the bytes mean, as the mode says, while they are read. If the
-/// text cannot be written so, the arranged text of the bytes is returned, unless it has a fault.
+/// text cannot be written so, the normalized text of the bytes is returned, unless it has a fault.
 ///
 /// # Errors
 ///
@@ -72,22 +72,22 @@ pub(crate) fn try_line(
     match stream_text(alloc, options, mode, text, scratch) {
         Ok(written) => Ok(Tried::Written(written)),
         Err(Stop::OutOfMemory) => Err(Error::OutOfMemory),
-        Err(_) => Ok(Tried::Arranged(arrange_faultless(alloc, options, text)?)),
+        Err(_) => Ok(Tried::Normalized(normalize_faultless(alloc, options, text)?)),
     }
 }
 
-/// The text that the mode asks for of an arranged text that has a meaning.
-pub(crate) fn read_arranged(
+/// The text that the mode asks for of an normalized text that has a meaning.
+pub(crate) fn read_normalized(
     alloc: Global,
     options: Options,
     mode: Mode,
-    arranged: &str,
+    normalized: &str,
 ) -> Result<Vec<u8>, Error>
-    ensures ok { IfOk result (λ text. IsConvertedText options mode arranged.now text.items) }
+    ensures ok { IfOk result (λ text. IsConvertedText options mode normalized.now text.items) }
     ensures utf8 { IfOk result (λ text. IsUtf8 text.items) }
     ensures fault { IfErr result (λ fault. fault ≡ Error.OutOfMemory) }
 {
-    match stream_text(alloc, options, mode, arranged, &mut Scratch::new(alloc)) {
+    match stream_text(alloc, options, mode, normalized, &mut Scratch::new(alloc)) {
         Ok(written) => Ok(written),
         // Only memory: the keys ascend and have a meaning.
         Err(_) => Err(Error::OutOfMemory),
@@ -118,26 +118,26 @@ fn stream_text(
 ///
 /// - `NotJson`: `serde_json` reads no tree from the text.
 /// - `OutOfMemory`: an allocation failed.
-pub fn arrange(alloc: Global, arrangement: Arrangement, text: &str) -> Result<String, Error>
-    ensures ok { IfOk result (λ arranged. IsArrangedText arrangement text.now (string_bytes arranged)) }
-    ensures same { IfOk result (λ arranged. read (string_bytes arranged) ≡ read text.now) }
+pub fn normalize(alloc: Global, arrangement: Arrangement, text: &str) -> Result<String, Error>
+    ensures ok { IfOk result (λ normalized. IsNormalizedText arrangement text.now (string_bytes normalized)) }
+    ensures same { IfOk result (λ normalized. read (string_bytes normalized) ≡ read text.now) }
     ensures fault { (options : Options) → IfErr result (λ fault. IsRefusedIn options fault text.now) }
 {
-    match arrange_text(alloc, arrangement, text) {
-        Ok(arranged) => Ok(arranged),
+    match normalize_text(alloc, arrangement, text) {
+        Ok(normalized) => Ok(normalized),
         Err(error) => Err(no_tree(error)),
     }
 }
 
-// The arranged text by ascending keys of a text that has a meaning.
-fn arrange_faultless(alloc: Global, options: Options, text: &str) -> Result<String, Error>
-    ensures ok { IfOk result (λ arranged. IsAccepted options (string_bytes arranged)) }
-    ensures same { IfOk result (λ arranged. read (string_bytes arranged) ≡ read text.now) }
+// The normalized text by ascending keys of a text that has a meaning.
+fn normalize_faultless(alloc: Global, options: Options, text: &str) -> Result<String, Error>
+    ensures ok { IfOk result (λ normalized. IsAccepted options (string_bytes normalized)) }
+    ensures same { IfOk result (λ normalized. read (string_bytes normalized) ≡ read text.now) }
     ensures fault { IfErr result (λ fault. IsRefusedIn options fault text.now) }
 {
-    let arranged = arrange(alloc, Arrangement::Ascending, text)?;
-    match first_fault_of_arranged(alloc, options.doubles, arranged.as_str()) {
-        Ok(None) => Ok(arranged),
+    let normalized = normalize(alloc, Arrangement::Ascending, text)?;
+    match first_fault_of_normalized(alloc, options.doubles, normalized.as_str()) {
+        Ok(None) => Ok(normalized),
         Ok(Some(place)) => Err(Error::NotExtendedJson(place)),
         Err(AllocError) => Err(Error::OutOfMemory),
     }

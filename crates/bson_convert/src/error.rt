@@ -1,10 +1,10 @@
 //! The errors of the conversions.
 ghost use Rattle.std.specs.Prelude.{◌≡◌, ◌≢◌, MatchBool};
-ghost use Rattle.bson_convert.specs.Words.{fault_of, words_of};
+ghost use Rattle.bson_convert.specs.Words.{fault_kind, words_of};
 
 use crate::fault::Fault;
 use crate::no_bytes::NoBytes;
-use bson_place::place::{Place, Reason};
+use bson_tree::place::{Place, Reason};
 
 /// Why a conversion failed.
 ///
@@ -37,7 +37,7 @@ impl Error {
     /// Returns the kind of the error, as a run reports it, or `None` for `NoBytes` and
     /// `NotCanonical`.
     pub fn fault(&self) -> Option<Fault>
-        ensures { result ≡ fault_of self.now }
+        ensures { result ≡ fault_kind self.now }
     {
         match self {
             Error::CannotRead => Some(Fault::CannotRead),

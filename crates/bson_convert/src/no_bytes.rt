@@ -5,7 +5,7 @@ ghost use Rattle.bson_convert.specs.Words.{words_without};
 /// Why a text that has a meaning gives no bytes of BSON.
 ///
 /// ```
-/// if let Err(Error::NoBytes(why)) = encode_in_order(alloc, Options::default(), b"[1, 2]") {
+/// if let Err(Error::NoBytes(why)) = encode(alloc, Options::default(), b"[1, 2]") {
 ///     println!(rt; "{}", why.message())?; // not a document
 /// }
 /// ```

@@ -29,7 +29,7 @@ pub fn words_given<R: Env + AllocGlobal>(rt: &R) -> Result<Option<Vec<String>>, 
 
 /// Writes the line to standard error, and returns the status. Where that takes nothing, the status
 /// alone tells.
-pub fn exit_with<R: Eprint>(rt: &R, line: &str, status: u8) -> ExitCode
+pub fn report_failure<R: Eprint>(rt: &R, line: &str, status: u8) -> ExitCode
     ensures { exit_status result ≡ status }
 {
     let _ = rt.eprintln(line);

@@ -1,8 +1,8 @@
 //! One run: from the bytes of a reader to the bytes for a writer.
 ghost use Rattle.std.specs.Prelude.{IfErr, OnOk};
-ghost use Rattle.bson_convert.specs.Run.{Done, DoneIn, Fails, FailsIn};
+ghost use Rattle.bson_convert.specs.Run.{Done, DoneIn, RunFails, RunFailsIn};
 
-use crate::convert::{convert_whole, default_options};
+use crate::convert::convert_whole;
 use crate::fault::Fault;
 use crate::mode::Mode;
 use crate::stream::{read_whole, write_whole};
@@ -31,18 +31,19 @@ pub fn run<R: Read, W: Write>(
     ensures done { OnOk result
         (Done mode (R.remaining reader.old) (R.remaining reader.new) (W.contents writer.old) (W.contents writer.new)) }
     ensures fails { IfErr result
-        (λ fault. Fails fault mode (R.remaining reader.old) (R.remaining reader.new) (W.contents writer.old)
+        (λ fault. RunFails fault mode (R.remaining reader.old) (R.remaining reader.new) (W.contents writer.old)
         (W.contents writer.new)) }
 {
-    run_with(alloc, default_options(), mode, reader, writer)
+    convert_stream(alloc, Options::default(), mode, reader, writer)
 }
 
-/// Runs as [`run`] with options, which say what a text means and which values have one.
+/// Runs as [`run`] with options, which say what a text means and which values have one. The keys of
+/// each document ascend, whatever the options say.
 ///
 /// # Errors
 ///
 /// The errors of [`run`].
-pub fn run_with<R: Read, W: Write>(
+pub fn convert_stream<R: Read, W: Write>(
     alloc: Global,
     options: Options,
     mode: Mode,
@@ -53,7 +54,7 @@ pub fn run_with<R: Read, W: Write>(
         (DoneIn options mode (R.remaining reader.old) (R.remaining reader.new) (W.contents writer.old)
         (W.contents writer.new)) }
     ensures fails { IfErr result
-        (λ fault. FailsIn options fault mode (R.remaining reader.old) (R.remaining reader.new) (W.contents writer.old)
+        (λ fault. RunFailsIn options fault mode (R.remaining reader.old) (R.remaining reader.new) (W.contents writer.old)
         (W.contents writer.new)) }
 {
     let bytes = read_whole(alloc, reader)?;

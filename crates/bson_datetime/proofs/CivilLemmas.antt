@@ -9,7 +9,7 @@ use Rattle.jiff_core.specs.Calendar.{days_of_years, days_of_months, day_count}
 use Rattle.jiff_core.proofs.CalendarLemmas.{days_from_civil-day_count, days_of_months_mono, day_of_year_bound}
 use Rattle.jiff_core.proofs.CalendarLemmas.{days_of_months-zero}
 use Rattle.jiff_core.proofs.DateLemmas.{civil}
-use Rattle.bson_datetime.specs.Moment.{year_and_rest, month_and_rest, date_of}
+use Rattle.bson_datetime.specs.Moment.{year_and_rest, month_and_rest, civil_date}
 
 -- the days of the year that begins so many years after -10000
 abbrev pub year_len : ℕ → ℕ
@@ -44,7 +44,7 @@ year_goes_on more k n h =
     rw test
 
 -- a walk from the year k to the year y
-year_walk : (ahead more k y n r : ℕ) → y ≡ k + ahead → ahead ≤ more → days_of_years k + n ≡ days_of_years y + r
+year_walk : (lookahead more k y n r : ℕ) → y ≡ k + lookahead → lookahead ≤ more → days_of_years k + n ≡ days_of_years y + r
     → r < year_len y
     → year_and_rest more k n ≡ (y, r)
 year_walk zero more k y n r at h e s =
@@ -53,13 +53,13 @@ year_walk zero more k y n r at h e s =
     let s' = rw same at s in
     let rest : n ≡ r = omega arith in
     rw (rest, same) (year_stops more k r s')
-year_walk (suc ahead) zero k y n r at h e s = absurd (omega arith)
-year_walk (suc ahead) (suc more) k y n r at h e s =
-    let far = days_of_years-later k ahead y (omega arith) in
+year_walk (suc lookahead) zero k y n r at h e s = absurd (omega arith)
+year_walk (suc lookahead) (suc more) k y n r at h e s =
+    let far = days_of_years-later k lookahead y (omega arith) in
     let step = days_of_years-step k in
     let past : year_len k ≤ n = omega arith in
     year_goes_on more k n past
-    ∙ year_walk ahead more (suc k) y (n - year_len k) r (omega arith) (omega arith) (omega arith) s
+    ∙ year_walk lookahead more (suc k) y (n - year_len k) r (omega arith) (omega arith) (omega arith) s
 
 -- ---- months
 
@@ -82,7 +82,7 @@ month_goes_on y more m n h =
     rw test
 
 -- a walk from the month k + 1 to the month t + 1
-month_walk : (y : ℤ) (ahead more k t n r : ℕ) → t ≡ k + ahead → ahead ≤ more
+month_walk : (y : ℤ) (lookahead more k t n r : ℕ) → t ≡ k + lookahead → lookahead ≤ more
     → days_of_months y k + n ≡ days_of_months y t + r → r < days_in_month y (suc t)
     → month_and_rest y more (suc k) n ≡ (suc t, r)
 month_walk y zero more k t n r at h e s =
@@ -91,13 +91,13 @@ month_walk y zero more k t n r at h e s =
     let s' = rw same at s in
     let rest : n ≡ r = omega arith in
     rw (rest, same) (month_stops y more (suc k) r s')
-month_walk y (suc ahead) zero k t n r at h e s = absurd (omega arith)
-month_walk y (suc ahead) (suc more) k t n r at h e s =
+month_walk y (suc lookahead) zero k t n r at h e s = absurd (omega arith)
+month_walk y (suc lookahead) (suc more) k t n r at h e s =
     let far = days_of_months_mono y (suc k) t (omega arith) in
     let step = days_of_months-step y k in
     let past : days_in_month y (suc k) ≤ n = omega arith in
     month_goes_on y more (suc k) n past
-    ∙ month_walk y ahead more (suc k) t (n - days_in_month y (suc k)) r (omega arith) (omega arith) (omega arith) s
+    ∙ month_walk y lookahead more (suc k) t (n - days_in_month y (suc k)) r (omega arith) (omega arith) (omega arith) s
 
 -- ---- the date
 
@@ -122,8 +122,8 @@ size_of (negsuc n) h = absurd (omega (arith, signed_arith))
 -- the function gives the date that has the day number
 date_found : (d : Date) (k count : ℕ) → d.year +ℤ pos 10000 ≡ pos k
     → unsigned_abs (epoch_day d +ℤ pos 4_371_953) ≡ count → count ≡ day_count d.year d.month d.day
-    → date_of (epoch_day d) ≡ record { year = d.year; month = d.month; day = d.day }
-unfolding date_of
+    → civil_date (epoch_day d) ≡ record { year = d.year; month = d.month; day = d.day }
+unfolding civil_date
 date_found d k count since is e =
     let bound : k ≤ 20000 = omega (arith, signed_arith, d.year_in, since) in
     let year : pos k -ℤ pos 10000 ≡ d.year = omega (arith, signed_arith, since) in
@@ -144,7 +144,7 @@ date_found d k count since is e =
     let day : d.day - 1 + 1 ≡ d.day = omega (arith, d.day_in) in
     rw (is, y, year, m, month, day) refl
 
-pub date_of-date : (d : Date) → date_of (epoch_day d) ≡ record { year = d.year; month = d.month; day = d.day }
+pub date_of-date : (d : Date) → civil_date (epoch_day d) ≡ record { year = d.year; month = d.month; day = d.day }
 date_of-date d =
     let low : pos 0 ≤ℤ (d.year +ℤ pos 10000) = omega (arith, signed_arith, d.year_in) in
     let positive : pos 0 ≤ℤ (epoch_day d +ℤ pos 4_371_953) =

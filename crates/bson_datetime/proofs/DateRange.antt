@@ -12,7 +12,7 @@ use Rattle.jiff_core.proofs.DateLemmas.{epoch_day_range}
 use Rattle.jiff_fmt.specs.Reader.{fraction_value}
 use Rattle.jiff_fmt.proofs.ReaderLemmas.{tenth, ten_pow-pos}
 use Rattle.bson_datetime.specs.Rfc3339.{nanos_of}
-use Rattle.bson_datetime.specs.Grammar.{Names, Offset, zulu, ahead, behind, IsOffset, offset_seconds}
+use Rattle.bson_datetime.specs.Grammar.{Names, Offset, zulu, lookahead, behind, IsOffset, offset_seconds}
 
 day_range : (y m d : ℕ) → IsCivilDate (pos y) m d → IsEpochDay (days_from_civil (pos y) m d)
 day_range y m d is =
@@ -21,7 +21,7 @@ day_range y m d is =
 
 offset_range : (o : Offset) → IsOffset o → IsWithin 86_399 (offset_seconds o)
 offset_range (zulu c) h = omega (arith, signed_arith)
-offset_range (ahead h m) is = let a : h < 24 = is.0 in let b : m < 60 = is.1 in omega (arith, signed_arith)
+offset_range (lookahead h m) is = let a : h < 24 = is.0 in let b : m < 60 = is.1 in omega (arith, signed_arith)
 offset_range (behind h m) is = let a : h < 24 = is.0 in let b : m < 60 = is.1 in omega (arith, signed_arith)
 
 fits : (day o : ℤ) (s n : ℕ) → IsEpochDay day → s < 86_400 → n < 1_000_000_000 → IsWithin 86_399 o

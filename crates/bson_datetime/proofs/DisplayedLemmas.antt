@@ -9,7 +9,7 @@ use Rattle.jiff.proofs.Family.{civil_nanos-parts, time_nanos_bound, civil_nanos_
 use Rattle.jiff.proofs.SpanFacts.{signed_arith}
 use Rattle.bson_datetime.specs.JiffSteps.{IsJiffMoment, fields_of}
 use Rattle.bson_datetime.specs.Moment.{Civil, IsCivil, IsMoment, IsCivilMillis, civil_of, day_of, time_of}
-use Rattle.bson_datetime.specs.Displayed.{display_text, is_civil_millis, civil_text, rfc, rfc_text}
+use Rattle.bson_datetime.specs.Displayed.{date_time_text, is_civil_millis, civil_text, rfc, rfc_text}
 use Rattle.bson_datetime.proofs.CivilLemmas.{date_of-date, size_of}
 use Rattle.bson_datetime.proofs.MomentExists.{moment_at}
 
@@ -34,8 +34,8 @@ in_range ms h = grind (arith, ints)
 out_of_range : (ms : ℤ) → ¬ (IsCivilMillis ms) → is_civil_millis ms ≡ false
 out_of_range ms h = grind (arith, ints)
 
-pub display_text-outside : (ms : ℤ) → ¬ (IsCivilMillis ms) → display_text ms ≡ signed_decimal ms
-unfolding display_text
+pub display_text-outside : (ms : ℤ) → ¬ (IsCivilMillis ms) → date_time_text ms ≡ signed_decimal ms
+unfolding date_time_text
 display_text-outside ms h = rw (out_of_range ms h)
 
 moment-range : (ms : ℤ) (at : DateTime) → IsJiffMoment ms at → IsCivilMillis ms
@@ -68,8 +68,8 @@ civil_of-jiff ms at is =
       milli_is at.time,
     ) refl
 
-pub display_text-moment : (ms : ℤ) (at : DateTime) → IsJiffMoment ms at → display_text ms ≡ civil_text (fields_of at)
-unfolding display_text
+pub display_text-moment : (ms : ℤ) (at : DateTime) → IsJiffMoment ms at → date_time_text ms ≡ civil_text (fields_of at)
+unfolding date_time_text
 display_text-moment ms at is = rw (in_range ms (moment-range ms at is), civil_of-jiff ms at is) refl
 
 -- jiff's date and time has the fields of the moment

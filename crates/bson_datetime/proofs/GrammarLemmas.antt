@@ -13,9 +13,9 @@ use Rattle.std.specs.List.{All, prefix_len}
 use Rattle.jiff.specs.Words.{days_in_month}
 use Rattle.jiff.proofs.SpanFacts.{signed_arith}
 use Rattle.jiff_core.specs.Calendar.{IsCivilDate, days_from_civil}
-use Rattle.bson_datetime.specs.Grammar.{Offset, zulu, ahead, behind, offset_text, fraction_text, IsOffset}
+use Rattle.bson_datetime.specs.Grammar.{Offset, zulu, lookahead, behind, offset_text, fraction_text, IsOffset}
 use Rattle.bson_datetime.specs.Grammar.{offset_seconds, Names}
-use Rattle.bson_datetime.specs.Rfc3339.{two_digits, four_digits, digits_below, after, after_letter, day_number}
+use Rattle.bson_datetime.specs.Rfc3339.{two_digits, four_digits, digits_below, after_byte, after_letter, day_number}
 use Rattle.bson_datetime.specs.Rfc3339.{date_part, time_part, fraction_part, fraction_value, hours_minutes, offset_part}
 use Rattle.bson_datetime.specs.Rfc3339.{named_moment}
 use Rattle.bson_datetime.specs.Displayed.{two_digit_text}
@@ -59,9 +59,9 @@ date_part-read : (s : List ℕ) (r : ℤ × List ℕ) → date_part s ≡ Some r
 unfolding date_part
 date_part-read s r h =
     let y = un_then (four_digits s) _ r h in
-    let a = un_then (after 45 y.0.1) _ r y.2 in
+    let a = un_then (after_byte 45 y.0.1) _ r y.2 in
     let m = un_then (two_digits a.0) _ r a.2 in
-    let b = un_then (after 45 m.0.1) _ r m.2 in
+    let b = un_then (after_byte 45 m.0.1) _ r m.2 in
     let d = un_then (two_digits b.0) _ r b.2 in
     let n = un_then (day_number y.0.0 m.0.0 d.0.0) _ r d.2 in
     let same = un_some _ _ n.2 in
@@ -96,9 +96,9 @@ time_part-read : (s : List ℕ) (r : ℕ × List ℕ) → time_part s ≡ Some r
 unfolding time_part
 time_part-read s r h =
     let x = un_then (digits_below 24 s) _ r h in
-    let a = un_then (after 58 x.0.1) _ r x.2 in
+    let a = un_then (after_byte 58 x.0.1) _ r x.2 in
     let y = un_then (digits_below 60 a.0) _ r a.2 in
-    let b = un_then (after 58 y.0.1) _ r y.2 in
+    let b = un_then (after_byte 58 y.0.1) _ r y.2 in
     let z = un_then (digits_below 60 b.0) _ r b.2 in
     let same = un_some _ _ z.2 in
     let hour = digits_below-read 24 s x.0 x.1 in
@@ -186,7 +186,7 @@ hours_minutes-read : (s : List ℕ) (r : ℕ × List ℕ) → hours_minutes s �
 unfolding hours_minutes
 hours_minutes-read s r h =
     let x = un_then (digits_below 24 s) _ r h in
-    let a = un_then (after 58 x.0.1) _ r x.2 in
+    let a = un_then (after_byte 58 x.0.1) _ r x.2 in
     let y = un_then (digits_below 60 a.0) _ r a.2 in
     let same = un_some _ _ y.2 in
     let hour = digits_below-read 24 s x.0 x.1 in
@@ -240,14 +240,14 @@ offset-behind c s r true e h =
     rw sign (signed-read 45 behind (λ k. neg_ℤ (pos k)) (λ h m p q. (p, q)) (λ h m. refl) (λ h m t. refl) s r h)
 offset-behind c s r false e h = cc
 
-offset-ahead : (c : ℕ) (s : List ℕ) (r : ℤ × List ℕ) (t : Bool) → (c == 43) ≡ t
+offset-lookahead : (c : ℕ) (s : List ℕ) (r : ℤ × List ℕ) (t : Bool) → (c == 43) ≡ t
     → (if t then option_map (counted pos) (hours_minutes s)
     else if c == 45 then option_map (counted (λ k. neg_ℤ (pos k))) (hours_minutes s) else None) ≡ Some r
     → OffsetRead (c ∷ s) r.0 r.1
-offset-ahead c s r true e h =
+offset-lookahead c s r true e h =
     let sign : c ≡ 43 = grind (arith, nat_tests, e) in
-    rw sign (signed-read 43 ahead pos (λ h m p q. (p, q)) (λ h m. refl) (λ h m t. refl) s r h)
-offset-ahead c s r false e h = offset-behind c s r (c == 45) refl h
+    rw sign (signed-read 43 lookahead pos (λ h m p q. (p, q)) (λ h m. refl) (λ h m t. refl) s r h)
+offset-lookahead c s r false e h = offset-behind c s r (c == 45) refl h
 
 offset-zulu : (c : ℕ) (s : List ℕ) (r : ℤ × List ℕ) (t : Bool) → ((c == 90) || (c == 122)) ≡ t
     → (if t then found (pos 0) s else if c == 43 then option_map (counted pos) (hours_minutes s)
@@ -256,7 +256,7 @@ offset-zulu : (c : ℕ) (s : List ℕ) (r : ℤ × List ℕ) (t : Bool) → ((c 
 offset-zulu c s r true e h =
     let same = un_some _ _ h in
     record { offset = zulu c; is = letter_of 90 c e; value = ap (λ q. q.0) same; text = ap (λ q. c ∷ q.1) same }
-offset-zulu c s r false e h = offset-ahead c s r (c == 43) refl h
+offset-zulu c s r false e h = offset-lookahead c s r (c == 43) refl h
 
 offset_part-read : (s : List ℕ) (r : ℤ × List ℕ) → offset_part s ≡ Some r → OffsetRead s r.0 r.1
 unfolding offset_part

@@ -6,9 +6,9 @@ use Rattle.std.specs.Char.{IsAsciiDigit, is_ascii_digit}
 use Rattle.std.specs.List.{All, prefix_len}
 use Rattle.jiff.specs.Types.{Date, Time}
 use Rattle.jiff_core.specs.Calendar.{IsCivilDate, days_from_civil}
-use Rattle.bson_datetime.specs.Grammar.{Offset, zulu, ahead, behind, offset_text, fraction_text, IsLetter, IsOffset}
+use Rattle.bson_datetime.specs.Grammar.{Offset, zulu, lookahead, behind, offset_text, fraction_text, IsLetter, IsOffset}
 use Rattle.bson_datetime.specs.Grammar.{offset_seconds, Names}
-use Rattle.bson_datetime.specs.Rfc3339.{after, after_letter, date_part, time_part, fraction_part, fraction_value}
+use Rattle.bson_datetime.specs.Rfc3339.{after_byte, after_letter, date_part, time_part, fraction_part, fraction_value}
 use Rattle.bson_datetime.specs.Rfc3339.{hours_minutes, offset_part, named_moment}
 use Rattle.bson_datetime.specs.Displayed.{two_digit_text}
 use Rattle.bson_datetime.proofs.ReaderLemmas.{fraction_value-nil}
@@ -81,10 +81,10 @@ fraction-parts [] c rest are none point = rw point (ap (λ n. Some (n, c ∷ res
 fraction-parts (d ∷ ds) c rest are none point = fraction-some (d ∷ ds) c rest (omega arith) are none
 
 offset-parts : (o : Offset) → IsOffset o → offset_part (offset_text o) ≡ Some (offset_seconds o, [])
-unfolding offset_part hours_minutes after
+unfolding offset_part hours_minutes after_byte
 offset-parts (zulu c) (inl e) = rw e refl
 offset-parts (zulu c) (inr e) = rw e refl
-offset-parts (ahead h m) is =
+offset-parts (lookahead h m) is =
     rw (digits_below-pad2 24 h (58 ∷ two_digit_text m) is.0 (omega arith), digits_below-pad2 60 m [] is.1 (omega arith))
     refl
 offset-parts (behind h m) is =
@@ -96,7 +96,7 @@ fraction-offset : (ds : List ℕ) (o : Offset) → All IsAsciiDigit ds → IsOff
     → fraction_part (fraction_text ds ++ offset_text o) ≡ Some (fraction_value 9 ds, offset_text o)
 fraction-offset ds (zulu c) are (inl e) = rw e (fraction-parts ds 90 [] are refl refl)
 fraction-offset ds (zulu c) are (inr e) = rw e (fraction-parts ds 122 [] are refl refl)
-fraction-offset ds (ahead h m) are is = fraction-parts ds 43 (two_digit_text h ++ 58 ∷ two_digit_text m) are refl refl
+fraction-offset ds (lookahead h m) are is = fraction-parts ds 43 (two_digit_text h ++ 58 ∷ two_digit_text m) are refl refl
 fraction-offset ds (behind h m) are is = fraction-parts ds 45 (two_digit_text h ++ 58 ∷ two_digit_text m) are refl refl
 
 names-named_moment : (text : List ℕ) (ms : ℤ) → Names text ms → named_moment text ≡ Some ms

@@ -6,7 +6,7 @@ use Rattle.std.proofs.lemmas.Bool.{and_parts}
 use Rattle.std.proofs.lemmas.Bool.Decides.{nat_tests}
 use Rattle.std.specs.Char.{IsAsciiDigit, is_ascii_digit}
 use Rattle.bson_datetime.specs.Grammar.{IsLetter}
-use Rattle.bson_datetime.specs.Rfc3339.{Read, ◌>>=◌, two_digits, four_digits, digits_below, after, after_letter}
+use Rattle.bson_datetime.specs.Rfc3339.{Read, ◌>>=◌, two_digits, four_digits, digits_below, after_byte, after_letter}
 use Rattle.bson_datetime.specs.Displayed.{two_digit_text}
 
 -- a value read from the front of a text, and the text after it
@@ -103,8 +103,8 @@ after-test byte c s rest true e h =
     rw same (ap (λ q. byte ∷ q) (un_some s rest h))
 after-test byte c s rest false e h = cc
 
-pub after-read : (byte : ℕ) (s rest : List ℕ) → after byte s ≡ Some rest → s ≡ byte ∷ rest
-unfolding after
+pub after-read : (byte : ℕ) (s rest : List ℕ) → after_byte byte s ≡ Some rest → s ≡ byte ∷ rest
+unfolding after_byte
 after-read byte [] rest h = cc
 after-read byte (c ∷ s) rest h = after-test byte c s rest (c == byte) refl h
 

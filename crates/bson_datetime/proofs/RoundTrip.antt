@@ -18,7 +18,7 @@ use Rattle.jiff_fmt.proofs.TextLemmas.{places-read, trailing_zeros-le, trailing_
 use Rattle.jiff_core.specs.Time.{time_seconds}
 use Rattle.jiff_core.proofs.CalendarLemmas.{days_in_month_bounds}
 use Rattle.bson_datetime.specs.JiffSteps.{IsJiffMoment}
-use Rattle.bson_datetime.specs.Rfc3339.{two_digits, four_digits, digits_below, after, after_letter, day_number}
+use Rattle.bson_datetime.specs.Rfc3339.{two_digits, four_digits, digits_below, after_byte, after_letter, day_number}
 use Rattle.bson_datetime.specs.Rfc3339.{date_part, time_part, fraction_part, offset_part, named_moment, nanos_of}
 use Rattle.bson_datetime.specs.Moment.{IsRfcMillis}
 use Rattle.bson_datetime.specs.Displayed.{rfc}
@@ -62,7 +62,7 @@ day_number-date date y year =
 -- a date of a year from 0000 to 9999, and then rest
 pub date_part-text : (date : Date) (y : ℕ) (rest : List ℕ) → date.year ≡ pos y → y < 10_000
     → date_part (pad4 y ++ 45 ∷ pad2 date.month ++ 45 ∷ pad2 date.day ++ rest) ≡ Some (epoch_day date, rest)
-unfolding date_part after
+unfolding date_part after_byte
 date_part-text date y rest year small =
     let month : date.month < 100 = omega (arith, date.month_in) in
     let day : date.day < 100 = omega (arith, date.day_in, days_in_month_bounds date.year date.month) in
@@ -76,7 +76,7 @@ date_part-text date y rest year small =
 -- a time, and then rest
 pub time_part-text : (t : Time) (rest : List ℕ)
     → time_part (pad2 t.hour ++ 58 ∷ pad2 t.minute ++ 58 ∷ pad2 t.second ++ rest) ≡ Some (time_seconds t, rest)
-unfolding time_part after
+unfolding time_part after_byte
 time_part-text t rest =
     rw (
       digits_below-pad2 24 t.hour (58 ∷ pad2 t.minute ++ 58 ∷ pad2 t.second ++ rest) (omega arith) (omega arith),

@@ -56,5 +56,5 @@ abbrev pub is_civil_millis : ℤ → Bool
 is_civil_millis ms = int_le (neg_ℤ (pos 377_705_116_800_000)) ms && int_le ms (pos 253_402_300_799_999)
 
 -- the text of the date and time in the years -9999 to 9999, else the milliseconds as a decimal number
-unfoldable pub display_text : ℤ → List ℕ
-display_text ms = if is_civil_millis ms then civil_text (civil_of ms) else signed_decimal ms
+unfoldable pub date_time_text : ℤ → List ℕ
+date_time_text ms = if is_civil_millis ms then civil_text (civil_of ms) else signed_decimal ms

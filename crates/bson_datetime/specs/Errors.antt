@@ -23,8 +23,8 @@ abbrev pub IsOutOfMemory : Error → Type 0
 IsOutOfMemory OutOfMemory = Unit {0}
 IsOutOfMemory _ = ⊥
 
-abbrev pub words : Message → List ℕ
-words NotRfc3339 = codes "the text is not a date and time of RFC 3339"
-words NoSuchDay = codes "the calendar has no such day"
-words NoSuchTime = codes "a day has no such time"
-words YearOutOfRange = codes "the year is outside 0000 to 9999"
+abbrev pub message_bytes : Message → List ℕ
+message_bytes NotRfc3339 = codes "the text is not a date and time of RFC 3339"
+message_bytes NoSuchDay = codes "the calendar has no such day"
+message_bytes NoSuchTime = codes "a day has no such time"
+message_bytes YearOutOfRange = codes "the year is outside 0000 to 9999"

@@ -10,7 +10,7 @@ use Rattle.bson_datetime.specs.Displayed.{two_digit_text}
 -- how a text ends: with a `Z` of either case, or with how far its clock is ahead of or behind UTC, in hours and minutes
 pub data Offset : Type 0 where
   zulu : ℕ → Offset
-  ahead : ℕ → ℕ → Offset
+  lookahead : ℕ → ℕ → Offset
   behind : ℕ → ℕ → Offset
 
 -- the parts of a text; the separator is the `T`, and the fraction is its digits, none where there is no point
@@ -28,7 +28,7 @@ pub record Parts : Type 0 where
 -- `Z`, or a sign, hours and minutes
 abbrev pub offset_text : Offset → List ℕ
 offset_text (zulu c) = c ∷ []
-offset_text (ahead h m) = codes "+" ++ two_digit_text h ++ codes ":" ++ two_digit_text m
+offset_text (lookahead h m) = codes "+" ++ two_digit_text h ++ codes ":" ++ two_digit_text m
 offset_text (behind h m) = codes "-" ++ two_digit_text h ++ codes ":" ++ two_digit_text m
 
 -- a point and the fraction, where there is one
@@ -37,8 +37,8 @@ fraction_text [] = []
 fraction_text (d ∷ ds) = codes "." ++ d ∷ ds
 
 -- `YYYY-MM-DDThh:mm:ss`, the fraction and the offset
-abbrev pub text_of : Parts → List ℕ
-text_of p =
+abbrev pub parts_text : Parts → List ℕ
+parts_text p =
     two_digit_text (p.year / 100) ++ two_digit_text (p.year % 100) ++ codes "-" ++ two_digit_text p.month ++ codes "-"
     ++ two_digit_text p.day ++ p.separator ∷ two_digit_text p.hour
     ++ codes ":" ++ two_digit_text p.minute ++ codes ":" ++ two_digit_text p.second ++ fraction_text p.fraction
@@ -51,7 +51,7 @@ IsLetter upper c = (c ≡ upper) ⊎ (c ≡ upper + 32)
 -- hours to 23 and minutes to 59, either way
 abbrev pub IsOffset : Offset → Type 0
 IsOffset (zulu c) = IsLetter 90 c
-IsOffset (ahead h m) = (h < 24) × (m < 60)
+IsOffset (lookahead h m) = (h < 24) × (m < 60)
 IsOffset (behind h m) = (h < 24) × (m < 60)
 
 -- the ranges of section 5.7, but for the second 60, which is refused
@@ -68,7 +68,7 @@ pub record IsInRanges (p : Parts) : Type 0 where
 -- how many seconds the clock is ahead of UTC
 abbrev pub offset_seconds : Offset → ℤ
 offset_seconds (zulu c) = pos 0
-offset_seconds (ahead h m) = pos (h * 3600 + m * 60)
+offset_seconds (lookahead h m) = pos (h * 3600 + m * 60)
 offset_seconds (behind h m) = neg_ℤ (pos (h * 3600 + m * 60))
 
 -- the nanoseconds since 1970-01-01T00:00:00Z that the parts name; of the fraction nine digits count
@@ -81,5 +81,5 @@ nanos_named p =
 pub record Names (text : List ℕ) (ms : ℤ) : Type 0 where
   pub parts : Parts
   pub in_ranges : IsInRanges parts
-  pub written : text ≡ text_of parts
+  pub written : text ≡ parts_text parts
   pub moment : ms ≡ int_div (nanos_named parts) (pos 1_000_000)

@@ -210,9 +210,9 @@ const NOT_RFC3339: Error = Error::InvalidTimestamp {
 /// decimal number.
 impl fmt::Display for DateTime {
     ghost use Rattle.std.specs.Prelude.{Some};
-    ghost use Rattle.bson_datetime.specs.Displayed.{display_text};
+    ghost use Rattle.bson_datetime.specs.Displayed.{date_time_text};
 
-    ghost output = { λ ms. Some (display_text ms) };
+    ghost output = { λ ms. Some (date_time_text ms) };
 
     fn fmt<W: fmt::Write>(&self, f: &mut fmt::Formatter<W>) -> fmt::Result {
         let Some(at) = self.civil() else {

@@ -43,9 +43,9 @@ fn digits_below(s: &[u8], bound: u8) -> Option<(u8, &[u8])>
     Some((n, s))
 }
 
-#[tactic(auto, unfolding(crate::specs::Rfc3339::after))]
+#[tactic(auto, unfolding(crate::specs::Rfc3339::after_byte))]
 fn after(s: &[u8], byte: u8) -> Option<&[u8]>
-    ensures { spec.rest_view result ≡ spec.after byte s.now }
+    ensures { spec.rest_view result ≡ spec.after_byte byte s.now }
 {
     match s {
         [first, rest @ ..] if *first == byte => Some(rest),

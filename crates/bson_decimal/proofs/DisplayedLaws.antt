@@ -24,7 +24,7 @@ use Rattle.bson_decimal.specs.declared.bits.Decoded.TheVariants.{Nan, Infinity, 
 use Rattle.bson_decimal.specs.Exponents.{exponent_at}
 use Rattle.bson_decimal.specs.Pattern.{number_meaning, bytes_meaning, first_form, sign_weight, normal_decimal}
 use Rattle.bson_decimal.specs.Pattern.{normal_number}
-use Rattle.bson_decimal.specs.Displayed.{meaning_text, display_text, finite_text, plain_text, scientific_text}
+use Rattle.bson_decimal.specs.Displayed.{meaning_text, decimal128_text, finite_text, plain_text, scientific_text}
 use Rattle.bson_decimal.specs.Displayed.{scientific_exponent, power_text}
 use Rattle.bson_decimal.specs.Numeral.{Sign, none, plus, minus, sign_bytes, is_minus, Exponent, unwritten, written}
 use Rattle.bson_decimal.specs.Numeral.{exponent_bytes, fraction_bytes, fraction_digits, IsExponent, Numeral, is_zero}
@@ -329,8 +329,8 @@ meaning_text-parses (Finite s c e) h =
     from-prints s c e (finite_text (decimal c) (exponent_at e)) h.0 h.1 (finite-prints c e h.0 h.1)
 
 -- a printed text parses to the canonical pattern
-pub display_text-parses : (b : List ℕ) → Parses (display_text b) (normal_decimal b)
-unfolding display_text normal_decimal
+pub display_text-parses : (b : List ℕ) → Parses (decimal128_text b) (normal_decimal b)
+unfolding decimal128_text normal_decimal
 display_text-parses b = meaning_text-parses (bytes_meaning b) (number_meaning-within (from_le_bytes w128 b))
 
 -- a text parses to one pattern
@@ -360,8 +360,8 @@ meaning_text-canon (Infinity true) h = refl
 meaning_text-canon (Infinity false) h = refl
 meaning_text-canon (Finite s c e) h = ap meaning_text (number_meaning-first_form s c e h.0 h.1)
 
-pub display_text-canon : (b : List ℕ) → display_text (normal_decimal b) ≡ display_text b
-unfolding display_text normal_decimal
+pub display_text-canon : (b : List ℕ) → decimal128_text (normal_decimal b) ≡ decimal128_text b
+unfolding decimal128_text normal_decimal
 display_text-canon b =
     let h = number_meaning-within (from_le_bytes w128 b) in
     ap (λ n. meaning_text (number_meaning n))
@@ -369,15 +369,15 @@ display_text-canon b =
     ∙ meaning_text-canon (bytes_meaning b) h
 
 -- two patterns print alike exactly if their canonical patterns are one
-pub display_text-same : (a b : List ℕ) → (display_text a ≡ display_text b) ↔ (normal_decimal a ≡ normal_decimal b)
+pub display_text-same : (a b : List ℕ) → (decimal128_text a ≡ decimal128_text b) ↔ (normal_decimal a ≡ normal_decimal b)
 display_text-same a b = (
-  λ e. parses-one (display_text b) (normal_decimal a) (normal_decimal b) (rw e at (display_text-parses a))
+  λ e. parses-one (decimal128_text b) (normal_decimal a) (normal_decimal b) (rw e at (display_text-parses a))
       (display_text-parses b),
-  λ e. sym (display_text-canon a) ∙ ap display_text e ∙ display_text-canon b,
+  λ e. sym (display_text-canon a) ∙ ap decimal128_text e ∙ display_text-canon b,
 )
 
 -- so a printed text is answered by its canonical pattern
 pub reads-display_text : (text : List ℕ) (r : Result (List ℕ) ParseError) → ParsesTo text r → (b : List ℕ)
-    → text ≡ display_text b → IsOkAnd r (λ d. d ≡ normal_decimal b)
+    → text ≡ decimal128_text b → IsOkAnd r (λ d. d ≡ normal_decimal b)
 reads-display_text text (Ok d) h b e = sym (h.1 (normal_decimal b) (rw e (display_text-parses b)))
 reads-display_text text (Err k) h b e = absurd (h.0 (normal_decimal b) (rw e (display_text-parses b)))

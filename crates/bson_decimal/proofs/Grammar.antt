@@ -19,7 +19,7 @@ use Rattle.bson_decimal.specs.Numeral.{Sign, none, plus, minus, sign_bytes, is_m
 use Rattle.bson_decimal.specs.Numeral.{exponent_bytes, fraction_bytes, fraction_digits, IsExponent}
 use Rattle.bson_decimal.proofs.Shifted.{written_up, written_down}
 use Rattle.bson_decimal.specs.Steps.{is_mark, is_point, has, is_exponent, written_place, exponent_value}
-use Rattle.bson_decimal.specs.Steps.{written_exponent, scaled_exponent, stored_pair, finite, bind}
+use Rattle.bson_decimal.specs.Steps.{written_exponent_place, scaled_exponent, stored_pair, finite, bind}
 use Rattle.bson_decimal.proofs.StepLaws.{if-cases, not-true, not-false}
 use Rattle.bson_decimal.proofs.Zeros.{AllDigits-parts}
 use Rattle.bson_decimal.proofs.DigitTests.{AllDigits-from_test, test-from_AllDigits}
@@ -108,8 +108,8 @@ mark-cases b e = elim (or_cases (eqb b 101) (eqb b 69) e) [
   | inr t ↦ inr (eqb-true b 69 t)
 ]
 
-pub reads-exponent : (rest : List ℕ) → MatchResult (written_exponent rest) (ReadsExponent rest) (λ _. ⊤)
-unfolding written_exponent exponent_value
+pub reads-exponent : (rest : List ℕ) → MatchResult (written_exponent_place rest) (ReadsExponent rest) (λ _. ⊤)
+unfolding written_exponent_place exponent_value
 reads-exponent rest =
     let tail = after_first is_mark rest in
     let place = position_or_len is_mark rest in
@@ -243,8 +243,8 @@ written_from tail marked =
 
 written-is : (cs : List ℕ) (ex : Exponent) (w : ℕ) → Fails is_mark cs → IsExponent ex → written_up ex ≤ 32767
     → written_down ex ≤ 32768 → w + written_down ex ≡ 32768 + written_up ex
-    → written_exponent (cs ++ exponent_bytes ex) ≡ Ok w
-unfolding written_exponent written_from
+    → written_exponent_place (cs ++ exponent_bytes ex) ≡ Ok w
+unfolding written_exponent_place written_from
 written-is cs unwritten w h ok high low at =
     let none : ltb (position_or_len is_mark cs) (length cs) ≡ false =
     rw (first-none is_mark cs h) (grind (arith, nat_tests)) in
@@ -258,7 +258,7 @@ written-is cs (written m s ds) w h ok high low at =
     rw place (search (rules, tests, length-append cs (m ∷ (sign_bytes s ++ ds)))) in
     let some : eqb (length (sign_bytes s ++ ds)) 0 ≡ false =
     grind (arith, nat_tests, length-append (sign_bytes s) ds, ok.1) in
-    let first : written_exponent rest ≡ written_from (after_first is_mark rest) (has is_mark rest) = refl in
+    let first : written_exponent_place rest ≡ written_from (after_first is_mark rest) (has is_mark rest) = refl in
     first ∙ ap (λ t. written_from t (has is_mark rest)) tail ∙ ap (λ b. written_from (sign_bytes s ++ ds) b) marked
     ∙ rw (some, exponent-is s ds w ok.1 ok.2 high low at) refl
 
@@ -289,7 +289,7 @@ module _ (whole : List ℕ) (f : Option (List ℕ)) (ex : Exponent) (digits : Al
       let parts = AllDigits-parts whole (fraction_digits f) digits in
       let point = ap (after_first is_point) before-is ∙ after-point whole f parts.0 in
       let front = ap (before_first is_point) before-is ∙ before-point whole f parts.0 in
-      let first : finite rest ≡ finite_from (written_exponent rest) (after_first is_point (before_first is_mark rest))
+      let first : finite rest ≡ finite_from (written_exponent_place rest) (after_first is_point (before_first is_mark rest))
       (before_first is_point (before_first is_mark rest)) = refl in
       let a : ltb 32767 (length (fraction_digits f)) ≡ false = grind (arith, nat_tests) in
       let b : ltb w (length (fraction_digits f)) ≡ false = grind (arith, nat_tests) in

@@ -13,7 +13,7 @@ use Rattle.bson_decimal.specs.declared.bits.Decoded.{Decoded}
 use Rattle.bson_decimal.specs.declared.bits.Decoded.TheVariants.{Nan, Infinity, Finite}
 use Rattle.bson_decimal.specs.Exponents.{exponent_at}
 use Rattle.bson_decimal.specs.Pattern.{bytes_meaning}
-use Rattle.bson_decimal.specs.Displayed.{meaning_text, display_text, finite_text, plain_text, scientific_text}
+use Rattle.bson_decimal.specs.Displayed.{meaning_text, decimal128_text, finite_text, plain_text, scientific_text}
 use Rattle.bson_decimal.specs.Displayed.{scientific_exponent, power_text}
 use Rattle.bson_decimal.proofs.PatternLaws.{IsDecoded, number_meaning-within}
 use Rattle.bson_decimal.proofs.DisplayedLaws.{at-most-zero, at-least-six, places, first-digit}
@@ -98,6 +98,6 @@ meaning_text-length (Finite s c e) h =
     signed-length s (finite_text (decimal c) (exponent_at e)) (finite_text-length c e h.0 h.1)
 
 -- the text of a decimal has at most 42 bytes
-pub display_text-length : (b : List ℕ) → length (display_text b) ≤ 42
-unfolding display_text
+pub display_text-length : (b : List ℕ) → length (decimal128_text b) ≤ 42
+unfolding decimal128_text
 display_text-length b = meaning_text-length (bytes_meaning b) (number_meaning-within (from_le_bytes w128 b))

@@ -42,5 +42,5 @@ meaning_text (Infinity negative) = sign_text negative ++ codes "Infinity"
 meaning_text (Finite negative c stored) = sign_text negative ++ finite_text (decimal c) (exponent_at stored)
 
 -- the text of 16 bytes
-unfoldable pub display_text : List ℕ → List ℕ
-display_text b = meaning_text (bytes_meaning b)
+unfoldable pub decimal128_text : List ℕ → List ℕ
+decimal128_text b = meaning_text (bytes_meaning b)

@@ -37,10 +37,10 @@ abbrev pub bytes_meaning : List ℕ → Decoded
 bytes_meaning b = number_meaning (from_le_bytes w128 b)
 
 -- a NaN, of either sign, quiet or signalling
-abbrev pub is_nan : Decoded → Bool
-is_nan (Nan negative signalling) = true
-is_nan (Infinity negative) = false
-is_nan (Finite negative c stored) = false
+abbrev pub is_decimal_nan : Decoded → Bool
+is_decimal_nan (Nan negative signalling) = true
+is_decimal_nan (Infinity negative) = false
+is_decimal_nan (Finite negative c stored) = false
 
 abbrev pub sign_weight : Bool → ℕ
 sign_weight negative = if negative then 2 ^ 127 else 0

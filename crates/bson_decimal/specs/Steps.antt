@@ -91,8 +91,8 @@ unfoldable pub exponent_value : List ℕ → Option ℕ
 exponent_value bs = if is_exponent bs then Some (written_place bs) else None
 
 -- the place of the exponent that is written, or of 0
-unfoldable pub written_exponent : List ℕ → Result ℕ ParseError
-written_exponent rest =
+unfoldable pub written_exponent_place : List ℕ → Result ℕ ParseError
+written_exponent_place rest =
     if not (has is_mark rest) then Ok zero_place
     else (if length (after_first is_mark rest) == 0 then Err EmptyExponent
     else ok_or (exponent_value (after_first is_mark rest)) InvalidExponent)
@@ -132,14 +132,14 @@ stored_pair bs x = do
 -- a finite text without its sign
 unfoldable pub finite : List ℕ → Result (ℕ × ℕ) ParseError
 finite rest = do
-  w ← written_exponent rest
+  w ← written_exponent_place rest
   x ← scaled_exponent w (after_first is_point (before_first is_mark rest))
   stored_pair (before_first is_point (before_first is_mark rest) ++ after_first is_point (before_first is_mark rest)) x
 
 -- the kind of fault of a text that denotes nothing
-abbrev pub fault_of : Result (ℕ × ℕ) ParseError → ParseError
-fault_of (Ok r) = InvalidCoefficient
-fault_of (Err k) = k
+abbrev pub parse_error_of : Result (ℕ × ℕ) ParseError → ParseError
+parse_error_of (Ok r) = InvalidCoefficient
+parse_error_of (Err k) = k
 
 unfoldable pub decimal_fault : List ℕ → ParseError
-decimal_fault text = fault_of (finite (without_leading_sign text))
+decimal_fault text = parse_error_of (finite (without_leading_sign text))

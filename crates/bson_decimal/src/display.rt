@@ -5,7 +5,7 @@ ghost use Rattle.std.specs.Prelude.{drop, replicate, Some, IsAscii};
 ghost use Rattle.std.specs.Fmt.{decimal, sign_text, WritesOnOk};
 ghost use Rattle.bson_decimal.specs.Exponents.{exponent_at};
 ghost use Rattle.bson_decimal.specs.Displayed.{plain_text, power_text, scientific_exponent};
-ghost use Rattle.bson_decimal.specs.Displayed.{scientific_text, finite_text, display_text};
+ghost use Rattle.bson_decimal.specs.Displayed.{scientific_text, finite_text, decimal128_text};
 
 use crate::Decimal128;
 use crate::bits::{Decoded, exponent_at};
@@ -137,9 +137,9 @@ fn write_signed<W: fmt::Write>(
 /// `1.05E+3`. Zeros at the end are kept. A NaN is `NaN`, whatever its sign, and an infinity
 /// `Infinity` or `-Infinity` (IEEE 754-2008, section 5.12).
 impl fmt::Display for Decimal128 {
-    ghost output = { λ d. Some (display_text d) };
+    ghost output = { λ d. Some (decimal128_text d) };
 
-    #[tactic(auto, unfolding(crate::specs::Displayed::display_text))]
+    #[tactic(auto, unfolding(crate::specs::Displayed::decimal128_text))]
     fn fmt<W: fmt::Write>(&self, f: &mut fmt::Formatter<W>) -> fmt::Result {
         match self.decode() {
             Decoded::Nan { .. } => f.write_str("NaN"),

@@ -5,11 +5,11 @@ ghost use Rattle.std.specs.Prelude.{slice_index, IfOk, IfSome, IsOkAnd, MatchOpt
 ghost use Rattle.std.specs.List.{position_or_len};
 ghost use Rattle.std.specs.Str.Parse.{starts_with_minus, without_leading_sign};
 ghost use Rattle.bson_decimal.specs.Pattern.{normal_decimal};
-ghost use Rattle.bson_decimal.specs.Displayed.{display_text};
+ghost use Rattle.bson_decimal.specs.Displayed.{decimal128_text};
 ghost use Rattle.bson_decimal.specs.Text.{SpecialWord};
 ghost use Rattle.bson_decimal.specs.Steps.{is_mark, is_point, is_inside, cut_at_34, raise_to_least};
 ghost use Rattle.bson_decimal.specs.Steps.{zeros_to_add, least_place, last_place, stored_pair};
-ghost use Rattle.bson_decimal.specs.Steps.{coefficient, written_exponent, scaled_exponent};
+ghost use Rattle.bson_decimal.specs.Steps.{coefficient, written_exponent_place, scaled_exponent};
 ghost use Rattle.bson_decimal.specs.Steps.{exponent_value, finite};
 ghost use Rattle.bson_decimal.specs.FromStr.{ParsesTo};
 
@@ -51,9 +51,9 @@ impl FromStr for Decimal128 {
 
         // Two laws: a printed text parses to the canonical pattern, and two patterns print alike
         // exactly if their canonical patterns are one.
-        ensures reads_displayed { (b : List ℕ) → text.now ≡ display_text b
+        ensures reads_displayed { (b : List ℕ) → text.now ≡ decimal128_text b
             → IsOkAnd result (λ d. d ≡ normal_decimal b) }
-        ensures prints_apart { (a b : List ℕ) → (display_text a ≡ display_text b)
+        ensures prints_apart { (a b : List ℕ) → (decimal128_text a ≡ decimal128_text b)
             ↔ (normal_decimal a ≡ normal_decimal b) }
     {
         let negative = is_negative(text);
@@ -167,9 +167,9 @@ fn point_at(text: &[u8]) -> usize
     find_point(text).unwrap_or(text.len())
 }
 
-#[tactic(auto, unfolding(crate::specs::Steps::written_exponent))]
+#[tactic(auto, unfolding(crate::specs::Steps::written_exponent_place))]
 fn written_exponent(rest: &str) -> Result<usize, ParseError>
-    ensures value { result ≡ written_exponent rest.now }
+    ensures value { result ≡ written_exponent_place rest.now }
     ensures within { IfOk result (λ x. x ≤ last_place) }
 {
     let at = mark_at(rest.as_bytes());

@@ -13,7 +13,7 @@ use Rattle.fast_float.proofs.DigitsLemmas.{digits_value-append}
 use Rattle.fast_float.proofs.Rows.{AllDigits-take, AllDigits-drop, AllDigits-append}
 use Rattle.ryu.specs.Plain.{IsPlain}
 use Rattle.ryu.proofs.Texts.{AllDigits-zeros, value_zeros}
-use Rattle.bson_double.specs.Text.{pointed, scientific, power_text, decimal_text}
+use Rattle.bson_double.specs.Text.{pointed, scientific, double_power_text, decimal_text}
 
 abbrev parts : List ℕ → Bool → List ℕ → Bool → List ℕ → Parts
 parts whole point fraction negative exponent =
@@ -167,7 +167,7 @@ with_exponent whole fraction exponent point negative d k w f x one more none som
 
 -- the power of ten of the first digit
 power_is : (place : ℕ) → place < 2 ^ 63
-    → (negative : Bool) × (x : ℕ) × (x < 2 ^ 64) × (power_text place ≡ exponent_text negative (decimal x))
+    → (negative : Bool) × (x : ℕ) × (x < 2 ^ 64) × (double_power_text place ≡ exponent_text negative (decimal x))
     × (((negative ≡ true) × (x + place ≡ 1101)) ⊎ ((negative ≡ false) × (x + 1101 ≡ place)))
 power_is place small =
     elim (cases_lt place 1101) [
@@ -194,7 +194,7 @@ power_is place small =
 
 scientific_at : (x : ℕ) (rest : List ℕ) (d k : ℕ) → IsDigits d (x ∷ rest) → length (x ∷ rest) + k < 2 ^ 63
     → (point : Bool) → (point ≡ true → 0 < length rest) → (point ≡ false → rest ≡ [])
-    → IsTextOf ((x ∷ []) ++ (cond point (46 ∷ rest) [] ++ power_text (length (x ∷ rest) + k))) d k
+    → IsTextOf ((x ∷ []) ++ (cond point (46 ∷ rest) [] ++ double_power_text (length (x ∷ rest) + k))) d k
 scientific_at x rest d k h small point more none =
     let place : ℕ = length (x ∷ rest) + k in
     let e = power_is place small in

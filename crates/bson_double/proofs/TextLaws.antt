@@ -22,7 +22,7 @@ use Rattle.fast_float.specs.Parse.{is_nan_text}
 use Rattle.ryu.specs.Plain.{IsPlainNumber}
 use Rattle.ryu.proofs.Signs.{parts, signed}
 use Rattle.bson_double.specs.Doubles.{is_finite, is_number, finite_of}
-use Rattle.bson_double.specs.Shortest.{IsRead, IsShortest}
+use Rattle.bson_double.specs.Shortest.{DecimalIsReadAs, IsShortest}
 use Rattle.bson_double.specs.Text.{IsDoubleText, IsUnsignedText, decimal_text}
 use Rattle.bson_double.proofs.Patterns.{not_nan, bits_of_finite}
 use Rattle.bson_double.proofs.Found.{IsPositive}
@@ -71,7 +71,7 @@ some_text p finite =
 -- ---- the text as parts
 
 text_parts : (p : ℕ) (s : List ℕ) → p < 2 ^ 63 → is_finite p ≡ true → IsUnsignedText p s
-    → (d : ℕ) × (k : ℕ) × IsTextOf s d k × IsRead p d k
+    → (d : ℕ) × (k : ℕ) × IsTextOf s d k × DecimalIsReadAs p d k
 text_parts p s small finite (inl z) = (
   0,
   0,
@@ -102,7 +102,7 @@ json_number p s finite (t, x, e) =
 
 -- ---- and it is read back
 
-worth_read : (q : Parts) (p d k : ℕ) → IsWorth q d k → IsRead p d k
+worth_read : (q : Parts) (p d k : ℕ) → IsWorth q d k → DecimalIsReadAs p d k
     → from_bits binary64 p ≡ round binary64 false (digits_of q * 10 ^ tens_up q) (10 ^ tens_down q)
 worth_read q p d k w r =
     sym r ∙ sym (round_same binary64 false (digits_of q * 10 ^ tens_up q) (10 ^ tens_down q) (d * 10 ^ k) (10 ^ 1100)

@@ -14,12 +14,12 @@ pointed s place =
     else take (place - 1100) s ++ (codes "." ++ drop (place - 1100) s)
 
 -- the point after the first digit if there are others, and the power of ten of that digit
-abbrev pub power_text : ℕ → List ℕ
-power_text place = if nat_lt place 1101 then codes "e-" ++ decimal (1101 - place) else codes "e" ++ decimal
+abbrev pub double_power_text : ℕ → List ℕ
+double_power_text place = if nat_lt place 1101 then codes "e-" ++ decimal (1101 - place) else codes "e" ++ decimal
     (place - 1101)
 
 abbrev pub scientific : List ℕ → ℕ → List ℕ
-scientific s place = take 1 s ++ ((if length s == 1 then [] else codes "." ++ drop 1 s) ++ power_text place)
+scientific s place = take 1 s ++ ((if length s == 1 then [] else codes "." ++ drop 1 s) ++ double_power_text place)
 
 -- a point where at most 16 digits stand before it, or at most 4 zeros between it and the first digit
 abbrev pub laid_out : List ℕ → ℕ → List ℕ

@@ -4,7 +4,7 @@ ghost use Rattle.std.specs.Prelude.{◌≡◌, ◌<◌, ◌^◌, ℕ, List, true
 ghost use Rattle.std.specs.Float.{binary64};
 ghost use Rattle.ryu.specs.Plain.{IsPlainNumber};
 ghost use Rattle.bson_double.specs.Doubles.{is_finite, finite_of};
-ghost use Rattle.bson_double.specs.Shortest.{IsRead, IsShortest};
+ghost use Rattle.bson_double.specs.Shortest.{DecimalIsReadAs, IsShortest};
 ghost use Rattle.bson_double.specs.Text.{IsDoubleText};
 
 /// Proves that two finite patterns that stand for one number with one sign are one.
@@ -20,7 +20,7 @@ pub fn one_shortest_decimal()
     ensures one { (p d k c j : ℕ) → IsShortest p d k → IsShortest p c j → (d ≡ c) × (k ≡ j) }
     ensures exists { (p : ℕ) → 0 < p → p < 2 ^ 63 → is_finite p ≡ true
         → (d : ℕ) × (k : ℕ) × IsShortest p d k }
-    ensures few_digits { (p d k c j : ℕ) → IsRead p c j → k < j → IsShortest p d k → ⊥ }
+    ensures few_digits { (p d k c j : ℕ) → DecimalIsReadAs p c j → k < j → IsShortest p d k → ⊥ }
 {}
 
 /// Proves that each finite pattern has one text, and no other, and no two have the same one.

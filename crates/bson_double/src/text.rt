@@ -3,7 +3,7 @@ ghost use Rattle.std.specs.Prelude.{◌≡◌, ◌+◌, ◌<◌, ◌≤◌, ◌^
 ghost use Rattle.std.specs.Prelude.{IsTrue, IsAscii};
 ghost use Rattle.arrayvec.specs.ArrayString.{array_string_len};
 ghost use Rattle.bson_double.specs.Doubles.{is_finite};
-ghost use Rattle.bson_double.specs.Text.{pointed, scientific, laid_out, power_text};
+ghost use Rattle.bson_double.specs.Text.{pointed, scientific, laid_out, double_power_text};
 ghost use Rattle.bson_double.specs.Text.{IsUnsignedText, IsDoubleText};
 
 use crate::shortest::{Decimal, shortest};
@@ -48,7 +48,7 @@ fn push_pointed(text: &mut ArrayString<32>, digits: &str, place: u64)
 fn push_power(text: &mut ArrayString<32>, place: u64)
     requires room { array_string_len text.old ≤ 25 }
     requires place { (700 ≤ place) × (place ≤ 1600) }
-    ensures { text.new.bytes ≡ text.old.bytes ++ power_text place }
+    ensures { text.new.bytes ≡ text.old.bytes ++ double_power_text place }
 {
     let mut buffer = itoa::Buffer::new();
     if place < 1101 {

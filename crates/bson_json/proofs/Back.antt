@@ -6,7 +6,7 @@ use Rattle.json.specs.Lex.{token, lex, between, Place, fresh, after_value, after
 use Rattle.json.specs.Token.{Token}
 use Rattle.json.specs.Tree.{json_tokens, items_tokens, members_tokens}
 use Rattle.bson_json.specs.Grammar.{IsWs, no_ws, IsMark, mark}
-use Rattle.bson_json.specs.Grammar.{IsValue, false_name, null_name, true_name, an_object, an_array, a_number, a_string, AreValues, no_values, values, MoreValues, no_more_values, next_value}
+use Rattle.bson_json.specs.Grammar.{IsJsonValue, false_name, null_name, true_name, an_object, an_array, a_number, a_string, AreValues, no_values, values, MoreValues, no_more_values, next_value}
 use Rattle.bson_json.specs.Grammar.{AreMembers, no_pairs, pairs, MoreMembers, no_more_pairs, next_pair, IsMember, pair, IsJson, text}
 use Rattle.bson_json.proofs.Firsts.{Read, seen_as, IsKey, First, first, Comma, After, after, comma_before}
 use Rattle.bson_json.proofs.Forward.{three}
@@ -89,7 +89,7 @@ around P R o c t us ts f r e = record {
 }
 
 -- a name, its colon and its value
-named : (k : List ℕ) (j : Json) (t : List ℕ) (us ts : List Token) → (q : Read (IsKey k) t us fresh) → Read (λ b. IsValue b j) q.rest ts after_value → Read (λ b. IsMember b k j) t ts after_value
+named : (k : List ℕ) (j : Json) (t : List ℕ) (us ts : List Token) → (q : Read (IsKey k) t us fresh) → Read (λ b. IsJsonValue b j) q.rest ts after_value → Read (λ b. IsMember b k j) t ts after_value
 named k j t us ts q r =
     let name = q.is.name in
     let gap = q.is.gap in
@@ -107,18 +107,18 @@ named k j t us ts q r =
       left = r.left;
     }
 
-number_is : (s b : List ℕ) → IsLexeme (token (Token.number s)) b → IsValue b (json.number s)
-number_is s b h = subst (λ z. IsValue z (json.number s)) (sym h.0) (a_number h.1)
+number_is : (s b : List ℕ) → IsLexeme (token (Token.number s)) b → IsJsonValue b (json.number s)
+number_is s b h = subst (λ z. IsJsonValue z (json.number s)) (sym h.0) (a_number h.1)
 
-boolean_is : (v : Bool) (b : List ℕ) → IsLexeme (token (Token.boolean v)) b → IsValue b (json.boolean v)
-boolean_is true b h = subst (λ z. IsValue z (json.boolean true)) (sym h) true_name
-boolean_is false b h = subst (λ z. IsValue z (json.boolean false)) (sym h) false_name
+boolean_is : (v : Bool) (b : List ℕ) → IsLexeme (token (Token.boolean v)) b → IsJsonValue b (json.boolean v)
+boolean_is true b h = subst (λ z. IsJsonValue z (json.boolean true)) (sym h) true_name
+boolean_is false b h = subst (λ z. IsJsonValue z (json.boolean false)) (sym h) false_name
 
-null_is : (b : List ℕ) → IsLexeme (token Token.null) b → IsValue b json.null
-null_is b h = subst (λ z. IsValue z json.null) (sym h) null_name
+null_is : (b : List ℕ) → IsLexeme (token Token.null) b → IsJsonValue b json.null
+null_is b h = subst (λ z. IsJsonValue z json.null) (sym h) null_name
 
 abbrev ReadsValue : Json → List ℕ → List Token → Type 0
-ReadsValue j t ts = Read (λ b. IsValue b j) t ts after_value
+ReadsValue j t ts = Read (λ b. IsJsonValue b j) t ts after_value
 
 next_values : {j : Json} {js : Items} (m u : List ℕ) → IsMark 0x2C m → AreValues u (item j js) → MoreValues (m ++ u) (item j js)
 next_values m u h (values v k) = next_value h v k
@@ -128,22 +128,22 @@ next_members m u h (pairs v k) = next_pair h v k
 
 mutual
   value_back : (j : Json) (p : Place) → may_begin p ≡ true → (t : List ℕ) (ts : List Token) → punctuate p (lex between t) ≡ json_tokens j ++ ts → ReadsValue j t ts
-  value_back json.null p may t ts e = seen_as _ (λ b. IsValue b json.null) t ts after_value null_is (subst (First t) e (first p may t))
-  value_back (json.boolean v) p may t ts e = seen_as _ (λ b. IsValue b (json.boolean v)) t ts after_value (boolean_is v) (subst (First t) e (first p may t))
-  value_back (json.number s) p may t ts e = seen_as _ (λ b. IsValue b (json.number s)) t ts after_value (number_is s) (subst (First t) e (first p may t))
-  value_back (json.string s) p may t ts e = seen_as _ (λ b. IsValue b (json.string s)) t ts after_value (λ b. a_string) (subst (First t) e (first p may t))
+  value_back json.null p may t ts e = seen_as _ (λ b. IsJsonValue b json.null) t ts after_value null_is (subst (First t) e (first p may t))
+  value_back (json.boolean v) p may t ts e = seen_as _ (λ b. IsJsonValue b (json.boolean v)) t ts after_value (boolean_is v) (subst (First t) e (first p may t))
+  value_back (json.number s) p may t ts e = seen_as _ (λ b. IsJsonValue b (json.number s)) t ts after_value (number_is s) (subst (First t) e (first p may t))
+  value_back (json.string s) p may t ts e = seen_as _ (λ b. IsJsonValue b (json.string s)) t ts after_value (λ b. a_string) (subst (First t) e (first p may t))
   value_back (json.array js) p may t ts e =
       let r : Read (IsLexeme (token Token.begin_array)) t (items_tokens js ++ ts) fresh = subst (First t) e (first p may t) in
-      around (λ b. AreValues b js) (λ b. IsValue b (json.array js)) 0x5B 0x5D t (items_tokens js ++ ts) ts (λ a b d. an_array) r (items_back js r.rest ts (sym r.left))
+      around (λ b. AreValues b js) (λ b. IsJsonValue b (json.array js)) 0x5B 0x5D t (items_tokens js ++ ts) ts (λ a b d. an_array) r (items_back js r.rest ts (sym r.left))
   value_back (json.object ms) p may t ts e =
       let r : Read (IsLexeme (token Token.begin_object)) t (members_tokens ms ++ ts) fresh = subst (First t) e (first p may t) in
-      around (λ b. AreMembers b ms) (λ b. IsValue b (json.object ms)) 0x7B 0x7D t (members_tokens ms ++ ts) ts (λ a b d. an_object) r (members_back ms r.rest ts (sym r.left))
+      around (λ b. AreMembers b ms) (λ b. IsJsonValue b (json.object ms)) 0x7B 0x7D t (members_tokens ms ++ ts) ts (λ a b d. an_object) r (members_back ms r.rest ts (sym r.left))
 
   items_back : (js : Items) (t : List ℕ) (ts : List Token) → punctuate fresh (lex between t) ≡ items_tokens js ++ ts → Closed (λ b. AreValues b js) 0x5D t ts
   items_back no_items t ts e = at_once _ 0x5D t ts (closing (λ b. AreValues b no_items) 0x5D t ts no_values (subst (First t) e (first fresh refl t)))
   items_back (item j js) t ts e =
       let r = value_back j fresh refl t (items_tokens js ++ ts) (e ∙ append_assoc (json_tokens j) (items_tokens js) ts) in
-      beside (λ b. IsValue b j) (λ b. MoreValues b js) (λ b. AreValues b (item j js)) 0x5D t _ ts (λ v u. values) r (more_items_back js r.rest ts (sym r.left))
+      beside (λ b. IsJsonValue b j) (λ b. MoreValues b js) (λ b. AreValues b (item j js)) 0x5D t _ ts (λ v u. values) r (more_items_back js r.rest ts (sym r.left))
 
   more_items_back : (js : Items) (t : List ℕ) (ts : List Token) → punctuate after_value (lex between t) ≡ items_tokens js ++ ts → Ends (λ b. MoreValues b js) 0x5D t ts
   more_items_back no_items t ts e = closing (λ b. MoreValues b no_items) 0x5D t ts no_more_values (subst (After t) e (after t))
@@ -152,7 +152,7 @@ mutual
       let q : Comma t (json_tokens j ++ us) = comma_before j t us (subst (After t) (e ∙ append_assoc (json_tokens j) (items_tokens js) ts) (after t)) in
       let r = value_back j after_comma refl q.rest us q.left in
       after_one (λ b. AreValues b (item j js)) (λ b. MoreValues b (item j js)) 0x5D t (json_tokens j ++ us) ts (λ m u. next_values m u) q
-      (beside (λ b. IsValue b j) (λ b. MoreValues b js) (λ b. AreValues b (item j js)) 0x5D q.rest us ts (λ v u. values) r (more_items_back js r.rest ts (sym r.left)))
+      (beside (λ b. IsJsonValue b j) (λ b. MoreValues b js) (λ b. AreValues b (item j js)) 0x5D q.rest us ts (λ v u. values) r (more_items_back js r.rest ts (sym r.left)))
 
   members_back : (ms : Members) (t : List ℕ) (ts : List Token) → punctuate fresh (lex between t) ≡ members_tokens ms ++ ts → Closed (λ b. AreMembers b ms) 0x7D t ts
   members_back no_members t ts e = at_once _ 0x7D t ts (closing (λ b. AreMembers b no_members) 0x7D t ts no_pairs (subst (First t) e (first fresh refl t)))

@@ -5,10 +5,10 @@ use Rattle.json.specs.Json.{value, items, members}
 use Rattle.json.specs.Lex.{lex, punctuate}
 use Rattle.json.specs.Text.{content, code_unit, short_escape}
 use Rattle.json.specs.Word.{after_number, word}
-use Rattle.bson_json.specs.Corners.{Accepts, Refuses}
+use Rattle.bson_json.specs.Corners.{AcceptedCorners, RejectedCorners}
 use Rattle.bson_json.proofs.Reading.{accepted, refused}
 
-pub accepts : Accepts
+pub accepts : AcceptedCorners
 unfolding lex punctuate value items members content code_unit short_escape after_number word encode
 accepts = record {
   nested_arrays = accepted _ _ refl;
@@ -26,7 +26,7 @@ accepts = record {
   delete_character = accepted _ _ refl;
 }
 
-pub refuses : Refuses
+pub refuses : RejectedCorners
 unfolding lex punctuate value items members content code_unit short_escape after_number word encode
 refuses = record {
   nothing = refused _ refl;

@@ -7,7 +7,7 @@ use Rattle.json.specs.Token.{Token}
 use Rattle.json.specs.Tree.{json_tokens, items_tokens, members_tokens}
 use Rattle.json.specs.Word.{ends_word, word}
 use Rattle.json.proofs.Printed.Numbers.{lex-number, in_word-ended}
-use Rattle.bson_json.specs.Grammar.{IsValue, false_name, null_name, true_name, an_object, an_array, a_number, a_string, AreValues, no_values, values, MoreValues, no_more_values, next_value}
+use Rattle.bson_json.specs.Grammar.{IsJsonValue, false_name, null_name, true_name, an_object, an_array, a_number, a_string, AreValues, no_values, values, MoreValues, no_more_values, next_value}
 use Rattle.bson_json.specs.Grammar.{AreMembers, no_pairs, pairs, MoreMembers, no_more_pairs, next_pair, IsMember, pair, IsJson, text, IsWs}
 use Rattle.bson_json.proofs.Lexing.{lex-ws, lex-mark, Follows, follows-ws, follows-mark}
 use Rattle.bson_json.proofs.Numbers.{is_read}
@@ -93,7 +93,7 @@ follows_members s (next_pair {c = c} {t = t} {u = u} m h k) f = subst Follows (s
 mutual
   unfolding punctuate
 
-  value_tokens : {t : List ℕ} {j : Json} → IsValue t j → (p : Place) → may_begin p ≡ true → (r : List ℕ) → Follows r → punctuate p (lex between (t ++ r)) ≡ json_tokens j ++ punctuate after_value (lex between r)
+  value_tokens : {t : List ℕ} {j : Json} → IsJsonValue t j → (p : Place) → may_begin p ≡ true → (r : List ℕ) → Follows r → punctuate p (lex between (t ++ r)) ≡ json_tokens j ++ punctuate after_value (lex between r)
   value_tokens false_name p may r f = ap (punctuate p) (lex-false r f.ended) ∙ at_boolean p _ false may
   value_tokens null_name p may r f = ap (punctuate p) (lex-null r f.ended) ∙ at_null p _ may
   value_tokens true_name p may r f = ap (punctuate p) (lex-true r f.ended) ∙ at_boolean p _ true may

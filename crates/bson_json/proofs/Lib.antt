@@ -10,3 +10,7 @@ pub mod Reading
 pub mod Corners
 pub mod Characters
 pub mod Parts
+pub mod Scanned
+pub mod Sequences
+pub mod FoundTexts
+pub mod Splits

@@ -8,7 +8,7 @@ use Rattle.bson_json.specs.Grammar.{IsJson, IsJsonText}
 abbrev pub one : Json
 one = number (codes "1")
 
-pub record Accepts : Type 0 where
+pub record AcceptedCorners : Type 0 where
   pub nested_arrays : IsJson (codes "[[],[[]]]") (array (item (array no_items) (item (array (item (array no_items) no_items)) no_items)))
   pub empty_key : IsJson (codes "{\"\":1}") (object (member [] one no_members))
   pub duplicate_key : IsJson (codes "{\"a\":1,\"a\":null}") (object (member (codes "a") one (member (codes "a") null no_members)))
@@ -25,7 +25,7 @@ pub record Accepts : Type 0 where
   pub solidus : IsJson (codes "\"\\/\"") (string (codes "/"))
   pub delete_character : IsJson (0x22 ∷ 0x7F ∷ 0x22 ∷ []) (string (0x7F ∷ []))
 
-pub record Refuses : Type 0 where
+pub record RejectedCorners : Type 0 where
   pub nothing : ¬ (IsJsonText [])
   pub byte_order_mark : ¬ (IsJsonText (0xEF ∷ 0xBB ∷ 0xBF ∷ codes "1"))
   pub two_values : ¬ (IsJsonText (codes "1 1"))

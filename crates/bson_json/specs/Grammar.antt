@@ -141,26 +141,26 @@ mutual
   -- value = false / null / true / object / array / number / string
   -- object = begin-object [ member *( value-separator member ) ] end-object
   -- array = begin-array [ value *( value-separator value ) ] end-array
-  pub data IsValue : List ℕ → Json → Type 0 where
-    false_name : IsValue (codes "false") (json.boolean false)
-    null_name : IsValue (codes "null") json.null
-    true_name : IsValue (codes "true") (json.boolean true)
+  pub data IsJsonValue : List ℕ → Json → Type 0 where
+    false_name : IsJsonValue (codes "false") (json.boolean false)
+    null_name : IsJsonValue (codes "null") json.null
+    true_name : IsJsonValue (codes "true") (json.boolean true)
     an_object : {a t b : List ℕ} {ms : Members} → IsBeginObject a → AreMembers t ms → IsEndObject b
-        → IsValue (a ++ (t ++ b)) (json.object ms)
+        → IsJsonValue (a ++ (t ++ b)) (json.object ms)
     an_array : {a t b : List ℕ} {js : Items} → IsBeginArray a → AreValues t js → IsEndArray b
-        → IsValue (a ++ (t ++ b)) (json.array js)
-    a_number : {t : List ℕ} → IsNumber t → IsValue t (json.number t)
-    a_string : {t s : List ℕ} → IsString t s → IsValue t (json.string s)
+        → IsJsonValue (a ++ (t ++ b)) (json.array js)
+    a_number : {t : List ℕ} → IsNumber t → IsJsonValue t (json.number t)
+    a_string : {t s : List ℕ} → IsString t s → IsJsonValue t (json.string s)
 
   -- [ value *( value-separator value ) ]
   pub data AreValues : List ℕ → Items → Type 0 where
     no_values : AreValues [] no_items
-    values : {t u : List ℕ} {j : Json} {js : Items} → IsValue t j → MoreValues u js → AreValues (t ++ u) (item j js)
+    values : {t u : List ℕ} {j : Json} {js : Items} → IsJsonValue t j → MoreValues u js → AreValues (t ++ u) (item j js)
 
   -- *( value-separator value )
   pub data MoreValues : List ℕ → Items → Type 0 where
     no_more_values : MoreValues [] no_items
-    next_value : {c t u : List ℕ} {j : Json} {js : Items} → IsValueSeparator c → IsValue t j → MoreValues u js
+    next_value : {c t u : List ℕ} {j : Json} {js : Items} → IsValueSeparator c → IsJsonValue t j → MoreValues u js
         → MoreValues (c ++ (t ++ u)) (item j js)
 
   -- [ member *( value-separator member ) ]
@@ -177,13 +177,13 @@ mutual
 
   -- member = string name-separator value
   pub data IsMember : List ℕ → List ℕ → Json → Type 0 where
-    pair : {n c t k : List ℕ} {j : Json} → IsString n k → IsNameSeparator c → IsValue t j → IsMember (n ++ (c ++ t)) k j
+    pair : {n c t k : List ℕ} {j : Json} → IsString n k → IsNameSeparator c → IsJsonValue t j → IsMember (n ++ (c ++ t)) k j
 
 -- ---- section 2: a text
 
 -- JSON-text = ws value ws
 pub data IsJson : List ℕ → Json → Type 0 where
-  text : {a t b : List ℕ} {j : Json} → IsWs a → IsValue t j → IsWs b → IsJson (a ++ (t ++ b)) j
+  text : {a t b : List ℕ} {j : Json} → IsWs a → IsJsonValue t j → IsWs b → IsJson (a ++ (t ++ b)) j
 
 -- ---- texts of a bounded depth (section 9: an implementation may bound how deep texts nest)
 

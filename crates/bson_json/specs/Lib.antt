@@ -1,3 +1,4 @@
 pub mod Grammar
 pub mod Corners
 pub mod Characters
+pub mod Sequence

@@ -12,10 +12,11 @@ ghost use Rattle.serde_json.specs.Read.{read, max_depth};
 ghost use Rattle.bson_scalar.specs.declared.form.Doubles.{Doubles};
 ghost use Rattle.bson_model.specs.Laws.{HasMeaningIn};
 ghost use Rattle.bson_model.specs.Value.{Value};
-ghost use Rattle.bson_order.specs.Texts.{MeansByDefault};
-ghost use Rattle.bson_distinct.specs.Double.{json_of};
+ghost use Rattle.bson_model.specs.OrderedTexts.{MeansByDefault};
+ghost use Rattle.bson_tokens.specs.Double.{json_of};
 ghost use Rattle.bson_json.specs.Characters.{IsUnescapedCharacter};
-ghost use Rattle.bson_json.specs.Corners.{Accepts, Refuses};
+ghost use Rattle.bson_json.specs.Corners.{AcceptedCorners, RejectedCorners};
+ghost use Rattle.bson_json.specs.Sequence.{AreTexts, texts_in};
 ghost use Rattle.bson_json.specs.Grammar.{AreChars, IsJson, IsJsonOf, IsNumber, IsUnescaped};
 
 /// Proves that the kit's reader finds a value in a text if and only if the grammar gives the text
@@ -55,6 +56,15 @@ pub fn unescaped_is_by_character()
 
 /// Proves which texts at the edges of the grammar have a value, and which have none.
 pub fn corner_cases()
-    ensures accepts { Accepts }
-    ensures refuses { Refuses }
+    ensures accepts { AcceptedCorners }
+    ensures refuses { RejectedCorners }
+{}
+
+/// Proves that bytes are a sequence of JSON texts if and only if each text that is found in them is
+/// JSON. The sequence has the texts that are found, and no others.
+pub fn sequences_have_one_reading()
+    ensures are { (content : List ℕ) → AllByRecursion (λ t. (j : Json) × IsJson t j) (texts_in content)
+        → AreTexts content (texts_in content) }
+    ensures found { (content : List ℕ) (ts : List (List ℕ)) → AreTexts content ts → texts_in content ≡ ts }
+    ensures one { (content : List ℕ) (ts us : List (List ℕ)) → AreTexts content ts → AreTexts content us → ts ≡ us }
 {}

@@ -5,7 +5,7 @@ use Rattle.bson_model.specs.Value.{Value, code_scope, Values, Pairs, pair}
 use Rattle.bson_model.specs.Value as model
 use Rattle.bson_model.specs.Means.{MeansIn, scalar, code_with_scope, array, document, MeansItemsIn, nothing, then}
 use Rattle.bson_model.specs.Means.{MeansDocumentIn, empty, entry}
-use Rattle.bson_model.specs.Sorted.{put_pair, sorted, sorted_items, sorted_pairs, IsLeast, KeysAscend}
+use Rattle.bson_model.specs.Sorted.{put_pair, sorted, sorted_items, sorted_pairs, IsBelowKeys, KeysAscend}
 use Rattle.bson_model.specs.Texts.{IsBelow, Ascends, IsTree, ItemsAreTrees, MembersAreTrees}
 use Rattle.bson_scalar.specs.declared.form.Doubles.{Doubles}
 
@@ -31,7 +31,7 @@ module _ (D : Doubles) where
     pairs_sorted empty up are = refl
     pairs_sorted (entry k d v ms ps m n) up are = rw (is_sorted m are.0, pairs_sorted n up.1 are.1) (put_first k v n up.0)
 
-  below : {ms : Members} {ps : Pairs} (k : List ℕ) → MeansDocumentIn D ms ps → IsBelow k ms → IsLeast k ps
+  below : {ms : Members} {ps : Pairs} (k : List ℕ) → MeansDocumentIn D ms ps → IsBelow k ms → IsBelowKeys k ps
   below k empty b = tt
   below k (entry l e w ms ps m n) b = (b.0, below k n b.1)
 

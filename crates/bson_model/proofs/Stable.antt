@@ -7,7 +7,7 @@ use Rattle.std.specs.List.{filter}
 use Rattle.std.specs.List.Sorted.{IsStableBy, ties}
 use Rattle.std.specs.Ordering.{is_lt}
 use Rattle.std.specs.Str.{bytes_eq}
-use Rattle.bson_model.specs.Sorted.{put_pair, IsLeast, KeysAscend}
+use Rattle.bson_model.specs.Sorted.{put_pair, IsBelowKeys, KeysAscend}
 use Rattle.bson_model.specs.Value.{Value, Pairs, no_pairs, pair}
 use Rattle.bson_model.specs.Stable.{have_one_key, IsStableByKey, put_each, pairs_of}
 use Rattle.bson_model.proofs.PutLaws.{put_swap}
@@ -155,7 +155,7 @@ module _ {M : Type 0} (key_of : M → List ℕ) where
     put_last [] m ps = refl
     put_last (n ∷ ms) m ps = put_last ms m (put_one n ps)
 
-    above : (k : List ℕ) (v : Value) (ms : List M) (ps : Pairs) → IsLeast k (as_pairs ms)
+    above : (k : List ℕ) (v : Value) (ms : List M) (ps : Pairs) → IsBelowKeys k (as_pairs ms)
         → put ms (pair k v ps) ≡ pair k v (put ms ps)
     above k v [] ps least = refl
     above k v (m ∷ ms) ps least = rw (flipped k (key_of m) Less least.0) (above k v ms (put_one m ps) least.1)

@@ -19,14 +19,14 @@ mutual
     no_pairs : Pairs
     pair : List ℕ → Value → Pairs → Pairs
 
-abbrev pub keys : Pairs → List (List ℕ)
-keys no_pairs = []
-keys (pair k v ps) = k ∷ keys ps
+abbrev pub pair_keys : Pairs → List (List ℕ)
+pair_keys no_pairs = []
+pair_keys (pair k v ps) = k ∷ pair_keys ps
 
 -- the value of the first pair with the key
-abbrev pub get : List ℕ → Pairs → Option Value
-get k no_pairs = None
-get k (pair l v ps) = cond (bytes_eq k l) (Some v) (get k ps)
+abbrev pub value_at_key : List ℕ → Pairs → Option Value
+value_at_key k no_pairs = None
+value_at_key k (pair l v ps) = cond (bytes_eq k l) (Some v) (value_at_key k ps)
 
 -- what holds of the scalar, where the value is one
 abbrev pub IfScalar : Value → (Scalar → Type 0) → Type 0

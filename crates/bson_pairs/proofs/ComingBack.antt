@@ -19,7 +19,7 @@ use Rattle.bson_codec.specs.Canonical.{NestsPairs, as_written, by_byte, document
 use Rattle.bson_codec.specs.Laws.{IsRead}
 use Rattle.bson_run.specs.Encode.{EncodesInOrder}
 use Rattle.bson_scalar.specs.Normal.{normal_scalar}
-use Rattle.bson_pairs.specs.Again.{ComesBack, Nests}
+use Rattle.bson_pairs.specs.Again.{RoundTrips, NestsAtMost}
 
 -- ---- what is in normal form has the subtypes that its bytes name
 
@@ -58,7 +58,7 @@ mutual
   pairs_again no_pairs h = refl
   pairs_again (pair k v ps) h = ap₂ (pair k) (value_again v cc) (pairs_again ps cc)
 
-written_again : (ps : Pairs) → ComesBack ps → as_written ps ≡ ps
+written_again : (ps : Pairs) → RoundTrips ps → as_written ps ≡ ps
 written_again ps back =
     let h : document (map_scalars_of_pairs normal_scalar ps) ≡ document ps = back.is_normal in
     pairs_again ps cc
@@ -70,7 +70,7 @@ pub text_one : (D : Doubles) (f : Form) (v : Value) (s t : List ℕ) → IsTextI
     → s ≡ t
 text_one D f v s t a b = a.compact ∙ ap (tree_text D f) (b.one a.tree a.written) ∙ sym b.compact
 
-module _ (ps : Pairs) (text : List ℕ) (is : IsTextInOrder Finite Canonical (document ps) text) (back : ComesBack ps) where
+module _ (ps : Pairs) (text : List ℕ) (is : IsTextInOrder Finite Canonical (document ps) text) (back : RoundTrips ps) where
   -- the text is read as its tree again
   pub read_again : read_kept text ≡ Some is.tree
   read_again =
@@ -106,7 +106,7 @@ module _ (ps : Pairs) (text : List ℕ) (is : IsTextInOrder Finite Canonical (do
 
   -- and they are read as it
   pub decoded_again : (o : Options) (out : List ℕ) (depth : ℕ) → o.doubles ≡ Finite → EncodesInOrder o text out
-      → Nests depth ps → IsRead depth out ps
+      → NestsAtMost depth ps → IsRead depth out ps
   decoded_again o out depth finite e nests =
       let same = meant_by o out finite e in
       let deep : NestsPairs e.pairs nests.0 = subst (λ qs. NestsPairs qs nests.0) (sym same) nests.2 in

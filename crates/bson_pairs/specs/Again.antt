@@ -15,14 +15,14 @@ use Rattle.bson_pairs.specs.declared.again.NotAgain.{NotAgain}
 use Rattle.bson_pairs.specs.declared.again.NotAgain.TheVariants.{NoBytes, NoDocument, NoText}
 
 -- the document has no wrapper's key of its own, it is in normal form, and its text nests no deeper than texts may
-pub record ComesBack (ps : Pairs) : Type 0 where
+pub record RoundTrips (ps : Pairs) : Type 0 where
   pub is_plain : plain (document ps) ≡ true
   pub is_normal : normal_form (document ps) ≡ document ps
   pub is_shallow : (t : Data) → WrittenInOrder Finite Canonical (document ps) t → depth t ≤ max_depth
 
 -- documents, arrays and scopes stand at most so many in each other, the document itself counted
-abbrev pub Nests : ℕ → Pairs → Type 0
-Nests depth ps = (d : ℕ) × (depth ≡ suc d) × NestsPairs ps d
+abbrev pub NestsAtMost : ℕ → Pairs → Type 0
+NestsAtMost depth ps = (d : ℕ) × (depth ≡ suc d) × NestsPairs ps d
 
 -- a request for memory was refused
 abbrev pub IsWant : NotAgain → Type 0

@@ -18,14 +18,14 @@ IsWantOfMemory FiniteDouble = ⊥
 IsWantOfMemory OutOfMemory = Unit {0}
 
 -- the text means a value that is no document
-abbrev pub MeansNoDocument : List ℕ → Type 0
-MeansNoDocument text = (v : Value) × HasTextMeaning text v × ((ps : Pairs) → v ≡ document ps → ⊥)
+abbrev pub TextIsNotDocument : List ℕ → Type 0
+TextIsNotDocument text = (v : Value) × HasTextMeaning text v × ((ps : Pairs) → v ≡ document ps → ⊥)
 
 -- why the text gives no bytes: it means nothing, or no document, or a document that fails; or memory ran out
-abbrev pub IsRefusedText : List ℕ → NoBytes → Type 0
-IsRefusedText text (refusals.NoValue e) = IsTextFault text e
-IsRefusedText text refusals.NoDocument = MeansNoDocument text
-IsRefusedText text (refusals.NoBytes e) = (ps : Pairs) × HasTextMeaning text (document ps) × IsRefusal e ps
+abbrev pub GivesNoBytes : List ℕ → NoBytes → Type 0
+GivesNoBytes text (refusals.NoValue e) = IsTextFault text e
+GivesNoBytes text refusals.NoDocument = TextIsNotDocument text
+GivesNoBytes text (refusals.NoBytes e) = (ps : Pairs) × HasTextMeaning text (document ps) × IsRefusal e ps
 
 -- a request for memory was refused
 abbrev pub IsWantOfBytes : NoBytes → Type 0

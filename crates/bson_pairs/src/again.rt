@@ -7,13 +7,13 @@ ghost use Rattle.bson.specs.Texts.{IsTextInOrder};
 ghost use Rattle.bson.specs.Value.{Pairs, document};
 ghost use Rattle.bson_codec.specs.Canonical.{FitsDocument};
 ghost use Rattle.bson_codec.specs.Laws.{IsCanonical, IsRead};
-ghost use Rattle.bson_pairs.specs.Again.{ComesBack, IsWant, Nests};
+ghost use Rattle.bson_pairs.specs.Again.{RoundTrips, IsWant, NestsAtMost};
 
 use bson::Bson;
-use bson::extjson::{Doubles, Form, Options, WriteError};
+use bson::extjson::{Doubles, Form, KeyOrder, Options, WriteError};
 use bson_codec::{de, from_slice};
 use bson_convert::error::Error;
-use bson_run::encode::encode_in_order;
+use bson_run::encode::encode_ordered;
 use std::alloc::Global;
 
 /// Why there is no way and back.
@@ -33,6 +33,7 @@ fn options() -> Options
 {
     Options {
         doubles: Doubles::Finite,
+        key_order: KeyOrder::AsGiven,
     }
 }
 
@@ -48,7 +49,11 @@ pub fn decode_bytes(alloc: Global, bytes: &[u8], depth: usize) -> Result<String,
         Ok(document) => document,
         Err(error) => return Err(NotAgain::NoDocument(error)),
     };
-    match Bson::Document(document).into_text_in_order(alloc, options(), Form::Canonical) {
+    let ordered = Options {
+        key_order: KeyOrder::AsGiven,
+        ..options()
+    };
+    match Bson::Document(document).into_text(alloc, ordered, Form::Canonical) {
         Ok(text) => Ok(text),
         Err(error) => Err(NotAgain::NoText(error)),
     }
@@ -57,13 +62,13 @@ pub fn decode_bytes(alloc: Global, bytes: &[u8], depth: usize) -> Result<String,
 /// Converts a text to bytes, and those to a text.
 pub fn text_again(alloc: Global, text: &str, depth: usize) -> Result<String, NotAgain>
     // The canonical text of a document, its keys in order, comes back.
-    ensures same { (ps : Pairs) → IsTextInOrder Finite Canonical (document ps) text.now → ComesBack ps → Nests depth ps
+    ensures same { (ps : Pairs) → IsTextInOrder Finite Canonical (document ps) text.now → RoundTrips ps → NestsAtMost depth ps
         → IfOk result (λ again. string_bytes again ≡ text.now) }
     // Where the document has bytes, memory alone is wanting.
-    ensures only { (ps : Pairs) → IsTextInOrder Finite Canonical (document ps) text.now → ComesBack ps → Nests depth ps
+    ensures only { (ps : Pairs) → IsTextInOrder Finite Canonical (document ps) text.now → RoundTrips ps → NestsAtMost depth ps
         → FitsDocument ps → IfErr result (λ e. IsWant e) }
 {
-    let bytes = match encode_in_order(alloc, options(), text.as_bytes()) {
+    let bytes = match encode_ordered(alloc, options(), text.as_bytes()) {
         Ok(bytes) => bytes,
         Err(fault) => return Err(NotAgain::NoBytes(fault)),
     };
@@ -73,13 +78,13 @@ pub fn text_again(alloc: Global, text: &str, depth: usize) -> Result<String, Not
 /// Converts bytes to a text, and that to bytes.
 pub fn bytes_again(alloc: Global, bytes: &[u8], depth: usize) -> Result<Vec<u8>, NotAgain>
     // The bytes that a document is written as come back.
-    ensures same { (ps : Pairs) → IsCanonical depth bytes.now ps → ComesBack ps
+    ensures same { (ps : Pairs) → IsCanonical depth bytes.now ps → RoundTrips ps
         → IfOk result (λ again. again.items ≡ bytes.now) }
     // Memory alone is wanting for it.
-    ensures only { (ps : Pairs) → IsCanonical depth bytes.now ps → ComesBack ps → IfErr result (λ e. IsWant e) }
+    ensures only { (ps : Pairs) → IsCanonical depth bytes.now ps → RoundTrips ps → IfErr result (λ e. IsWant e) }
 {
     let text = decode_bytes(alloc, bytes, depth)?;
-    match encode_in_order(alloc, options(), text.as_bytes()) {
+    match encode_ordered(alloc, options(), text.as_bytes()) {
         Ok(again) => Ok(again),
         Err(fault) => Err(NotAgain::NoBytes(fault)),
     }

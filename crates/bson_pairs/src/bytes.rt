@@ -8,7 +8,7 @@ ghost use Rattle.bson.specs.Texts.{IsTextIn};
 ghost use Rattle.bson.specs.Value.{Pairs, document};
 ghost use Rattle.bson_codec.specs.Canonical.{document_bytes, as_written, FitsDocument, NestsPairs};
 ghost use Rattle.bson_codec.specs.Laws.{IsRead};
-ghost use Rattle.bson_pairs.specs.Bytes.{IsRefusedText, IsWantOfBytes, IsWantOfMemory};
+ghost use Rattle.bson_pairs.specs.Bytes.{GivesNoBytes, IsWantOfBytes, IsWantOfMemory};
 
 use bson::Bson;
 use bson::extjson::WriteError;
@@ -66,7 +66,7 @@ pub fn bytes_of_text(alloc: Global, text: &[u8]) -> Result<Vec<u8>, NoBytes>
         × ((d : ℕ) → NestsPairs ps d → IsRead (suc d) out.items (as_written ps))) }
     // Why there are none: the first fault of the text, a value that is no document, or the cause
     // of the document's first part that does not fit.
-    ensures refused { IfErr result (λ e. IsRefusedText text.now e) }
+    ensures refused { IfErr result (λ e. GivesNoBytes text.now e) }
     // Where the text means a document each part of which fits, memory alone is wanting.
     ensures only { (ps : Pairs) → HasTextMeaning text.now (document ps) → FitsDocument ps
         → IfErr result (λ e. IsWantOfBytes e) }

@@ -2,19 +2,18 @@
 //! have one text, BSON bytes and texts of each other, and a text that is converted twice.
 #![tactic(auto)]
 
-ghost use Rattle.std.specs.Prelude.{◌≡◌, ◌↔◌, IfOk, Err, true};
+ghost use Rattle.std.specs.Prelude.{◌≡◌, ◌↔◌, IfOk, IfErr, true};
 ghost use Rattle.bson.specs.View.{bson_view};
-ghost use Rattle.bson.specs.Doubles.TheVariants.{Finite};
 ghost use Rattle.bson.specs.Same.{same};
 ghost use Rattle.bson.specs.Normal.{normal_form, as_read, plain};
-ghost use Rattle.bson.specs.WriteError.{WriteError};
+ghost use Rattle.bson.specs.Texts.{IsWriteErrorIn};
 
 pub mod again;
 pub mod bytes;
 pub mod twice;
 
 use bson::Bson;
-use bson::extjson::{Form, Options, WriteError};
+use bson::extjson::{Doubles, Form, KeyOrder, Options, WriteError};
 use std::alloc::Global;
 
 /// Returns whether the canonical texts of two values are equal. Of plain values, in which no
@@ -34,14 +33,13 @@ pub fn have_one_text(alloc: Global, left: &Bson, right: &Bson) -> Result<bool, W
     Ok(first == second)
 }
 
-/// Returns whether the texts of two values in a form are equal, with the doubles that the options
-/// name. Of plain values they are equal exactly if the values' normal forms are the same, narrowed
+/// Returns whether the texts of two values in a form are equal, with these doubles. Of plain values they are equal exactly if the values' normal forms are the same, narrowed
 /// in the relaxed form.
 ///
 /// With `Doubles::Finite` each value has a text: only running out of memory may come in its place.
-pub fn have_one_text_with(
+pub fn have_one_text_in_form(
     alloc: Global,
-    options: Options,
+    doubles: Doubles,
     form: Form,
     left: &Bson,
     right: &Bson,
@@ -50,9 +48,13 @@ pub fn have_one_text_with(
         → IfOk result
         (λ equal. (equal ≡ true) ↔ (same (as_read form (normal_form (bson_view left.now)))
         (as_read form (normal_form (bson_view right.now))) ≡ true)) }
-    ensures every { options.doubles ≡ Finite → result ≡ Err WriteError.FiniteDouble → ⊥ }
+    ensures every { IfErr result (IsWriteErrorIn doubles) }
 {
-    let first = left.to_text_with(alloc, options, form)?;
-    let second = right.to_text_with(alloc, options, form)?;
+    let options = Options {
+        doubles,
+        key_order: KeyOrder::Ascending,
+    };
+    let first = left.to_text(alloc, options, form)?;
+    let second = right.to_text(alloc, options, form)?;
     Ok(first == second)
 }

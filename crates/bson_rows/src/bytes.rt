@@ -4,7 +4,7 @@ use crate::held::document;
 use crate::stop::{Outcome, Stop};
 use crate::words::{bytes_of, cut, number};
 use bson::Document;
-use bson::extjson::{Doubles, Form, Options};
+use bson::extjson::{Doubles, Form, KeyOrder, Options};
 use bson_codec::de::{
     DEPTH, DuplicateKeys, ReadOptions, Result as Read, is_canonical, is_document,
 };
@@ -12,7 +12,7 @@ use bson_codec::documents::{Line, Run, run_documents};
 use bson_codec::run_end::RunFault;
 use bson_codec::ser::Result as Written;
 use bson_codec::stream::{from_reader, to_writer};
-use bson_codec::{from_slice, from_slice_with, front, front_with, to_vec};
+use bson_codec::{from_bytes, from_slice, front, front_of_bytes, to_vec};
 use std::alloc::Global;
 
 /// Of a writer, so that it takes no memory.
@@ -55,7 +55,7 @@ fn nested(alloc: Global, name: &str, text: &str, out: &mut Answer) -> Outcome {
     let bytes = bytes.as_slice();
     if name == "once_nested" {
         let options = ReadOptions { depth, ..once() };
-        out.result(from_slice_with(alloc, options, bytes));
+        out.result(from_bytes(alloc, options, bytes));
     } else {
         out.result(from_slice(alloc, bytes, depth));
     }
@@ -76,9 +76,9 @@ fn of_bytes(alloc: Global, name: &str, bytes: Vec<u8>, out: &mut Answer) -> Outc
         "read" => out.result(from_slice(alloc, bytes, DEPTH)),
         "front" => put_front(front(alloc, bytes, DEPTH), out),
         "again" => put_again(alloc, from_slice(alloc, bytes, DEPTH), out),
-        "once" => out.result(from_slice_with(alloc, once(), bytes)),
-        "once_front" => put_front(front_with(alloc, once(), bytes), out),
-        "once_again" => put_again(alloc, from_slice_with(alloc, once(), bytes), out),
+        "once" => out.result(from_bytes(alloc, once(), bytes)),
+        "once_front" => put_front(front_of_bytes(alloc, once(), bytes), out),
+        "once_again" => put_again(alloc, from_bytes(alloc, once(), bytes), out),
         "check" => put_checked(is_document(bytes, DEPTH), out),
         "canonical" => out.result(is_canonical(alloc, bytes, DEPTH)),
         "from" => from(alloc, bytes, out),
@@ -136,6 +136,7 @@ fn dump(alloc: Global, text: &str, out: &mut Answer) -> Outcome {
     };
     let options = Options {
         doubles: Doubles::Finite,
+        key_order: KeyOrder::Ascending,
     };
     let run_of_it = Run {
         options,

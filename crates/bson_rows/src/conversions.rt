@@ -60,7 +60,7 @@ fn of_list(alloc: Global, name: &str, text: &str, out: &mut Answer) -> Outcome {
     match name {
         "list" => put(Bson::from(list), out),
         "slice" => put_made(Bson::from_slice(alloc, list.as_slice()), out),
-        // (the values of a list alone would be gathered in its own room)
+        // (the values of a list alone would be collected in its own room)
         _ => put_made(Bson::from_values(alloc, list.into_iter().chain(None)), out),
     }
 }

@@ -56,13 +56,13 @@ fn run(alloc: Global, document: &mut Document, command: &str, out: &mut Answer) 
         "keys" => put_keys(document, out),
         "values" => put_values(document, out),
         "clone" => put_copy(document, out),
-        _ => return run_with(alloc, document, name, rest, out),
+        _ => return convert_stream(alloc, document, name, rest, out),
     }
     Ok(())
 }
 
 /// The commands with a number.
-fn run_with(
+fn convert_stream(
     alloc: Global,
     document: &mut Document,
     name: &str,

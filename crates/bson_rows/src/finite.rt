@@ -7,9 +7,9 @@ use crate::steps;
 use crate::stop::{Outcome, Stop};
 use crate::words::cut;
 use bson::extjson::de::{Result as Read, TextError};
-use bson::extjson::{Doubles, Form, Options};
+use bson::extjson::{Doubles, Form, KeyOrder, Options};
 use bson::{Bson, Document};
-use bson_convert::convert::convert_with;
+use bson_convert::convert::convert_sorted;
 use bson_convert::mode::Mode;
 use serde_json::Value;
 use std::alloc::Global;
@@ -17,6 +17,7 @@ use std::alloc::Global;
 fn finite() -> Options {
     Options {
         doubles: Doubles::Finite,
+        key_order: KeyOrder::Ascending,
     }
 }
 
@@ -44,7 +45,7 @@ fn write_value(alloc: Global, form: Form, rest: &str, out: &mut Answer) -> Outco
             put_read(
                 alloc,
                 form,
-                Bson::try_from_value_with(alloc, finite(), tree),
+                Bson::from_tree(alloc, Doubles::Finite, tree),
                 out,
             )
         }
@@ -62,10 +63,10 @@ fn put_read(alloc: Global, form: Form, read: Read<Bson>, out: &mut Answer) -> Ou
 }
 
 fn put_value(alloc: Global, form: Form, value: Bson, out: &mut Answer) -> Outcome {
-    let lent = value.to_text_with(alloc, finite(), form);
+    let lent = value.to_text(alloc, finite(), form);
     let copy = value.clone(alloc)?;
-    let tree = text_of(alloc, copy.into_extjson_with(alloc, finite(), form));
-    put_written(value.into_text_with(alloc, finite(), form), lent, tree, out)
+    let tree = text_of(alloc, copy.into_extjson(alloc, Doubles::Finite, form));
+    put_written(value.into_text(alloc, finite(), form), lent, tree, out)
 }
 
 fn put_fault(fault: TextError, out: &mut Answer) -> Outcome {
@@ -77,7 +78,7 @@ fn put_fault(fault: TextError, out: &mut Answer) -> Outcome {
 }
 
 fn read(alloc: Global, text: &str, out: &mut Answer) -> Outcome {
-    let read = Bson::try_from_text_with(alloc, finite(), text.as_bytes());
+    let read = Bson::from_text(alloc, finite(), text.as_bytes());
     put_text_read(read, out)
 }
 
@@ -91,7 +92,7 @@ pub(crate) fn put_text_read(read: Result<Bson, TextError>, out: &mut Answer) -> 
 }
 
 fn converted(alloc: Global, text: &str, out: &mut Answer) -> Outcome {
-    match convert_with(alloc, finite(), Mode::Relaxed, text.as_bytes()) {
+    match convert_sorted(alloc, finite(), Mode::Relaxed, text.as_bytes()) {
         Ok(line) => {
             if let Ok(line) = std::str::from_utf8(&line) {
                 out.text(line.trim_end());
@@ -110,7 +111,7 @@ fn map(alloc: Global, text: &str, out: &mut Answer) -> Outcome {
     put_read(
         alloc,
         Form::Canonical,
-        Bson::try_from_map_with(alloc, finite(), map),
+        Bson::from_tree(alloc, Doubles::Finite, Value::Object(map)),
         out,
     )
 }
@@ -119,7 +120,7 @@ fn own(alloc: Global, text: &str, out: &mut Answer) -> Outcome {
     let Value::Object(map) = tree(alloc, text)? else {
         return Err(Stop::NotUnderstood);
     };
-    match Document::try_from_map_with(alloc, finite(), map) {
+    match Document::from_members(alloc, Doubles::Finite, map) {
         Ok(document) => put_value(alloc, Form::Canonical, Bson::Document(document), out),
         Err(error) => {
             out.refuse(&error);

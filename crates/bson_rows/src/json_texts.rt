@@ -3,7 +3,7 @@
 //! `check_canonical TEXT`: the same, and why it is not.
 use crate::answer::Answer;
 use crate::stop::{Outcome, Stop};
-use bson::extjson::{Doubles, Options};
+use bson::extjson::{Doubles, KeyOrder, Options};
 use bson_convert::canonical::{check_canonical, is_canonical_text};
 use bson_convert::error::Error;
 use bson_json::text::is_json;
@@ -21,6 +21,7 @@ pub(crate) fn call(alloc: Global, rest: &str, out: &mut Answer) -> Outcome {
 pub(crate) fn is_canonical(alloc: Global, text: &str, out: &mut Answer) -> Outcome {
     let options = Options {
         doubles: Doubles::Finite,
+        key_order: KeyOrder::Ascending,
     };
     let Ok(canonical) = is_canonical_text(alloc, options, text.as_bytes()) else {
         return Err(Stop::OutOfMemory);
@@ -32,6 +33,7 @@ pub(crate) fn is_canonical(alloc: Global, text: &str, out: &mut Answer) -> Outco
 pub(crate) fn check(alloc: Global, text: &str, out: &mut Answer) -> Outcome {
     let options = Options {
         doubles: Doubles::Finite,
+        key_order: KeyOrder::Ascending,
     };
     match check_canonical(alloc, options, text.as_bytes()) {
         Ok(()) => out.text("canonical"),

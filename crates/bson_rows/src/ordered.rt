@@ -6,7 +6,7 @@ use crate::steps;
 use crate::stop::{Outcome, Stop};
 use crate::words::cut;
 use bson::Bson;
-use bson::extjson::{Doubles, Form, Options};
+use bson::extjson::{Doubles, Form, KeyOrder, Options};
 use std::alloc::Global;
 
 /// `canonical STEPS`, `relaxed STEPS`, and `finite STEPS`, the canonical form with finite doubles:
@@ -15,19 +15,20 @@ use std::alloc::Global;
 pub(crate) fn call(alloc: Global, rest: &str, out: &mut Answer) -> Outcome {
     let (name, steps) = cut(rest);
     match name {
-        "canonical" => write_value(alloc, Options::default(), Form::Canonical, steps, out),
-        "relaxed" => write_value(alloc, Options::default(), Form::Relaxed, steps, out),
-        "finite" => write_value(alloc, finite(), Form::Canonical, steps, out),
-        "read" => read(alloc, Options::default(), steps, out),
-        "read_finite" => read(alloc, finite(), steps, out),
+        "canonical" => write_value(alloc, special(), Form::Canonical, steps, out),
+        "relaxed" => write_value(alloc, special(), Form::Relaxed, steps, out),
+        "finite" => write_value(alloc, Options::mongodb(), Form::Canonical, steps, out),
+        "read" => read(alloc, special(), steps, out),
+        "read_finite" => read(alloc, Options::mongodb(), steps, out),
         "back" => write_back(alloc, steps, out),
         _ => Err(Stop::NotUnderstood),
     }
 }
 
-fn finite() -> Options {
+fn special() -> Options {
     Options {
-        doubles: Doubles::Finite,
+        doubles: Doubles::Special,
+        key_order: KeyOrder::AsGiven,
     }
 }
 
@@ -40,8 +41,8 @@ fn write_value(
     out: &mut Answer,
 ) -> Outcome {
     let value = steps::make_value(alloc, steps)?;
-    let lent = value.to_text_in_order(alloc, options, form);
-    let text = value.into_text_in_order(alloc, options, form);
+    let lent = value.to_text(alloc, options, form);
+    let text = value.into_text(alloc, options, form);
     let alike = text == lent;
     out.result(text);
     if !alike {
@@ -53,15 +54,15 @@ fn write_value(
 
 /// Puts what the text means, its keys in the order of the text.
 fn read(alloc: Global, options: Options, text: &str, out: &mut Answer) -> Outcome {
-    let read = Bson::try_from_text_in_order(alloc, options, text.as_bytes());
+    let read = Bson::from_text(alloc, options, text.as_bytes());
     put_text_read(read, out)
 }
 
 /// Puts the text that is written of what the text means.
 fn write_back(alloc: Global, text: &str, out: &mut Answer) -> Outcome {
-    match Bson::try_from_text_in_order(alloc, finite(), text.as_bytes()) {
+    match Bson::from_text(alloc, Options::mongodb(), text.as_bytes()) {
         Ok(value) => {
-            out.result(value.into_text_in_order(alloc, finite(), Form::Canonical));
+            out.result(value.into_text(alloc, Options::mongodb(), Form::Canonical));
             Ok(())
         }
         refused => put_text_read(refused, out),

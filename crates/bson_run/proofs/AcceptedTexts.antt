@@ -20,12 +20,12 @@ module _ (o : Options) where
   also gives others accepted f has = record { sure = has.sure; given = λ output is. f output (has.given output is) }
 
   -- the output of a text of the same tree is that of the text
-  pub converts_alike : (mode : Mode) (text arranged output : List ℕ) → IsUtf8 text → read arranged ≡ read text
-      → ConvertsIn o mode arranged output → ConvertsIn o mode text output
-  converts_alike mode text arranged output utf8 same x = record {
+  pub converts_alike : (mode : Mode) (text normalized output : List ℕ) → IsUtf8 text → read normalized ≡ read text
+      → ConvertsIn o mode normalized output → ConvertsIn o mode text output
+  converts_alike mode text normalized output utf8 same x = record {
     tree = x.tree;
     value = x.value;
-    text = text_alike o text arranged utf8 same x.tree x.text;
+    text = text_alike o text normalized utf8 same x.tree x.text;
     meaning = x.meaning;
     is_output = x.is_output;
   }

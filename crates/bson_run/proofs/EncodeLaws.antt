@@ -11,9 +11,9 @@ use Rattle.bson.proofs.Offered.{tree_one}
 use Rattle.bson_codec.specs.Canonical.{Cause, document_bytes}
 use Rattle.bson_model.specs.Means.{MeansIn}
 use Rattle.bson_model.specs.Value.{Value, Pairs, document}
-use Rattle.bson_order.specs.Kept.{read_kept}
-use Rattle.bson_order.specs.Means.{MeansInOrder}
-use Rattle.bson_pack.specs.Packed.{IsPackedText}
+use Rattle.bson_model.specs.Kept.{read_kept}
+use Rattle.bson_model.specs.OrderedMeans.{MeansInOrder}
+use Rattle.bson_codec.specs.Packed.{IsPackedText}
 use Rattle.bson_convert.specs.Convert.{IsRefusedIn}
 use Rattle.bson_run.specs.Encode.{EncodesIn, EncodesInOrder, FailsAlone, FailsFor, IsBytesOf}
 use Rattle.bson_run.specs.Encode.{IsUnencodedFor, IsUnencodedIn, IsUnencodedInOrder, MeansKept}

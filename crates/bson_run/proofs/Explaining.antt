@@ -10,8 +10,8 @@ use Rattle.std.specs.Str.{chars}
 use Rattle.std.proofs.lemmas.Bool.{le-ltb, lt-ltb}
 use Rattle.std.proofs.lemmas.Fmt.{hex_byte}
 use Rattle.std.proofs.lemmas.Option.{slice_get_cases, slice_get_within}
-use Rattle.bson_place.specs.Place.{dotted, path_of}
-use Rattle.bson_place.specs.declared.place.Place.{Place}
+use Rattle.bson_tree.specs.Place.{dotted, path_of}
+use Rattle.bson_tree.specs.declared.place.Place.{Place}
 use Rattle.bson_convert.specs.declared.error.Error.{Error}
 use Rattle.bson_convert.specs.declared.error.Error.TheVariants as errors
 use Rattle.bson_run.specs.Place.{IsExplanation, IsOfNoText, IsWhere, at_difference, at_path, column_at, cut_at, shown, told_as}

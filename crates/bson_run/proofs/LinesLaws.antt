@@ -7,16 +7,16 @@ use Rattle.std.proofs.lemmas.List.{take_rest}
 use Rattle.std.proofs.lemmas.List.Elements.{All-append, All-head, All-tail}
 use Rattle.std.proofs.lemmas.Str.{IsUtf8-append}
 use Rattle.std.specs.Prelude.{IsUtf8}
-use Rattle.bson_run.specs.Lines.{lines, onto_first, text_held, text_of, Tells, IsBlank, IsBadLineIn, WritesIn, WritesText, GivesIn}
+use Rattle.bson_run.specs.Lines.{lines, onto_first, text_held, line_text, Tells, IsBlank, IsBadLineIn, WritesIn, WritesText, GivesIn}
 use Rattle.bson_run.specs.Lines.{blank, written, passed_over, IsStoppedIn, IsStoppedAtIn}
-use Rattle.bson_run.specs.LinesSteps.{Options, IsOpen, IsJudged, IsTold, HaveSameOutcomes, TakesLine}
+use Rattle.bson_run.specs.LinesSteps.{Options, HasNoNewline, IsJudged, IsTold, HaveSameOutcomes, TakesLine}
 use Rattle.bson_run.specs.LinesSteps.{Progress, Takes, Ends, Reached, Stopped, StopsWithin, StopsLast}
 use Rattle.bson_run.specs.LinesSteps.{Error, CannotRead, NotJson, NotExtendedJson, NoBytes, OutOfMemory}
-use Rattle.bson_run.specs.LinesSteps.{CannotWrite, Gathered, NotCanonical, OnRefusal, Task}
+use Rattle.bson_run.specs.LinesSteps.{CannotWrite, Collected, NotCanonical, OnRefusal, Task}
 use Rattle.bson_run.specs.declared.order.OnRefusal.TheVariants.{Stop}
 
 -- a newline ends what stands before it
-lines_ended : (line more : List ℕ) → IsOpen line → lines (line ++ 10 ∷ more) ≡ line ∷ lines more
+lines_ended : (line more : List ℕ) → HasNoNewline line → lines (line ++ 10 ∷ more) ≡ line ∷ lines more
 lines_ended [] more h = refl
 lines_ended (x ∷ xs) more h =
     ap (λ b. cond b ([] ∷ lines (xs ++ 10 ∷ more)) (onto_first x (lines (xs ++ 10 ∷ more))))
@@ -24,7 +24,7 @@ lines_ended (x ∷ xs) more h =
     ∙ ap (onto_first x) (lines_ended xs more (All-tail (λ y. y ≢ 10) x xs h))
 
 -- a last line that no newline ends
-lines_last : (line : List ℕ) → IsOpen line → 0 < length line → lines line ≡ line ∷ []
+lines_last : (line : List ℕ) → HasNoNewline line → 0 < length line → lines line ≡ line ∷ []
 lines_last [] h some = absurd (omega arith)
 lines_last (x ∷ []) h some = ap (λ b. cond b ([] ∷ []) (onto_first x [])) (ne_eqb x 10 (All-head (λ y. y ≢ 10) x [] h))
 lines_last (x ∷ y ∷ xs) h some =
@@ -32,7 +32,7 @@ lines_last (x ∷ y ∷ xs) h some =
     (ne_eqb x 10 (All-head (λ z. z ≢ 10) x (y ∷ xs) h))
     ∙ ap (onto_first x) (lines_last (y ∷ xs) (All-tail (λ z. z ≢ 10) x (y ∷ xs) h) (omega arith))
 
-pub open_nil : IsOpen []
+pub open_nil : HasNoNewline []
 open_nil k d h = absurd (omega arith)
 
 pub judged_bad : (o : Options) (task : Task) (fault : Error) (text : List ℕ) → IsJudged o task fault text
@@ -46,7 +46,7 @@ judged_bad o task OutOfMemory text h other = absurd (other refl)
 judged_bad o task CannotWrite text h other = h
 
 stopped_at : (o : Options) (task : Task) (on_refusal : OnRefusal) (fault : Error) (held : List ℕ) (n : ℕ) (line : List ℕ)
-    (others : List (List ℕ)) → held ≡ text_of n line → IsStoppedIn o task on_refusal fault held
+    (others : List (List ℕ)) → held ≡ line_text n line → IsStoppedIn o task on_refusal fault held
     → IsStoppedAtIn o task on_refusal fault held n (line ∷ others)
 stopped_at o task on_refusal CannotRead held n line others is h = h
 stopped_at o task on_refusal NotJson held n line others is h = (is, h)
@@ -82,8 +82,8 @@ by_memory o task on_refusal fault held n others e =
     subst (λ f. IsStoppedAtIn o task on_refusal f held n others) (sym e) tt
 
 -- the text of a line that is held still
-same_text : (s t : Gathered) → HaveSameOutcomes s t → t.line ≡ s.line → text_held t ≡ text_held s
-same_text s t same held = ap (λ n. text_of n t.line.items) same.lines ∙ ap (λ (v : Vec ℕ Global). text_of s.lines v.items) held
+same_text : (s t : Collected) → HaveSameOutcomes s t → t.line ≡ s.line → text_held t ≡ text_held s
+same_text s t same held = ap (λ n. line_text n t.line.items) same.lines ∙ ap (λ (v : Vec ℕ Global). line_text s.lines v.items) held
 
 -- a newline among bytes
 at_newline : (rest : List ℕ) (n : ℕ) → n < length rest → get_or rest n 0 ≡ 10
@@ -124,39 +124,39 @@ oks (Err e) p f = tt
 module _ {o : Options} {task : Task} {on_refusal : OnRefusal} where
   -- ---- what a line gives
 
-  pub blank_taken : (s t : Gathered) → t.line.items ≡ [] → t.lines ≡ s.lines + 1 → t.output.items ≡ s.output.items
+  pub blank_taken : (s t : Collected) → t.line.items ≡ [] → t.lines ≡ s.lines + 1 → t.output.items ≡ s.output.items
       → t.told.items ≡ s.told.items → t.refused ≡ s.refused
-      → IsBlank (text_of s.lines s.line.items) → TakesLine o task on_refusal s t
+      → IsBlank (line_text s.lines s.line.items) → TakesLine o task on_refusal s t
   blank_taken s t line number output told refused h = record {
     line = line;
     lines = number;
     outcomes =
         λ before written verdicts e p. rw (output, told, refused) (record {
-          outcomes = blank s.line.items p.outcomes (subst (λ n. IsBlank (text_of n s.line.items)) e h);
+          outcomes = blank s.line.items p.outcomes (subst (λ n. IsBlank (line_text n s.line.items)) e h);
           utf8 = p.utf8;
           told_utf8 = p.told_utf8;
         });
   }
 
-  pub written_taken : (s t : Gathered) (more : List ℕ) → t.line.items ≡ [] → t.lines ≡ s.lines + 1
+  pub written_taken : (s t : Collected) (more : List ℕ) → t.line.items ≡ [] → t.lines ≡ s.lines + 1
       → t.output.items ≡ s.output.items ++ more → t.told.items ≡ s.told.items → t.refused ≡ s.refused
-      → WritesIn o task (text_of s.lines s.line.items) more → (WritesText task → IsUtf8 more)
+      → WritesIn o task (line_text s.lines s.line.items) more → (WritesText task → IsUtf8 more)
       → TakesLine o task on_refusal s t
   written_taken s t more line number grown told refused h utf8 = record {
     line = line;
     lines = number;
     outcomes =
         λ before output verdicts e p. rw (grown, told, refused, ← append_assoc output s.output.items more) (record {
-          outcomes = written s.line.items more p.outcomes (subst (λ n. WritesIn o task (text_of n s.line.items) more) e h);
+          outcomes = written s.line.items more p.outcomes (subst (λ n. WritesIn o task (line_text n s.line.items) more) e h);
           utf8 = λ w. IsUtf8-append (output ++ s.output.items) more (p.utf8 w) (utf8 w);
           told_utf8 = p.told_utf8;
         });
   }
 
-  pub told_taken : (s t : Gathered) (fault : Error) → t.line.items ≡ [] → t.lines ≡ s.lines + 1
+  pub told_taken : (s t : Collected) (fault : Error) → t.line.items ≡ [] → t.lines ≡ s.lines + 1
       → t.output.items ≡ s.output.items → t.refused ≡ s.refused + 1 → on_refusal ≢ Stop
-      → IsBadLineIn o task fault (text_of s.lines s.line.items)
-      → IsTold o task (s.lines + 1) fault (text_of s.lines s.line.items) s.told.items t.told.items
+      → IsBadLineIn o task fault (line_text s.lines s.line.items)
+      → IsTold o task (s.lines + 1) fault (line_text s.lines s.line.items) s.told.items t.told.items
       → TakesLine o task on_refusal s t
   told_taken s t fault line number output refused goes h told = record {
     line = line;
@@ -164,8 +164,8 @@ module _ {o : Options} {task : Task} {on_refusal : OnRefusal} where
     outcomes = λ before written verdicts e p.
         rw (output, told.2, refused, ← append_assoc verdicts s.told.items told.0) (record {
           outcomes = passed_over s.line.items fault told.0 p.outcomes goes
-              (subst (λ n. IsBadLineIn o task fault (text_of n s.line.items)) e h)
-              (subst (λ n. Tells (n + 1) fault (text_of n s.line.items) told.0) e (told.1 h));
+              (subst (λ n. IsBadLineIn o task fault (line_text n s.line.items)) e h)
+              (subst (λ n. Tells (n + 1) fault (line_text n s.line.items) told.0) e (told.1 h));
           utf8 = p.utf8;
           told_utf8 = IsUtf8-append (verdicts ++ s.told.items) told.0 p.told_utf8 told.3;
         });
@@ -173,47 +173,47 @@ module _ {o : Options} {task : Task} {on_refusal : OnRefusal} where
 
   -- ---- taking bytes
 
-  pub take_nothing : (s : Gathered) → Takes o task on_refusal [] s s
+  pub take_nothing : (s : Collected) → Takes o task on_refusal [] s s
   take_nothing s before output told p =
       subst (λ l. Progress o task on_refusal l output told s) (sym (append-nil before)) p
 
-  pub take_more : (xs ys : List ℕ) (s t u : Gathered) → Takes o task on_refusal xs s t → Takes o task on_refusal ys t u
+  pub take_more : (xs ys : List ℕ) (s t u : Collected) → Takes o task on_refusal xs s t → Takes o task on_refusal ys t u
       → Takes o task on_refusal (xs ++ ys) s u
   take_more xs ys s t u f g before output told p =
       subst (λ l. Progress o task on_refusal l output told u) (append_assoc before xs ys)
       (g (before ++ xs) output told (f before output told p))
 
   -- a piece of the line
-  pub piece_taken : (piece : List ℕ) (s t : Gathered) → IsOpen piece → t.line.items ≡ s.line.items ++ piece
-      → HaveSameOutcomes s t → Takes o task on_refusal piece s t
-  piece_taken piece s t h e same before output told p = record {
+  pub span_taken : (span : List ℕ) (s t : Collected) → HasNoNewline span → t.line.items ≡ s.line.items ++ span
+      → HaveSameOutcomes s t → Takes o task on_refusal span s t
+  span_taken span s t h e same before output told p = record {
     done = p.done;
-    whole = λ more. ap lines (append_assoc before piece more) ∙ p.whole (piece ++ more)
-        ∙ ap (λ l. p.done ++ lines l) (sym (append_assoc s.line.items piece more) ∙ ap (λ l. l ++ more) (sym e));
-    unbroken = subst IsOpen (sym e) (open_both s.line.items piece p.unbroken h);
+    whole = λ more. ap lines (append_assoc before span more) ∙ p.whole (span ++ more)
+        ∙ ap (λ l. p.done ++ lines l) (sym (append_assoc s.line.items span more) ∙ ap (λ l. l ++ more) (sym e));
+    unbroken = subst HasNoNewline (sym e) (open_both s.line.items span p.unbroken h);
     counted = same.lines ∙ p.counted;
     outcomes = rw (same.output, same.told, same.refused) p.outcomes;
   }
     where
-      open_both : (xs ys : List ℕ) → IsOpen xs → IsOpen ys → IsOpen (xs ++ ys)
+      open_both : (xs ys : List ℕ) → HasNoNewline xs → HasNoNewline ys → HasNoNewline (xs ++ ys)
       open_both xs ys f g = All-append (λ y. y ≢ 10) xs ys f g
 
   -- the newline that ends it
-  pub newline_taken : (s t : Gathered) → TakesLine o task on_refusal s t → Takes o task on_refusal (10 ∷ []) s t
+  pub newline_taken : (s t : Collected) → TakesLine o task on_refusal s t → Takes o task on_refusal (10 ∷ []) s t
   newline_taken s t taken before output told p = record {
     done = p.done ++ s.line.items ∷ [];
     whole = λ more. ap lines (append_assoc before (10 ∷ []) more) ∙ p.whole (10 ∷ more)
         ∙ ap (λ l. p.done ++ l) (lines_ended s.line.items more p.unbroken)
         ∙ sym (append_assoc p.done (s.line.items ∷ []) (lines more))
         ∙ ap (λ l. (p.done ++ s.line.items ∷ []) ++ lines (l ++ more)) (sym taken.line);
-    unbroken = subst IsOpen (sym taken.line) open_nil;
+    unbroken = subst HasNoNewline (sym taken.line) open_nil;
     counted = taken.lines ∙ ap (λ n. n + 1) p.counted ∙ sym (length-append p.done (s.line.items ∷ []));
     outcomes = taken.outcomes p.done output told p.counted p.outcomes;
   }
 
   -- ---- stopping
 
-  pub reached : {bytes output told : List ℕ} {s : Gathered} (t : Gathered) (more : List ℕ) → HaveSameOutcomes s t
+  pub reached : {bytes output told : List ℕ} {s : Collected} (t : Collected) (more : List ℕ) → HaveSameOutcomes s t
       → Progress o task on_refusal bytes output told s → Reached o task on_refusal (bytes ++ more) output told t
   reached {s} t more same p = record {
     done = p.done;
@@ -223,13 +223,13 @@ module _ {o : Options} {task : Task} {on_refusal : OnRefusal} where
     outcomes = rw (same.output, same.told, same.refused) p.outcomes;
   }
 
-  pub stops_after : (xs ys : List ℕ) (fault : Error) (s t u : Gathered) → Takes o task on_refusal xs s t
+  pub stops_after : (xs ys : List ℕ) (fault : Error) (s t u : Collected) → Takes o task on_refusal xs s t
       → StopsWithin o task on_refusal ys fault t u → StopsWithin o task on_refusal (xs ++ ys) fault s u
   stops_after xs ys fault s t u f g before output told more p =
       subst (λ l. Stopped o task on_refusal (l ++ more) output told fault u) (append_assoc before xs ys)
       (g (before ++ xs) output told more (f before output told p))
 
-  pub memory_stops : (bytes : List ℕ) (fault : Error) (s t : Gathered) → fault ≡ OutOfMemory → HaveSameOutcomes s t
+  pub memory_stops : (bytes : List ℕ) (fault : Error) (s t : Collected) → fault ≡ OutOfMemory → HaveSameOutcomes s t
       → StopsWithin o task on_refusal bytes fault s t
   memory_stops bytes fault s t e same before output told more p = record {
     reached = record {
@@ -242,7 +242,7 @@ module _ {o : Options} {task : Task} {on_refusal : OnRefusal} where
     reason = by_memory o task on_refusal fault (text_held t) (length p.done) (lines (s.line.items ++ (bytes ++ more))) e;
   }
 
-  pub line_stops : (bytes : List ℕ) (fault : Error) (s t : Gathered)
+  pub line_stops : (bytes : List ℕ) (fault : Error) (s t : Collected)
       → IsStoppedIn o task on_refusal fault (text_held s) → HaveSameOutcomes s t → t.line ≡ s.line
       → StopsWithin o task on_refusal (10 ∷ bytes) fault s t
   line_stops bytes fault s t h same held before output told more p = record {
@@ -256,18 +256,18 @@ module _ {o : Options} {task : Task} {on_refusal : OnRefusal} where
     };
     reason =
         stopped_at o task on_refusal fault (text_held t) (length p.done) s.line.items (lines (bytes ++ more))
-        (same_text s t same held ∙ ap (λ k. text_of k s.line.items) p.counted)
+        (same_text s t same held ∙ ap (λ k. line_text k s.line.items) p.counted)
         (subst (IsStoppedIn o task on_refusal fault) (sym (same_text s t same held)) h);
   }
 
   -- ---- the last line
 
-  last_whole : {bytes output told : List ℕ} {s : Gathered} → (p : Progress o task on_refusal bytes output told s)
+  last_whole : {bytes output told : List ℕ} {s : Collected} → (p : Progress o task on_refusal bytes output told s)
       → lines bytes ≡ p.done ++ lines s.line.items
   last_whole {bytes} {s} p =
       ap lines (sym (append-nil bytes)) ∙ p.whole [] ∙ ap (λ l. p.done ++ lines l) (append-nil s.line.items)
 
-  pub no_last : (s : Gathered) → length s.line.items ≡ 0 → Ends o task on_refusal s s
+  pub no_last : (s : Collected) → length s.line.items ≡ 0 → Ends o task on_refusal s s
   no_last s none before output told p =
       let all : lines before ≡ p.done =
       last_whole p ∙ ap (λ l. p.done ++ l) (lines_none s.line.items none) ∙ append-nil p.done in
@@ -278,7 +278,7 @@ module _ {o : Options} {task : Task} {on_refusal : OnRefusal} where
             (sym all) p.outcomes;
       }
 
-  pub last_taken : (s t : Gathered) → 0 < length s.line.items → TakesLine o task on_refusal s t
+  pub last_taken : (s t : Collected) → 0 < length s.line.items → TakesLine o task on_refusal s t
       → Ends o task on_refusal s t
   last_taken s t some taken before output told p =
       let all : lines before ≡ p.done ++ s.line.items ∷ [] =
@@ -291,7 +291,7 @@ module _ {o : Options} {task : Task} {on_refusal : OnRefusal} where
             (sym all) (taken.outcomes p.done output told p.counted p.outcomes);
       }
 
-  pub last_stops : (fault : Error) (s t : Gathered) → 0 < length s.line.items
+  pub last_stops : (fault : Error) (s t : Collected) → 0 < length s.line.items
       → IsStoppedIn o task on_refusal fault (text_held s) → HaveSameOutcomes s t → t.line ≡ s.line
       → StopsLast o task on_refusal fault s t
   last_stops fault s t some h same held before output told p = record {
@@ -304,34 +304,34 @@ module _ {o : Options} {task : Task} {on_refusal : OnRefusal} where
     };
     reason =
         stopped_at o task on_refusal fault (text_held t) (length p.done) s.line.items []
-        (same_text s t same held ∙ ap (λ k. text_of k s.line.items) p.counted)
+        (same_text s t same held ∙ ap (λ k. line_text k s.line.items) p.counted)
         (subst (IsStoppedIn o task on_refusal fault) (sym (same_text s t same held)) h);
   }
 
   -- ---- a line that ends among bytes
 
-  pub line_taken : (front : List ℕ) (s t u : Gathered) → IsOpen front → t.line.items ≡ s.line.items ++ front
+  pub line_taken : (front : List ℕ) (s t u : Collected) → HasNoNewline front → t.line.items ≡ s.line.items ++ front
       → HaveSameOutcomes s t → TakesLine o task on_refusal t u → Takes o task on_refusal (front ++ 10 ∷ []) s u
   line_taken front s t u h e same taken =
-      take_more front (10 ∷ []) s t u (piece_taken front s t h e same) (newline_taken t u taken)
+      take_more front (10 ∷ []) s t u (span_taken front s t h e same) (newline_taken t u taken)
 
-  pub line_stops_in : (rest : List ℕ) (n : ℕ) (fault : Error) (s t u : Gathered) → n < length rest
-      → IsOpen (take n rest) → get_or rest n 0 ≡ 10
+  pub line_stops_in : (rest : List ℕ) (n : ℕ) (fault : Error) (s t u : Collected) → n < length rest
+      → HasNoNewline (take n rest) → get_or rest n 0 ≡ 10
       → t.line.items ≡ s.line.items ++ take n rest → HaveSameOutcomes s t
       → IsStoppedIn o task on_refusal fault (text_held t) → HaveSameOutcomes t u → u.line ≡ t.line
       → StopsWithin o task on_refusal rest fault s u
   line_stops_in rest n fault s t u within h is e same stops kept held =
       subst (λ l. StopsWithin o task on_refusal l fault s u) (sym (at_newline rest n within is))
-      (stops_after (take n rest) (10 ∷ drop (n + 1) rest) fault s t u (piece_taken (take n rest) s t h e same)
+      (stops_after (take n rest) (10 ∷ drop (n + 1) rest) fault s t u (span_taken (take n rest) s t h e same)
       (line_stops (drop (n + 1) rest) fault t u stops kept held))
 
-  pub whole_stops : (bytes taken rest : List ℕ) (fault : Error) (s t u : Gathered) → bytes ≡ taken ++ rest
+  pub whole_stops : (bytes taken rest : List ℕ) (fault : Error) (s t u : Collected) → bytes ≡ taken ++ rest
       → Takes o task on_refusal taken s t → StopsWithin o task on_refusal rest fault t u
       → StopsWithin o task on_refusal bytes fault s u
   whole_stops bytes taken rest fault s t u e f g =
       subst (λ l. StopsWithin o task on_refusal l fault s u) (sym e) (stops_after taken rest fault s t u f g)
 
-  pub whole_taken : (bytes taken rest : List ℕ) (s t u : Gathered) → bytes ≡ taken ++ rest
+  pub whole_taken : (bytes taken rest : List ℕ) (s t u : Collected) → bytes ≡ taken ++ rest
       → Takes o task on_refusal taken s t → Takes o task on_refusal rest t u → Takes o task on_refusal bytes s u
   whole_taken bytes taken rest s t u e f g =
       subst (λ l. Takes o task on_refusal l s u) (sym e) (take_more taken rest s t u f g)

@@ -5,13 +5,13 @@ use Rattle.std.specs.Io.{StartsWith}
 use Rattle.std.specs.Io.KnownBytes.{Keeps, Appends, Consumes, IsAtEnd}
 use Rattle.std.proofs.lemmas.Str.{IsUtf8-nil}
 use Rattle.std.proofs.KnownBytes.{Appends-kept, Appends-nil, Appends-trans, Consumes-nil, Consumes-trans, Consumes-kept}
-use Rattle.bson_run.specs.Lines.{lines, left_of, none, text_held, text_of, DoneLinesIn, FailsAtIn, IsStoppedAtIn, StopsAtIn}
+use Rattle.bson_run.specs.Lines.{lines, left_of, none, text_held, line_text, DoneLinesIn, FailsAtIn, IsStoppedAtIn, StopsAtIn}
 use Rattle.bson_run.specs.Lines.{CutShortAtIn, CutsShort}
-use Rattle.bson_run.specs.LinesSteps.{Options, CannotWriteBoth, IsOpen, IsStart, HasWritten, HaveSameOutcomes}
+use Rattle.bson_run.specs.LinesSteps.{Options, CannotWriteBoth, HasNoNewline, IsStart, HasWritten, HaveSameOutcomes}
 use Rattle.bson_run.specs.LinesSteps.{Progress, Takes, Ends, Reached, Stopped, StopsWithin, StopsLast, Running, Complete}
 use Rattle.bson_convert.specs.Run.{WritesBeginning, WritesPart}
 use Rattle.bson_run.specs.LinesSteps.{Error, CannotRead, NotJson, NotExtendedJson, NoBytes, OutOfMemory}
-use Rattle.bson_run.specs.LinesSteps.{CannotWrite, Gathered, NotCanonical, OnRefusal, Task}
+use Rattle.bson_run.specs.LinesSteps.{CannotWrite, Collected, NotCanonical, OnRefusal, Task}
 use Rattle.bson_run.proofs.LinesLaws.{open_nil, reached}
 
 left_at_end : (after : Option (List ℕ)) → IsAtEnd after → left_of after ≡ []
@@ -52,10 +52,10 @@ cut_later had mid holds told said tells output more verdicts others a b (inl p) 
 cut_later had mid holds told said tells output more verdicts others a b (inr p) =
     inr (Appends-trans told said tells verdicts others b p.0, parted had mid holds output more a p.1)
 
-still_held : (t u : Gathered) → HasWritten t u → text_held u ≡ text_held t
-still_held t u w = ap (λ n. text_of n u.line.items) w.lines ∙ ap (text_of t.lines) w.line
+still_held : (t u : Collected) → HasWritten t u → text_held u ≡ text_held t
+still_held t u w = ap (λ n. line_text n u.line.items) w.lines ∙ ap (line_text t.lines) w.line
 
-kept : (s : Gathered) → HaveSameOutcomes s s
+kept : (s : Collected) → HaveSameOutcomes s s
 kept s = record { output = refl; told = refl; lines = refl; refused = refl }
 
 either : {X E A B : Type 0} {P : E → Type 0} (r : Result X E) → OnOk r A → IfErr r P → (A → B) → ((e : E) → P e → B) → B
@@ -65,7 +65,7 @@ either (Err e) a p f g = g e p
 module _ {o : Options} {task : Task} {on_refusal : OnRefusal} where
   -- ---- ends
 
-  complete : (bytes output verdicts : List ℕ) (s : Gathered) → Complete o task on_refusal bytes output verdicts s
+  complete : (bytes output verdicts : List ℕ) (s : Collected) → Complete o task on_refusal bytes output verdicts s
       → Reached o task on_refusal bytes output verdicts s
   complete bytes output verdicts s all = record {
     done = lines bytes;
@@ -76,7 +76,7 @@ module _ {o : Options} {task : Task} {on_refusal : OnRefusal} where
   }
 
   stops : (fault : Error) (before after had holds told tells : Option (List ℕ)) (bytes output verdicts : List ℕ)
-      (s u : Gathered) → u.lines ≡ s.lines → text_held u ≡ text_held s → Consumes before after bytes
+      (s u : Collected) → u.lines ≡ s.lines → text_held u ≡ text_held s → Consumes before after bytes
       → Stopped o task on_refusal (bytes ++ left_of after) output verdicts fault s
       → Appends had holds (output ++ s.output.items) → Appends told tells (verdicts ++ s.told.items)
       → StopsAtIn o (IsStoppedAtIn o task on_refusal fault (text_held u)) task on_refusal before after had holds told tells
@@ -103,7 +103,7 @@ module _ {o : Options} {task : Task} {on_refusal : OnRefusal} where
       }
 
   fails : (fault : Error) (before after had holds told tells : Option (List ℕ)) (bytes output verdicts : List ℕ)
-      (s u : Gathered) → u.lines ≡ s.lines → text_held u ≡ text_held s → Consumes before after bytes
+      (s u : Collected) → u.lines ≡ s.lines → text_held u ≡ text_held s → Consumes before after bytes
       → Stopped o task on_refusal (bytes ++ left_of after) output verdicts fault s
       → Appends had holds (output ++ s.output.items) → Appends told tells (verdicts ++ s.told.items)
       → FailsAtIn o fault task on_refusal before after had holds told tells (u.lines + 1) (text_held u)
@@ -118,7 +118,7 @@ module _ {o : Options} {task : Task} {on_refusal : OnRefusal} where
       absurd stopped.reason
 
   cuts : (fault : Error) (before after had mid holds told said tells : Option (List ℕ))
-      (bytes output verdicts : List ℕ) (s u : Gathered) → fault ≡ CannotWrite → u.lines ≡ s.lines
+      (bytes output verdicts : List ℕ) (s u : Collected) → fault ≡ CannotWrite → u.lines ≡ s.lines
       → Consumes before after bytes → Reached o task on_refusal (bytes ++ left_of after) output verdicts s
       → Appends had mid output → Appends told said verdicts
       → CannotWriteBoth mid holds said tells s.output.items s.told.items
@@ -140,7 +140,7 @@ module _ {o : Options} {task : Task} {on_refusal : OnRefusal} where
 
   -- ---- a run
 
-  pub starts : (before had told : Option (List ℕ)) (s : Gathered) → IsStart s
+  pub starts : (before had told : Option (List ℕ)) (s : Collected) → IsStart s
       → Running o task on_refusal before before had had told told s
   starts before had told s p = record {
     bytes = [];
@@ -154,7 +154,7 @@ module _ {o : Options} {task : Task} {on_refusal : OnRefusal} where
     progress = record {
       done = [];
       whole = λ more. ap (λ l. lines (l ++ more)) (sym p.line);
-      unbroken = subst IsOpen (sym p.line) open_nil;
+      unbroken = subst HasNoNewline (sym p.line) open_nil;
       counted = p.lines;
       outcomes = rw (p.output, p.told, p.refused)
           (record { outcomes = none; utf8 = λ w. IsUtf8-nil; told_utf8 = IsUtf8-nil });
@@ -162,7 +162,7 @@ module _ {o : Options} {task : Task} {on_refusal : OnRefusal} where
   }
 
   -- a reader that gave nothing
-  unmoved : (before given after had holds told tells : Option (List ℕ)) (bytes : List ℕ) (s : Gathered) → bytes ≡ []
+  unmoved : (before given after had holds told tells : Option (List ℕ)) (bytes : List ℕ) (s : Collected) → bytes ≡ []
       → Consumes given after bytes → Running o task on_refusal before given had holds told tells s
       → Running o task on_refusal before after had holds told tells s
   unmoved before given after had holds told tells bytes s e c p = record {
@@ -179,7 +179,7 @@ module _ {o : Options} {task : Task} {on_refusal : OnRefusal} where
   }
 
   -- it has nothing left, as a read of no byte into a block that has room says
-  pub drained : {before given after had holds told tells : Option (List ℕ)} {count : ℕ} {s : Gathered} (block : List ℕ)
+  pub drained : {before given after had holds told tells : Option (List ℕ)} {count : ℕ} {s : Collected} (block : List ℕ)
       → count ≡ 0 → 0 < length block
       → Consumes given after (take count block) × (count ≡ 0 → 0 < length block → IsAtEnd after)
       → Running o task on_refusal before given had holds told tells s
@@ -188,7 +188,7 @@ module _ {o : Options} {task : Task} {on_refusal : OnRefusal} where
       (unmoved _ _ _ _ _ _ _ _ _ (ap (λ n. take n block) empty) read.0 p, read.1 empty room)
 
   -- a reader that failed
-  pub unread : (before given after had holds told tells : Option (List ℕ)) (s : Gathered) → Keeps given after
+  pub unread : (before given after had holds told tells : Option (List ℕ)) (s : Collected) → Keeps given after
       → Running o task on_refusal before given had holds told tells s
       → FailsAtIn o CannotRead task on_refusal before after had holds told tells (s.lines + 1) (text_held s)
   unread before given after had holds told tells s same p =
@@ -201,20 +201,20 @@ module _ {o : Options} {task : Task} {on_refusal : OnRefusal} where
 
   -- ---- a block
 
-  flushed : (bytes output verdicts : List ℕ) (t u : Gathered) → HasWritten t u
+  flushed : (bytes output verdicts : List ℕ) (t u : Collected) → HasWritten t u
       → Progress o task on_refusal bytes output verdicts t
       → Progress o task on_refusal bytes (output ++ t.output.items) (verdicts ++ t.told.items) u
   flushed bytes output verdicts t u w p = record {
     done = p.done;
     whole = λ more. p.whole more ∙ ap (λ l. p.done ++ lines (l ++ more)) (sym w.line);
-    unbroken = subst IsOpen (sym w.line) p.unbroken;
+    unbroken = subst HasNoNewline (sym w.line) p.unbroken;
     counted = w.lines ∙ p.counted;
     outcomes =
         rw (w.output, w.told, w.refused, append-nil (output ++ t.output.items), append-nil (verdicts ++ t.told.items))
         p.outcomes;
   }
 
-  pub block_done : (block : List ℕ) (s t u : Gathered)
+  pub block_done : (block : List ℕ) (s t u : Collected)
       (before given after had mid holds told said tells : Option (List ℕ)) → Takes o task on_refusal block s t
       → HasWritten t u → Appends mid holds t.output.items → Appends said tells t.told.items
       → Running o task on_refusal before given had mid told said s → Consumes given after block
@@ -231,7 +231,7 @@ module _ {o : Options} {task : Task} {on_refusal : OnRefusal} where
     progress = flushed (p.bytes ++ block) p.output p.verdicts t u w (takes p.bytes p.output p.verdicts p.progress);
   }
 
-  pub block_fails : (fault : Error) (block : List ℕ) (s t u : Gathered)
+  pub block_fails : (fault : Error) (block : List ℕ) (s t u : Collected)
       (before given after had mid holds told said tells : Option (List ℕ))
       → StopsWithin o task on_refusal block fault s t
       → HasWritten t u → Appends mid holds t.output.items → Appends said tells t.told.items
@@ -244,7 +244,7 @@ module _ {o : Options} {task : Task} {on_refusal : OnRefusal} where
       (Appends-trans had mid holds p.output t.output.items p.written written)
       (Appends-trans told said tells p.verdicts t.told.items p.reported reported)
 
-  pub block_cut : {X : Type 0} (r : Result X Error) (e : Error) (block : List ℕ) (s t u : Gathered)
+  pub block_cut : {X : Type 0} (r : Result X Error) (e : Error) (block : List ℕ) (s t u : Collected)
       → OnOk r (Takes o task on_refusal block s t) → IfErr r (λ e. StopsWithin o task on_refusal block e s t)
       → e ≡ CannotWrite → u.lines ≡ t.lines
       → (before given after had mid holds told said tells : Option (List ℕ))
@@ -259,7 +259,7 @@ module _ {o : Options} {task : Task} {on_refusal : OnRefusal} where
 
   -- ---- the end
 
-  pub end_done : (s t u : Gathered) (before after had mid holds told said tells : Option (List ℕ))
+  pub end_done : (s t u : Collected) (before after had mid holds told said tells : Option (List ℕ))
       → Ends o task on_refusal s t → HasWritten t u → Appends mid holds t.output.items → Appends said tells t.told.items
       → Running o task on_refusal before after had mid told said s → IsAtEnd after
       → DoneLinesIn o task on_refusal before after had holds told tells u.lines u.refused
@@ -276,7 +276,7 @@ module _ {o : Options} {task : Task} {on_refusal : OnRefusal} where
         reported = Appends-trans told said tells p.verdicts t.told.items p.reported reported;
       }
 
-  pub end_fails : (fault : Error) (s t u : Gathered)
+  pub end_fails : (fault : Error) (s t u : Collected)
       (before after had mid holds told said tells : Option (List ℕ)) → StopsLast o task on_refusal fault s t
       → HasWritten t u → Appends mid holds t.output.items → Appends said tells t.told.items
       → Running o task on_refusal before after had mid told said s → IsAtEnd after
@@ -288,7 +288,7 @@ module _ {o : Options} {task : Task} {on_refusal : OnRefusal} where
       (Appends-trans had mid holds p.output t.output.items p.written written)
       (Appends-trans told said tells p.verdicts t.told.items p.reported reported)
 
-  pub end_cut : {X : Type 0} (r : Result X Error) (e : Error) (s t u : Gathered)
+  pub end_cut : {X : Type 0} (r : Result X Error) (e : Error) (s t u : Collected)
       → OnOk r (Ends o task on_refusal s t) → IfErr r (λ e. StopsLast o task on_refusal e s t)
       → e ≡ CannotWrite → u.lines ≡ t.lines
       → (before after had mid holds told said tells : Option (List ℕ))

@@ -4,7 +4,7 @@ use Rattle.std.proofs.Common.{subst, ◌∙◌, append_assoc, append-nil, length
 use Rattle.bson.specs.declared.extjson.options.Options.{Options}
 use Rattle.bson_convert.specs.declared.error.Error.{Error}
 use Rattle.bson_run.proofs.OneText.{Decided}
-use Rattle.bson_run.specs.Lines.{text_of, IsBadLineIn, IsBlank, OutcomesIn, none, blank, written, passed_over, Tells, WritesIn}
+use Rattle.bson_run.specs.Lines.{line_text, IsBadLineIn, IsBlank, OutcomesIn, none, blank, written, passed_over, Tells, WritesIn}
 use Rattle.bson_run.specs.Outcomes.{AreAlike, silent, also, IsSameFault, StopsInside}
 use Rattle.bson_run.specs.declared.order.OnRefusal.{OnRefusal}
 use Rattle.bson_run.specs.declared.order.OnRefusal.TheVariants.{Stop}
@@ -58,10 +58,10 @@ module _ (o : Options) (task : Task) (on_refusal : OnRefusal) (only : Decided o 
   -- what a line gives that stands after so many others
   abbrev Step : (before : ℕ) → (line more said : List ℕ) → (over : ℕ) → Type 0
   Step n line more said over =
-      (IsBlank (text_of n line) × (more ≡ []) × (said ≡ []) × (over ≡ 0))
-      ⊎ ((WritesIn o task (text_of n line) more × (said ≡ []) × (over ≡ 0))
-      ⊎ ((fault : Error) × (on_refusal ≢ Stop) × IsBadLineIn o task fault (text_of n line)
-      × Tells (n + 1) fault (text_of n line) said × (more ≡ []) × (over ≡ 1)))
+      (IsBlank (line_text n line) × (more ≡ []) × (said ≡ []) × (over ≡ 0))
+      ⊎ ((WritesIn o task (line_text n line) more × (said ≡ []) × (over ≡ 0))
+      ⊎ ((fault : Error) × (on_refusal ≢ Stop) × IsBadLineIn o task fault (line_text n line)
+      × Tells (n + 1) fault (line_text n line) said × (more ≡ []) × (over ≡ 1)))
 
   record Last (all : List (List ℕ)) (output told : List ℕ) (refused : ℕ) : Type 0 where
     before : List (List ℕ)
@@ -159,26 +159,26 @@ module _ (o : Options) (task : Task) (on_refusal : OnRefusal) (only : Decided o 
           → AreAlike (told ++ said) (tells ++ says)
       silently told tells said says alike s t = rw (s, t, append-nil told, append-nil tells) alike
   one_more n line a b told tells said says over count alike (inl (is, m, s, c)) (inr (inl (w, t, e))) =
-      absurd (only.written_blank (text_of n line) b w is)
+      absurd (only.written_blank (line_text n line) b w is)
   one_more n line a b told tells said says over count alike (inl (is, m, s, c)) (inr (inr (f, g, bad, t, k, e))) =
-      absurd (only.blank_bad (text_of n line) f is bad)
+      absurd (only.blank_bad (line_text n line) f is bad)
   one_more n line a b told tells said says over count alike (inr (inl (w, s, c))) (inl (is, k, t, e)) =
-      absurd (only.written_blank (text_of n line) a w is)
+      absurd (only.written_blank (line_text n line) a w is)
   one_more n line a b told tells said says over count alike (inr (inl (w, s, c))) (inr (inl (v, t, e))) = record {
-    outputs = only.one_text (text_of n line) a b w v;
+    outputs = only.one_text (line_text n line) a b w v;
     alike = rw (s, t, append-nil told, append-nil tells) alike;
     counts = c ∙ sym e;
   }
   one_more n line a b told tells said says over count alike (inr (inl (w, s, c))) (inr (inr (f, g, bad, t, k, e))) =
-      absurd (only.written_bad (text_of n line) a f w bad)
+      absurd (only.written_bad (line_text n line) a f w bad)
   one_more n line a b told tells said says over count alike (inr (inr (f, g, bad, s, m, c))) (inl (is, k, t, e)) =
-      absurd (only.blank_bad (text_of n line) f is bad)
+      absurd (only.blank_bad (line_text n line) f is bad)
   one_more n line a b told tells said says over count alike (inr (inr (f, g, bad, s, m, c))) (inr (inl (v, t, e))) =
-      absurd (only.written_bad (text_of n line) b f v bad)
+      absurd (only.written_bad (line_text n line) b f v bad)
   one_more n line a b told tells said says over count alike (inr (inr (f, g, bad, s, m, c)))
       (inr (inr (h, i, worse, t, k, e))) = record {
         outputs = m ∙ sym k;
-        alike = also (n + 1) f h (text_of n line) said says alike (only.same_fault (text_of n line) f h bad worse) s t;
+        alike = also (n + 1) f h (line_text n line) said says alike (only.same_fault (line_text n line) f h bad worse) s t;
         counts = c ∙ sym e;
       }
 
@@ -248,23 +248,23 @@ module _ (o : Options) (task : Task) (on_refusal : OnRefusal) (only : Decided o 
   -- ---- where a run stops
 
   refused_step : (n : ℕ) (line more said : List ℕ) (over : ℕ) (fault : Error) → on_refusal ≡ Stop
-      → IsBadLineIn o task fault (text_of n line) → Step n line more said over → ⊥
-  refused_step n line more said over fault stops bad (inl (is, m, s, c)) = only.blank_bad (text_of n line) fault is bad
-  refused_step n line more said over fault stops bad (inr (inl (w, s, c))) = only.written_bad (text_of n line) more fault w bad
+      → IsBadLineIn o task fault (line_text n line) → Step n line more said over → ⊥
+  refused_step n line more said over fault stops bad (inl (is, m, s, c)) = only.blank_bad (line_text n line) fault is bad
+  refused_step n line more said over fault stops bad (inr (inl (w, s, c))) = only.written_bad (line_text n line) more fault w bad
   refused_step n line more said over fault stops bad (inr (inr (f, goes, worse, t, k, e))) = goes stops
 
   -- a line at which a run stops is none of lines that are done
   stuck : (done others : List (List ℕ)) (line : List ℕ) (fault : Error) (output told : List ℕ) (refused : ℕ)
-      → on_refusal ≡ Stop → IsBadLineIn o task fault (text_of (length done) line)
+      → on_refusal ≡ Stop → IsBadLineIn o task fault (line_text (length done) line)
       → OutcomesIn o task on_refusal (done ++ line ∷ others) output told refused → ⊥
   stuck done others line fault output told refused stops bad d =
       let f = first_of (length others) (done ++ line ∷ others) (done ++ line ∷ []) others output told refused refl
       (sym (append_assoc done (line ∷ []) others)) d in
       let i = last_of f.outcomes (omega (arith, length-append done (line ∷ []))) in
       let ends = both_ends done i.before line i.line i.lines_are in
-      let here : IsBadLineIn o task fault (text_of (length i.before) i.line) =
-      subst (λ (l : List ℕ). IsBadLineIn o task fault (text_of (length i.before) l)) ends.1
-      (subst (λ (l : List (List ℕ)). IsBadLineIn o task fault (text_of (length l) line)) ends.0 bad) in
+      let here : IsBadLineIn o task fault (line_text (length i.before) i.line) =
+      subst (λ (l : List ℕ). IsBadLineIn o task fault (line_text (length i.before) l)) ends.1
+      (subst (λ (l : List (List ℕ)). IsBadLineIn o task fault (line_text (length l) line)) ends.0 bad) in
       refused_step (length i.before) i.line i.more i.said i.over fault stops here i.step
 
   pub either : (all : List (List ℕ)) (output other told tells : List ℕ) (refused number : ℕ) (fault : Error)
@@ -282,12 +282,12 @@ module _ (o : Options) (task : Task) (on_refusal : OnRefusal) (only : Decided o 
   one_of all output other told tells number count fault cause h k (inl (done, line)) =
       let s = same (length h.done) h.done k.done output other told tells h.refused k.refused refl done h.outcomes
       k.outcomes in
-      let there : IsBadLineIn o task cause (text_of (length h.done) h.line) =
-      subst (λ (l : List ℕ). IsBadLineIn o task cause (text_of (length h.done) l)) (sym line)
-      (subst (λ (l : List (List ℕ)). IsBadLineIn o task cause (text_of (length l) k.line)) (sym done) k.reason) in (
+      let there : IsBadLineIn o task cause (line_text (length h.done) h.line) =
+      subst (λ (l : List ℕ). IsBadLineIn o task cause (line_text (length h.done) l)) (sym line)
+      (subst (λ (l : List (List ℕ)). IsBadLineIn o task cause (line_text (length l) k.line)) (sym done) k.reason) in (
         s.outputs,
         s.alike,
-        only.same_fault (text_of (length h.done) h.line) fault cause h.reason there,
+        only.same_fault (line_text (length h.done) h.line) fault cause h.reason there,
         h.counted ∙ ap (λ (l : List (List ℕ)). length l + 1) done ∙ sym k.counted,
       )
   one_of all output other told tells number count fault cause h k (inr (inl (rest, is))) =

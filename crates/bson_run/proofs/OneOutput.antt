@@ -10,10 +10,10 @@ use Rattle.bson_codec.specs.Canonical.{Cause, zero_in_key, zero_in_regex, too_lo
 use Rattle.bson_model.specs.Means.{MeansIn}
 use Rattle.bson_model.specs.Sorted.{sorted}
 use Rattle.bson_model.specs.Value.{Pairs, Value, document}
-use Rattle.bson_order.specs.Texts.{HasMeaningInOrder}
-use Rattle.bson_place.proofs.Offered.{one_path}
-use Rattle.bson_place.specs.Place.{FaultAtIn, path_of}
-use Rattle.bson_place.specs.declared.place.Place.{Place}
+use Rattle.bson_model.specs.OrderedTexts.{HasMeaningInOrder}
+use Rattle.bson_tree.proofs.Offered.{one_path}
+use Rattle.bson_tree.specs.Place.{FaultAtIn, path_of}
+use Rattle.bson_tree.specs.declared.place.Place.{Place}
 use Rattle.bson_scalar.specs.TreeText.{tree_text}
 use Rattle.bson_scalar.specs.declared.form.Form.TheVariants as form
 use Rattle.bson_convert.specs.Convert.{ConvertsIn, IsAccepted, IsOutputIn, IsRefusedIn, newline}

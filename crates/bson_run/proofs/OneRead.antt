@@ -11,15 +11,15 @@ use Rattle.serde_json.specs.Data.{Data, null, boolean, number, string, array, ob
 use Rattle.serde_json.specs.Data.{no_members, put}
 use Rattle.serde_json.specs.Read.{max_depth, of_json, of_items, of_members, read}
 use Rattle.bson.specs.TextMeaning.{IsTextOf}
-use Rattle.bson_distinct.specs.Arranged.{arranged, HasNumbers, ItemsHaveNumbers, MembersHaveNumbers, IsArrangedText}
-use Rattle.bson_distinct.specs.Double.{DoubleAt, json_of}
-use Rattle.bson_distinct.specs.declared.arrangement.Arrangement.TheVariants.{FirstPlaces}
-use Rattle.bson_legacy.specs.Modern.{modern}
-use Rattle.bson_legacy.specs.Text.{IsModernText}
-use Rattle.bson_place.specs.Place.{PathSegment, path_of}
-use Rattle.bson_place.specs.declared.place.Place.{Place}
+use Rattle.bson_tokens.specs.Normalized.{normalized, HasNumbers, ItemsHaveNumbers, MembersHaveNumbers, IsNormalizedText}
+use Rattle.bson_tokens.specs.Double.{DuplicateAt, json_of}
+use Rattle.bson_tokens.specs.declared.arrangement.Arrangement.TheVariants.{FirstPlaces}
+use Rattle.bson_v1.specs.Upgraded.{upgraded}
+use Rattle.bson_v1.specs.Text.{IsUpgradedText}
+use Rattle.bson_tree.specs.Place.{PathSegment, path_of}
+use Rattle.bson_tree.specs.declared.place.Place.{Place}
 use Rattle.bson_run.specs.Lines.{IsBlank}
-use Rattle.bson_run.specs.Taken.{HasDoubleKeyAt, HasNoDoubleKey, IsNoJson, IsTakenAs, IsTurnedAway, StandsFor}
+use Rattle.bson_run.specs.Taken.{HasDoubleKeyAt, HasNoDoubleKey, IsNoJson, IsTakenAs, IsTurnedAway, UpgradesTo}
 use Rattle.bson_run.specs.declared.order.Taking.{Taking}
 use Rattle.bson_run.specs.declared.order.Taking.TheVariants.{Distinct, Legacy, DistinctLegacy}
 
@@ -55,27 +55,27 @@ mutual
       let ds = members_read ms (put k d.0 found) h.1 in
       (ds.0, ap (option_and_then (λ x. of_members ms (put k x found))) d.1 ∙ ds.1)
 
-pub is_read : (text written : List ℕ) → IsArrangedText FirstPlaces text written → (d : Data) × (read text ≡ Some d)
+pub is_read : (text written : List ℕ) → IsNormalizedText FirstPlaces text written → (d : Data) × (read text ≡ Some d)
 is_read text written is =
     let d = tree_read is.tree is.numbers in
     (d.0, ap (option_and_then of_json) is.is_tree ∙ d.1)
 
 -- ---- one text in the place of another
 
-one_modern : (text a b : List ℕ) → IsModernText text a → IsModernText text b → a ≡ b
-one_modern text a b x y =
+one_upgraded : (text a b : List ℕ) → IsUpgradedText text a → IsUpgradedText text b → a ≡ b
+one_upgraded text a b x y =
     let i : json_of text ≡ Some x.is_resolved.tree = x.is_resolved.is_tree in
     let j : json_of text ≡ Some y.is_resolved.tree = y.is_resolved.is_tree in
     let trees : x.is_resolved.tree ≡ y.is_resolved.tree = cc in
-    x.compact ∙ (ap (λ t. print (json_tokens (modern (arranged FirstPlaces t)))) trees ∙ sym y.compact)
+    x.compact ∙ (ap (λ t. print (json_tokens (upgraded (normalized FirstPlaces t)))) trees ∙ sym y.compact)
 
-not_json : (text a : List ℕ) → IsUtf8 text → IsModernText text a → IsNoJson text → ⊥
+not_json : (text a : List ℕ) → IsUtf8 text → IsUpgradedText text a → IsNoJson text → ⊥
 not_json text a utf8 x none =
     let d = is_read text x.resolved x.is_resolved in
     none d.0 utf8 d.1
 
-one_newer : (text a b : List ℕ) → StandsFor text a → StandsFor text b → a ≡ b
-one_newer text a b (inl x) (inl y) = one_modern text a b x.1 y.1
+one_newer : (text a b : List ℕ) → UpgradesTo text a → UpgradesTo text b → a ≡ b
+one_newer text a b (inl x) (inl y) = one_upgraded text a b x.1 y.1
 one_newer text a b (inl x) (inr y) = absurd (not_json text a x.0 x.1 y.0)
 one_newer text a b (inr x) (inl y) = absurd (not_json text b y.0 y.1 x.0)
 one_newer text a b (inr x) (inr y) = x.1 ∙ sym y.1
@@ -114,7 +114,7 @@ blank_text text t h is =
     let some : read text ≡ Some t = is.tree_read in
     cc
 
-stays : (text a : List ℕ) → IsBlank text → StandsFor text a → a ≡ text
+stays : (text a : List ℕ) → IsBlank text → UpgradesTo text a → a ≡ text
 stays text a h (inl x) =
     let none : json_of text ≡ None = blank_tree text h in
     let some : json_of text ≡ Some x.1.is_resolved.tree = x.1.is_resolved.is_tree in
@@ -141,7 +141,7 @@ blank_turned DistinctLegacy place text h x = blank_double place text h x
 
 -- ---- a text that is turned away
 
-module _ (twice : (j : json.Json) (path : List PathSegment) → DoubleAt j path → ¬ HasUniqueKeys j) where
+module _ (twice : (j : json.Json) (path : List PathSegment) → DuplicateAt j path → ¬ HasUniqueKeys j) where
   not_both : (place : Place) (text : List ℕ) → HasDoubleKeyAt place text → HasNoDoubleKey text → ⊥
   not_both place text h none = twice h.1.0 (path_of place) h.1.2 (none h.1.0 h.0 h.1.1)
 
@@ -151,14 +151,14 @@ module _ (twice : (j : json.Json) (path : List PathSegment) → DoubleAt j path 
   not_taken Legacy place text a h is = h
   not_taken DistinctLegacy place text a h is = not_both place text h is.0
 
-module _ (one_path : (j : json.Json) (path other : List PathSegment) → DoubleAt j path → DoubleAt j other → path ≡ other) where
+module _ (one_path : (j : json.Json) (path other : List PathSegment) → DuplicateAt j path → DuplicateAt j other → path ≡ other) where
   one_double : (place other : Place) (text : List ℕ) → HasDoubleKeyAt place text → HasDoubleKeyAt other text
       → path_of place ≡ path_of other
   one_double place other text x y =
       let a : json_of text ≡ Some x.1.0 = x.1.1 in
       let b : json_of text ≡ Some y.1.0 = y.1.1 in
       let same : y.1.0 ≡ x.1.0 = cc in
-      one_path x.1.0 (path_of place) (path_of other) x.1.2 (subst (λ j. DoubleAt j (path_of other)) same y.1.2)
+      one_path x.1.0 (path_of place) (path_of other) x.1.2 (subst (λ j. DuplicateAt j (path_of other)) same y.1.2)
 
   pub one_turned : (taking : Taking) (place other : Place) (text : List ℕ) → IsTurnedAway taking place text
       → IsTurnedAway taking other text → path_of place ≡ path_of other

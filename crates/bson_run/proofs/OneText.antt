@@ -6,10 +6,10 @@ use Rattle.serde_json.specs.Read.{read}
 use Rattle.bson.specs.TextMeaning.{HasTextMeaningIn, IsNoText, IsTextOf}
 use Rattle.bson.specs.declared.extjson.options.Options.{Options}
 use Rattle.bson_codec.specs.Canonical.{Cause, DocumentFails, FitsDocument}
-use Rattle.bson_distinct.specs.Double.{DoubleAt}
+use Rattle.bson_tokens.specs.Double.{DuplicateAt}
 use Rattle.bson_model.specs.Value.{Pairs}
-use Rattle.bson_place.specs.Place.{PathSegment, path_of}
-use Rattle.bson_place.specs.declared.place.Place.{Place}
+use Rattle.bson_tree.specs.Place.{PathSegment, path_of}
+use Rattle.bson_tree.specs.declared.place.Place.{Place}
 use Rattle.bson_convert.specs.Convert.{IsAccepted, IsRefusedIn}
 use Rattle.bson_convert.specs.declared.error.Error.{Error}
 use Rattle.bson_convert.specs.declared.error.Error.TheVariants.{CannotRead, NotJson, NotExtendedJson, NoBytes, OutOfMemory}
@@ -65,8 +65,8 @@ view o task text CannotRead h = absurd h
 view o task text OutOfMemory h = absurd h
 view o task text CannotWrite h = absurd h
 
-module _ (twice : (j : Json) (path : List PathSegment) → DoubleAt j path → ¬ HasUniqueKeys j)
-    (one_double : (j : Json) (path other : List PathSegment) → DoubleAt j path → DoubleAt j other → path ≡ other)
+module _ (twice : (j : Json) (path : List PathSegment) → DuplicateAt j path → ¬ HasUniqueKeys j)
+    (one_double : (j : Json) (path other : List PathSegment) → DuplicateAt j path → DuplicateAt j other → path ≡ other)
     (no_cause : (ps : Pairs) (c : Cause) → FitsDocument ps → DocumentFails c ps → ⊥)
     (one_cause : (ps : Pairs) (c e : Cause) → DocumentFails c ps → DocumentFails e ps → c ≡ e)
     (o : Options) where

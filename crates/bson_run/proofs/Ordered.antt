@@ -11,14 +11,14 @@ use Rattle.bson_model.specs.Value.{Value}
 use Rattle.bson_model.specs.Writing.{writes_in}
 use Rattle.bson_model.specs.Written.{WrittenIn}
 use Rattle.bson_model.proofs.Offered.{tree_is_in, writable_is_in}
-use Rattle.bson_order.specs.Kept.{unordered}
-use Rattle.bson_order.specs.Texts.{HasMeaningInOrder}
+use Rattle.bson_model.specs.Kept.{unordered}
+use Rattle.bson_model.specs.OrderedTexts.{HasMeaningInOrder}
 use Rattle.bson.specs.Texts.{IsTextInOrder}
 use Rattle.bson.specs.declared.extjson.options.Options.{Options}
-use Rattle.bson_distinct.proofs.Offered.{meant_in_order}
-use Rattle.bson_distinct.specs.Arranged.{IsArrangedText}
-use Rattle.bson_distinct.specs.declared.arrangement.Arrangement.TheVariants.{FirstPlaces}
-use Rattle.bson_filter.specs.Filtered.{IsFilteredText}
+use Rattle.bson_tokens.proofs.Offered.{meant_in_order}
+use Rattle.bson_tokens.specs.Normalized.{IsNormalizedText}
+use Rattle.bson_tokens.specs.declared.arrangement.Arrangement.TheVariants.{FirstPlaces}
+use Rattle.bson_text.specs.Filtered.{IsFilteredText}
 use Rattle.bson_convert.specs.Convert.{newline}
 use Rattle.bson_run.specs.InOrder.{ConvertsInOrder, IsConvertedTextInOrder, IsOutputInOrder, IsTextInOrderFor}
 use Rattle.bson_convert.specs.declared.mode.Mode.{Mode}
@@ -69,20 +69,20 @@ module _ (o : Options) where
     is_output = line_in_order mode v text output is line;
   }
 
-  -- the output of the arranged text is that of the text
-  pub outputs_alike : (mode : Mode) (text arranged output : List ℕ) → IsUtf8 text
-      → IsArrangedText FirstPlaces text arranged → ConvertsInOrder o mode arranged output
+  -- the output of the normalized text is that of the text
+  pub outputs_alike : (mode : Mode) (text normalized output : List ℕ) → IsUtf8 text
+      → IsNormalizedText FirstPlaces text normalized → ConvertsInOrder o mode normalized output
       → ConvertsInOrder o mode text output
-  outputs_alike mode text arranged output utf8 is x = record {
+  outputs_alike mode text normalized output utf8 is x = record {
     value = x.value;
     utf8 = utf8;
-    meaning = (meant_in_order o.doubles text arranged x.value is).0 x.meaning;
+    meaning = (meant_in_order o.doubles text normalized x.value is).0 x.meaning;
     is_output = x.is_output;
   }
 
-  -- the text of the arranged text is that of the text
-  pub converted_alike : (mode : Mode) (text arranged written : List ℕ) → IsUtf8 text
-      → IsArrangedText FirstPlaces text arranged → IsConvertedTextInOrder o mode arranged written
+  -- the text of the normalized text is that of the text
+  pub converted_alike : (mode : Mode) (text normalized written : List ℕ) → IsUtf8 text
+      → IsNormalizedText FirstPlaces text normalized → IsConvertedTextInOrder o mode normalized written
       → IsConvertedTextInOrder o mode text written
-  converted_alike mode text arranged written utf8 is (v, valid, meaning, of) =
-      (v, utf8, (meant_in_order o.doubles text arranged v is).0 meaning, of)
+  converted_alike mode text normalized written utf8 is (v, valid, meaning, of) =
+      (v, utf8, (meant_in_order o.doubles text normalized v is).0 meaning, of)

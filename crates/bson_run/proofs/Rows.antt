@@ -3,7 +3,7 @@
 use Rattle.std.proofs.Common.{◌≡◌, zero, suc, [], ◌∷◌, inl, inr, refl, arith}
 use Rattle.std.specs.Char.{encode_utf8}
 use Rattle.std.specs.Prelude.{codes}
-use Rattle.bson_run.specs.Lines.{lines, text_of, IsBlank}
+use Rattle.bson_run.specs.Lines.{lines, line_text, IsBlank}
 use Rattle.bson_run.specs.Place.{shown}
 use Rattle.bson_run.specs.Words.{task_name, words_broken}
 use Rattle.bson_run.specs.declared.order.Task.TheVariants.{Check, Encode, EncodeInOrder}
@@ -19,17 +19,17 @@ tasks_named = (λ criterion. refl, refl, refl)
 -- ---- words of rules of JSON
 
 rules_told : (words_broken rule.Utf8 ≡ codes "invalid UTF-8")
-    × (words_broken rule.EndsEarly ≡ codes "unexpected end of input")
+    × (words_broken rule.UnexpectedEnd ≡ codes "unexpected end of input")
     × (words_broken rule.Quotes ≡ codes "keys and strings must be in double quotes")
     × (words_broken rule.NoValue ≡ codes "expected a value")
     × (words_broken rule.Number ≡ codes "invalid number")
     × (words_broken rule.ControlCharacter ≡ codes "unescaped control character in a string")
     × (words_broken rule.Escape ≡ codes "invalid escape sequence")
     × (words_broken rule.Separator ≡ codes "expected a comma or a closing bracket")
-    × (words_broken rule.BehindComma ≡ codes "expected an element after the comma")
-    × (words_broken rule.BehindKey ≡ codes "expected a colon and a value after the key")
+    × (words_broken rule.ExpectedElement ≡ codes "expected an element after the comma")
+    × (words_broken rule.ExpectedColonAndValue ≡ codes "expected a colon and a value after the key")
     × (words_broken rule.Depth ≡ codes "nested more than 127 levels deep")
-    × (words_broken rule.MoreBehind ≡ codes "unexpected data after the value")
+    × (words_broken rule.TrailingData ≡ codes "unexpected data after the value")
     × (words_broken rule.OutOfRange ≡ codes "number out of range")
     × (words_broken rule.RewrittenDepth ≡ codes "the rewritten input is nested more than 127 levels deep")
 rules_told = (refl, refl, refl, refl, refl, refl, refl, refl, refl, refl, refl, refl, refl, refl)
@@ -50,8 +50,8 @@ characters_told = (refl, refl, refl, refl, refl, refl)
 -- no line stands behind the last newline, and a byte order mark is passed over where the first line begins
 lines_cut : (lines (53 ∷ 10 ∷ 10 ∷ 54 ∷ []) ≡ (53 ∷ []) ∷ [] ∷ (54 ∷ []) ∷ [])
     × (lines (53 ∷ 10 ∷ []) ≡ (53 ∷ []) ∷ [])
-    × (text_of 0 (239 ∷ 187 ∷ 191 ∷ 53 ∷ []) ≡ 53 ∷ [])
-    × (text_of 1 (239 ∷ 187 ∷ 191 ∷ 53 ∷ []) ≡ 239 ∷ 187 ∷ 191 ∷ 53 ∷ [])
+    × (line_text 0 (239 ∷ 187 ∷ 191 ∷ 53 ∷ []) ≡ 53 ∷ [])
+    × (line_text 1 (239 ∷ 187 ∷ 191 ∷ 53 ∷ []) ≡ 239 ∷ 187 ∷ 191 ∷ 53 ∷ [])
 lines_cut = (refl, refl, refl, refl)
 
 -- a space, a tab and a carriage return

@@ -11,8 +11,8 @@ use Rattle.bson_run.specs.Place.{Breaks, HasGrammar, HasMoreBehind, HasTree, IsO
 use Rattle.bson_run.specs.Place.{HasBad}
 use Rattle.bson_run.specs.Place.{closes, opens}
 use Rattle.bson_run.specs.declared.rule.Rule.{Rule}
-use Rattle.bson_run.specs.declared.rule.Rule.TheVariants.{EndsEarly, MoreBehind}
-use Rattle.bson_run.specs.declared.rule.Rule.TheVariants.{Quotes, Separator, BehindKey, Depth}
+use Rattle.bson_run.specs.declared.rule.Rule.TheVariants.{UnexpectedEnd, TrailingData}
+use Rattle.bson_run.specs.declared.rule.Rule.TheVariants.{Quotes, Separator, ExpectedColonAndValue, Depth}
 
 of_nothing : skip_value max_depth [] ≡ None
 unfolding value
@@ -39,7 +39,7 @@ has_grammar bytes (t, is) = (is.utf8, all_read (value max_depth (tokens bytes)) 
 
 -- ---- more behind a value
 
-pub more_behind : (bytes : List ℕ) → HasMoreBehind bytes → Breaks bytes MoreBehind
+pub more_behind : (bytes : List ℕ) → HasMoreBehind bytes → Breaks bytes TrailingData
 more_behind bytes m = record {
   utf8 = (λ e. absurd cc, λ n. absurd (n m.0));
   number = (λ e. absurd cc, λ g. let one = g.0.1 in let other = m.1.2 in absurd cc);
@@ -53,7 +53,7 @@ more_behind bytes m = record {
 -- ---- those of a text with no value at its beginning
 
 module _ (bytes : List ℕ) (u : IsUtf8 bytes) (none : skip_value max_depth (tokens bytes) ≡ None) where
-  of_value : (rule : Rule) → IsOfValue rule → (tokens bytes ≡ [] → rule ≡ EndsEarly)
+  of_value : (rule : Rule) → IsOfValue rule → (tokens bytes ≡ [] → rule ≡ UnexpectedEnd)
       → (rule ≡ Depth → NestsDeeper (tokens bytes)) → (IsOfBad rule → HasBad (tokens bytes)) → Breaks bytes rule
   of_value rule other blank depth no_token = record {
     utf8 = (λ e. absurd (other.0 e), λ n. absurd (n u));
@@ -65,8 +65,8 @@ module _ (bytes : List ℕ) (u : IsUtf8 bytes) (none : skip_value max_depth (tok
     no_token = no_token;
   }
 
-  pub at_end : Breaks bytes EndsEarly
-  at_end = of_value EndsEarly (λ e. absurd cc, λ e. absurd cc, λ e. absurd cc, λ e. absurd cc) (λ e. refl) (λ e. absurd cc) (λ h. absurd h)
+  pub at_end : Breaks bytes UnexpectedEnd
+  at_end = of_value UnexpectedEnd (λ e. absurd cc, λ e. absurd cc, λ e. absurd cc, λ e. absurd cc) (λ e. refl) (λ e. absurd cc) (λ h. absurd h)
 
   pub at_bad : (rule : Rule) (front rest : List Token) → tokens bytes ≡ front ++ bad ∷ rest
       → IsOfValue rule × (rule ≢ Depth) → Breaks bytes rule
@@ -90,7 +90,7 @@ module _ (bytes : List ℕ) (u : IsUtf8 bytes) (none : skip_value max_depth (tok
   at_token rule depth t front rest e count (inr (inl is)) = subst (λ r. Breaks bytes r) (sym is)
       (of_value Separator (λ f. absurd cc, λ f. absurd cc, λ f. absurd cc, λ f. absurd cc) (λ n. absurd (has_one front t rest (sym e ∙ n))) (λ f. absurd cc) (λ h. absurd h))
   at_token rule depth t front rest e count (inr (inr (inl is))) = subst (λ r. Breaks bytes r) (sym is)
-      (of_value BehindKey (λ f. absurd cc, λ f. absurd cc, λ f. absurd cc, λ f. absurd cc) (λ n. absurd (has_one front t rest (sym e ∙ n))) (λ f. absurd cc) (λ h. absurd h))
+      (of_value ExpectedColonAndValue (λ f. absurd cc, λ f. absurd cc, λ f. absurd cc, λ f. absurd cc) (λ n. absurd (has_one front t rest (sym e ∙ n))) (λ f. absurd cc) (λ h. absurd h))
   at_token rule depth t front rest e count (inr (inr (inr h))) = subst (λ r. Breaks bytes r) (sym h.0)
       (of_value Depth (λ f. absurd cc, λ f. absurd cc, λ f. absurd cc, λ f. absurd cc) (λ n. absurd (has_one front t rest (sym e ∙ n)))
       (λ f. deeper depth t front rest e count h.1 h.2) (λ x. absurd x))

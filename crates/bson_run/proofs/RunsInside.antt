@@ -6,7 +6,7 @@ use Rattle.bson.specs.declared.extjson.options.Options.{Options}
 use Rattle.bson_convert.specs.declared.error.Error.{Error}
 use Rattle.bson_convert.specs.declared.error.Error.TheVariants.{CannotRead, NotJson, NotExtendedJson, NoBytes, OutOfMemory}
 use Rattle.bson_convert.specs.declared.error.Error.TheVariants.{CannotWrite, NotCanonical}
-use Rattle.bson_run.specs.Lines.{lines, left_of, text_of, DoneLinesIn, FailsAtIn, GivesIn, IsBadLineIn, IsStoppedAtIn, StopsAtIn}
+use Rattle.bson_run.specs.Lines.{lines, left_of, line_text, DoneLinesIn, FailsAtIn, GivesIn, IsBadLineIn, IsStoppedAtIn, StopsAtIn}
 use Rattle.bson_run.specs.Lines.{WritesText}
 use Rattle.bson_run.specs.Outcomes.{IsOfText, StopsInside}
 use Rattle.bson_run.specs.declared.order.OnRefusal.{OnRefusal}
@@ -45,7 +45,7 @@ module _ (o : Options) (task : Task) (on_refusal : OnRefusal) where
     others : List (List ℕ)
     parts : all ≡ line ∷ others
     stops : on_refusal ≡ Stop
-    reason : IsBadLineIn o task fault (text_of n line)
+    reason : IsBadLineIn o task fault (line_text n line)
 
   at_line : (fault : Error) → IsOfText fault → (held : List ℕ) (n : ℕ) (all : List (List ℕ))
       → IsStoppedAtIn o task on_refusal fault held n all → AtLine fault n all

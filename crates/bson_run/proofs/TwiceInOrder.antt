@@ -13,11 +13,11 @@ use Rattle.bson_scalar.proofs.Offered as scalars
 use Rattle.bson_model.specs.Normal.{as_read, map_scalars, map_scalars_of_items, map_scalars_of_pairs, normal_form}
 use Rattle.bson_model.specs.Value.{Value, scalar, code_scope, array, document, Values, no_values, value, Pairs, no_pairs, pair}
 use Rattle.bson_model.proofs.Offered.{as_read_each}
-use Rattle.bson_order.specs.Kept.{kept, read_kept, unordered}
-use Rattle.bson_order.specs.Texts.{HasMeaningInOrder, IsOrderedTextOf}
-use Rattle.bson_order.specs.Writing.{writes_in_order, values_in_order, pairs_in_order}
-use Rattle.bson_order.specs.Written.{WrittenInOrder}
-use Rattle.bson_order.proofs.Offered.{default_written, one_written, ordered_text, text_means, written_from, written_to}
+use Rattle.bson_model.specs.Kept.{kept, read_kept, unordered}
+use Rattle.bson_model.specs.OrderedTexts.{HasMeaningInOrder, IsOrderedTextOf}
+use Rattle.bson_model.specs.OrderedWriting.{writes_in_order, values_in_order, pairs_in_order}
+use Rattle.bson_model.specs.OrderedWritten.{WrittenInOrder}
+use Rattle.bson_model.proofs.OfferedInOrder.{default_written, one_written, ordered_text, text_means, written_from, written_to}
 use Rattle.bson.specs.Texts.{IsTextInOrder}
 use Rattle.bson.specs.declared.extjson.options.Options.{Options}
 use Rattle.bson_convert.specs.Convert.{newline}

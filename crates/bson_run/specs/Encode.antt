@@ -2,12 +2,14 @@
 -- are none.
 use Rattle.std.specs.Prelude.{◌≡◌, ℕ, suc, List, IsUtf8}
 use Rattle.bson.specs.TextMeaning.{HasTextMeaningIn}
+use Rattle.bson.specs.declared.extjson.key_order.KeyOrder.{KeyOrder}
+use Rattle.bson.specs.declared.extjson.key_order.KeyOrder.TheVariants.{Ascending, AsGiven}
 use Rattle.bson.specs.declared.extjson.options.Options.{Options}
 use Rattle.bson_codec.specs.Canonical.{Cause, zero_in_key, zero_in_regex, too_long}
 use Rattle.bson_codec.specs.Canonical.{DocumentFails, FitsDocument, NestsPairs, as_written, document_bytes}
 use Rattle.bson_codec.specs.Laws.{IsRead}
 use Rattle.bson_model.specs.Value.{Value, Pairs, document}
-use Rattle.bson_order.specs.Texts.{HasMeaningInOrder}
+use Rattle.bson_model.specs.OrderedTexts.{HasMeaningInOrder}
 use Rattle.bson_convert.specs.Convert.{IsRefusedIn}
 use Rattle.bson_convert.specs.declared.no_bytes.NoBytes.{NoBytes}
 use Rattle.bson_convert.specs.declared.no_bytes.NoBytes.TheVariants.{NoDocument, ZeroInKey, ZeroInRegex, TooLong}
@@ -61,6 +63,15 @@ HasNoBytesIn o why text = HasNoBytesFor (HasTextMeaningIn o.doubles text) why
 abbrev pub HasNoBytesInOrder : Options → NoBytes → List ℕ → Type 0
 HasNoBytesInOrder o why text = HasNoBytesFor (MeansKept o text) why
 
+-- the text means the value, its keys in the order
+abbrev pub HasMeaningBy : KeyOrder → Options → List ℕ → Value → Type 0
+HasMeaningBy Ascending o text = HasTextMeaningIn o.doubles text
+HasMeaningBy AsGiven o text = MeansKept o text
+
+-- the text means a document, whose canonical bytes these are; they are read back as it
+abbrev pub Encodes : KeyOrder → Options → (text bytes : List ℕ) → Type 0
+Encodes k o text bytes = IsBytesOf (HasMeaningBy k o text) bytes
+
 -- what each fault says of the bytes
 abbrev pub IsUnencodedIn : Options → Error → List ℕ → Type 0
 IsUnencodedIn o (error.NoBytes why) text = HasNoBytesIn o why text
@@ -69,6 +80,10 @@ IsUnencodedIn o it text = IsRefusedIn o it text
 abbrev pub IsUnencodedInOrder : Options → Error → List ℕ → Type 0
 IsUnencodedInOrder o (error.NoBytes why) text = HasNoBytesInOrder o why text
 IsUnencodedInOrder o it text = IsRefusedIn o it text
+
+abbrev pub IsUnencodedBy : KeyOrder → Options → Error → List ℕ → Type 0
+IsUnencodedBy Ascending o fault text = IsUnencodedIn o fault text
+IsUnencodedBy AsGiven o fault text = IsUnencodedInOrder o fault text
 
 -- ---- for private clauses
 

@@ -8,10 +8,12 @@ use Rattle.bson_scalar.specs.declared.form.Form.{Form}
 use Rattle.bson_scalar.specs.declared.form.Form.TheVariants as form
 use Rattle.bson_model.specs.Displayed.{display_text}
 use Rattle.bson_model.specs.Value.{Value}
-use Rattle.bson_order.specs.Texts.{HasMeaningInOrder}
+use Rattle.bson_model.specs.OrderedTexts.{HasMeaningInOrder}
 use Rattle.bson.specs.Texts.{IsTextInOrder}
+use Rattle.bson.specs.declared.extjson.key_order.KeyOrder.{KeyOrder}
+use Rattle.bson.specs.declared.extjson.key_order.KeyOrder.TheVariants.{Ascending, AsGiven}
 use Rattle.bson.specs.declared.extjson.options.Options.{Options}
-use Rattle.bson_convert.specs.Convert.{newline}
+use Rattle.bson_convert.specs.Convert.{ConvertsIn, IsKeptIn, newline}
 use Rattle.bson_convert.specs.declared.mode.Mode.{Mode}
 use Rattle.bson_convert.specs.declared.mode.Mode.TheVariants.{Canonical, Relaxed, Show}
 
@@ -45,6 +47,18 @@ abbrev pub IsKeptInOrder : Options → Mode → List ℕ → Type 0
 IsKeptInOrder o Canonical output = ConvertsToItselfInOrder o form.Canonical Canonical output
 IsKeptInOrder o Relaxed output = ConvertsToItselfInOrder o form.Relaxed Relaxed output
 IsKeptInOrder o Show output = Unit {0}
+
+-- ---- in either order
+
+-- the input is converted to the output, its keys in the order
+abbrev pub ConvertsBy : KeyOrder → Options → Mode → List ℕ → List ℕ → Type 0
+ConvertsBy Ascending o mode input output = ConvertsIn o mode input output
+ConvertsBy AsGiven o mode input output = ConvertsInOrder o mode input output
+
+-- an output in a form is converted to itself
+abbrev pub IsKeptBy : KeyOrder → Options → Mode → List ℕ → Type 0
+IsKeptBy Ascending o mode output = IsKeptIn o mode output
+IsKeptBy AsGiven o mode output = IsKeptInOrder o mode output
 
 -- ---- for private clauses
 

@@ -17,7 +17,7 @@ use Rattle.bson_convert.specs.declared.error.Error.TheVariants.{CannotRead, NotJ
 use Rattle.bson_convert.specs.declared.error.Error.TheVariants.{CannotWrite, NotCanonical}
 use Rattle.bson_convert.specs.declared.mode.Mode.TheVariants.{Canonical}
 use Rattle.bson_convert.specs.declared.no_bytes.NoBytes as without
-use Rattle.bson_run.specs.declared.gathered.Gathered.{Gathered}
+use Rattle.bson_run.specs.declared.collected.Collected.{Collected}
 use Rattle.bson_run.specs.declared.lines.LineRun.{LineRun}
 use Rattle.bson_run.specs.declared.order.Criterion.{Criterion}
 use Rattle.bson_run.specs.declared.order.Criterion.TheVariants as criterion
@@ -29,7 +29,7 @@ use Rattle.bson_run.specs.declared.order.Task.TheVariants.{Write, WriteInOrder, 
 use Rattle.bson_run.specs.declared.order.Task.TheVariants.{Taken}
 use Rattle.bson_run.specs.declared.order.Work.{Work}
 use Rattle.bson_run.specs.declared.order.Work.TheVariants as work
-use Rattle.bson_place.specs.declared.place.Place.{Place}
+use Rattle.bson_tree.specs.declared.place.Place.{Place}
 use Rattle.bson_run.specs.Taken.{IsTakenAs, IsTurnedAway}
 
 -- ---- the lines of an input
@@ -49,8 +49,8 @@ abbrev pub byte_order_mark : List ℕ
 byte_order_mark = 239 ∷ 187 ∷ 191 ∷ []
 
 -- the text of a line that stands after so many others: a byte order mark at the start of the first is passed over
-abbrev pub text_of : ℕ → List ℕ → List ℕ
-text_of before line = if (before == 0) && starts_with (λ x y. x == y) line byte_order_mark then drop 3 line else line
+abbrev pub line_text : ℕ → List ℕ → List ℕ
+line_text before line = if (before == 0) && starts_with (λ x y. x == y) line byte_order_mark then drop 3 line else line
 
 -- ---- what a line gives
 
@@ -139,14 +139,14 @@ pub data OutcomesIn (o : Options) (task : Task) (on_refusal : OnRefusal)
     : List (List ℕ) → List ℕ → List ℕ → ℕ → Type 0 where
   none : OutcomesIn o task on_refusal [] [] [] 0
   blank : {before : List (List ℕ)} {output told : List ℕ} {refused : ℕ} (line : List ℕ)
-      → OutcomesIn o task on_refusal before output told refused → IsBlank (text_of (length before) line)
+      → OutcomesIn o task on_refusal before output told refused → IsBlank (line_text (length before) line)
       → OutcomesIn o task on_refusal (before ++ line ∷ []) output told refused
   written : {before : List (List ℕ)} {output told : List ℕ} {refused : ℕ} (line more : List ℕ)
-      → OutcomesIn o task on_refusal before output told refused → WritesIn o task (text_of (length before) line) more
+      → OutcomesIn o task on_refusal before output told refused → WritesIn o task (line_text (length before) line) more
       → OutcomesIn o task on_refusal (before ++ line ∷ []) (output ++ more) told refused
   passed_over : {before : List (List ℕ)} {output told : List ℕ} {refused : ℕ} (line : List ℕ) (fault : Error)
       (more : List ℕ) → OutcomesIn o task on_refusal before output told refused → on_refusal ≢ Stop
-      → IsBadLineIn o task fault (text_of (length before) line) → Tells (length before + 1) fault (text_of (length before) line) more
+      → IsBadLineIn o task fault (line_text (length before) line) → Tells (length before + 1) fault (line_text (length before) line) more
       → OutcomesIn o task on_refusal (before ++ line ∷ []) output (told ++ more) (refused + 1)
 
 -- the same, and texts that are written are UTF-8, as is what is told
@@ -242,7 +242,7 @@ IsStoppedAtIn o task on_refusal OutOfMemory held before others = Unit {0}
 IsStoppedAtIn o task on_refusal CannotWrite held before others = ⊥
 IsStoppedAtIn o task on_refusal fault held before [] = ⊥
 IsStoppedAtIn o task on_refusal fault held before (line ∷ others) =
-    (held ≡ text_of before line) × IsStoppedIn o task on_refusal fault held
+    (held ≡ line_text before line) × IsStoppedIn o task on_refusal fault held
 
 -- what each fault says of the bytes, and of the line whose number and text stand beside it: that it came for this
 -- reason, but for a fault of a writer
@@ -255,8 +255,8 @@ FailsAtIn o fault task on_refusal before after had holds told tells number held 
 
 -- the number of the line at which a run is: the first that was not done
 abbrev pub number_of : LineRun → ℕ
-number_of run = min (run.gathered.lines + 1) (2 ^ 64 - 1)
+number_of run = min (run.collected.lines + 1) (2 ^ 64 - 1)
 
--- the text of what is gathered of a line
-abbrev pub text_held : Gathered → List ℕ
-text_held gathered = text_of gathered.lines gathered.line.items
+-- the text of what is collected of a line
+abbrev pub text_held : Collected → List ℕ
+text_held collected = line_text collected.lines collected.line.items

@@ -8,16 +8,16 @@ pub use Rattle.bson.specs.declared.extjson.options.Options.{Options}
 pub use Rattle.bson_convert.specs.declared.error.Error.{Error}
 pub use Rattle.bson_convert.specs.declared.error.Error.TheVariants.{CannotRead, NotJson, NotExtendedJson, NoBytes, OutOfMemory}
 pub use Rattle.bson_convert.specs.declared.error.Error.TheVariants.{CannotWrite, NotCanonical}
-pub use Rattle.bson_run.specs.declared.gathered.Gathered.{Gathered}
+pub use Rattle.bson_run.specs.declared.collected.Collected.{Collected}
 pub use Rattle.bson_run.specs.declared.order.OnRefusal.{OnRefusal}
 pub use Rattle.bson_run.specs.declared.order.Task.{Task}
 
 -- no newline is in it
-abbrev pub IsOpen : List ℕ → Type 0
-IsOpen bytes = All (λ x. x ≢ 10) bytes
+abbrev pub HasNoNewline : List ℕ → Type 0
+HasNoNewline bytes = All (λ x. x ≢ 10) bytes
 
 -- numbers of lines can still be counted
-pub record HasRoom (s : Gathered) : Type 0 where
+pub record CountsFit (s : Collected) : Type 0 where
   pub lines : s.lines < 2 ^ 64 - 1
   pub refused : s.refused ≤ s.lines
 
@@ -35,8 +35,8 @@ abbrev pub IsTold : Options → Task → ℕ → Error → List ℕ → List ℕ
 IsTold o task number fault text before after =
     (more : List ℕ) × (IsBadLineIn o task fault text → Tells number fault text more) × (after ≡ before ++ more) × IsUtf8 more
 
--- nothing was gathered
-pub record IsStart (s : Gathered) : Type 0 where
+-- nothing was collected
+pub record IsStart (s : Collected) : Type 0 where
   pub line : s.line.items ≡ []
   pub output : s.output.items ≡ []
   pub told : s.told.items ≡ []
@@ -44,14 +44,14 @@ pub record IsStart (s : Gathered) : Type 0 where
   pub refused : s.refused ≡ 0
 
 -- the same was given by as many lines
-pub record HaveSameOutcomes (s t : Gathered) : Type 0 where
+pub record HaveSameOutcomes (s t : Collected) : Type 0 where
   pub output : t.output.items ≡ s.output.items
   pub told : t.told.items ≡ s.told.items
   pub lines : t.lines ≡ s.lines
   pub refused : t.refused ≡ s.refused
 
--- the line that was gathered is done, and added what it gives
-pub record TakesLine (o : Options) (task : Task) (on_refusal : OnRefusal) (s t : Gathered) : Type 0 where
+-- the line that was collected is done, and added what it gives
+pub record TakesLine (o : Options) (task : Task) (on_refusal : OnRefusal) (s t : Collected) : Type 0 where
   pub line : t.line.items ≡ []
   pub lines : t.lines ≡ s.lines + 1
   pub outcomes : (before : List (List ℕ)) (output told : List ℕ) → s.lines ≡ length before
@@ -62,31 +62,31 @@ pub record TakesLine (o : Options) (task : Task) (on_refusal : OnRefusal) (s t :
 -- the bytes are the lines that are done and what has come of the next; what was written and told is what the lines
 -- gave, but for what is still held
 pub record Progress (o : Options) (task : Task) (on_refusal : OnRefusal) (bytes output told : List ℕ)
-    (s : Gathered) : Type 0 where
+    (s : Collected) : Type 0 where
   pub done : List (List ℕ)
   pub whole : (more : List ℕ) → lines (bytes ++ more) ≡ done ++ lines (s.line.items ++ more)
-  pub unbroken : IsOpen s.line.items
+  pub unbroken : HasNoNewline s.line.items
   pub counted : s.lines ≡ length done
   pub outcomes : GivesIn o task on_refusal done (output ++ s.output.items) (told ++ s.told.items) s.refused
 
 -- the bytes came after any others
-abbrev pub Takes : Options → Task → OnRefusal → List ℕ → Gathered → Gathered → Type 0
+abbrev pub Takes : Options → Task → OnRefusal → List ℕ → Collected → Collected → Type 0
 Takes o task on_refusal bytes s t = (before output told : List ℕ) → Progress o task on_refusal before output told s
     → Progress o task on_refusal (before ++ bytes) output told t
 
 -- all lines of the bytes are done
 pub record Complete (o : Options) (task : Task) (on_refusal : OnRefusal) (bytes output told : List ℕ)
-    (s : Gathered) : Type 0 where
+    (s : Collected) : Type 0 where
   pub counted : s.lines ≡ length (lines bytes)
   pub outcomes : GivesIn o task on_refusal (lines bytes) (output ++ s.output.items) (told ++ s.told.items) s.refused
 
-abbrev pub Ends : Options → Task → OnRefusal → Gathered → Gathered → Type 0
+abbrev pub Ends : Options → Task → OnRefusal → Collected → Collected → Type 0
 Ends o task on_refusal s t = (before output told : List ℕ) → Progress o task on_refusal before output told s
     → Complete o task on_refusal before output told t
 
 -- the lines of an input that are done, and what they gave
 pub record Reached (o : Options) (task : Task) (on_refusal : OnRefusal) (input output told : List ℕ)
-    (s : Gathered) : Type 0 where
+    (s : Collected) : Type 0 where
   pub done : List (List ℕ)
   pub others : List (List ℕ)
   pub whole : lines input ≡ done ++ others
@@ -95,18 +95,18 @@ pub record Reached (o : Options) (task : Task) (on_refusal : OnRefusal) (input o
 
 -- the next line stops the run
 pub record Stopped (o : Options) (task : Task) (on_refusal : OnRefusal) (input output told : List ℕ) (fault : Error)
-    (s : Gathered) : Type 0 where
+    (s : Collected) : Type 0 where
   pub reached : Reached o task on_refusal input output told s
   pub reason : IsStoppedAtIn o task on_refusal fault (text_held s) (length reached.done) reached.others
 
 -- a line that ends among the bytes stops the run, whatever follows them
-abbrev pub StopsWithin : Options → Task → OnRefusal → List ℕ → Error → Gathered → Gathered → Type 0
+abbrev pub StopsWithin : Options → Task → OnRefusal → List ℕ → Error → Collected → Collected → Type 0
 StopsWithin o task on_refusal bytes fault s t = (before output told more : List ℕ)
     → Progress o task on_refusal before output told s
     → Stopped o task on_refusal ((before ++ bytes) ++ more) output told fault t
 
 -- the last line stops the run
-abbrev pub StopsLast : Options → Task → OnRefusal → Error → Gathered → Gathered → Type 0
+abbrev pub StopsLast : Options → Task → OnRefusal → Error → Collected → Collected → Type 0
 StopsLast o task on_refusal fault s t = (before output told : List ℕ)
     → Progress o task on_refusal before output told s → Stopped o task on_refusal before output told fault t
 
@@ -114,7 +114,7 @@ StopsLast o task on_refusal fault s t = (before output told : List ℕ)
 
 -- what a reader gave was taken, and all that the lines gave was written and told
 pub record Running (o : Options) (task : Task) (on_refusal : OnRefusal)
-    (before after had holds told tells : Option (List ℕ)) (s : Gathered) : Type 0 where
+    (before after had holds told tells : Option (List ℕ)) (s : Collected) : Type 0 where
   pub bytes : List ℕ
   pub output : List ℕ
   pub verdicts : List ℕ
@@ -131,7 +131,7 @@ CannotWriteBoth had holds told tells output verdicts =
     (WritesPart told tells verdicts × Keeps had holds) ⊎ (Appends told tells verdicts × WritesPart had holds output)
 
 -- nothing is held any more, and the lines are as they were
-pub record HasWritten (s t : Gathered) : Type 0 where
+pub record HasWritten (s t : Collected) : Type 0 where
   pub line : t.line.items ≡ s.line.items
   pub output : t.output.items ≡ []
   pub told : t.told.items ≡ []

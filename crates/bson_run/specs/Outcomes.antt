@@ -1,10 +1,10 @@
 -- The same lines have one outcome.
 use Rattle.std.specs.Prelude.{◌≡◌, ◌+◌, ℕ, List, [], ◌∷◌, ◌++◌, length}
 use Rattle.bson.specs.declared.extjson.options.Options.{Options}
-use Rattle.bson_place.specs.Place.{path_of}
+use Rattle.bson_tree.specs.Place.{path_of}
 use Rattle.bson_convert.specs.declared.error.Error.{Error}
 use Rattle.bson_convert.specs.declared.error.Error.TheVariants.{NotJson, NotExtendedJson, NoBytes, NotCanonical}
-use Rattle.bson_run.specs.Lines.{text_of, IsBadLineIn, OutcomesIn, Tells}
+use Rattle.bson_run.specs.Lines.{line_text, IsBadLineIn, OutcomesIn, Tells}
 use Rattle.bson_run.specs.declared.order.OnRefusal.{OnRefusal}
 use Rattle.bson_run.specs.declared.order.OnRefusal.TheVariants.{Stop}
 use Rattle.bson_run.specs.declared.order.Task.{Task}
@@ -44,4 +44,4 @@ pub record StopsInside (o : Options) (task : Task) (on_refusal : OnRefusal) (all
   pub outcomes : OutcomesIn o task on_refusal done output verdicts refused
   pub counted : number ≡ length done + 1
   pub stops : on_refusal ≡ Stop
-  pub reason : IsBadLineIn o task fault (text_of (length done) line)
+  pub reason : IsBadLineIn o task fault (line_text (length done) line)

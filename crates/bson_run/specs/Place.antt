@@ -12,18 +12,18 @@ use Rattle.json.specs.Token.{Token, begin_object, end_object, begin_array, end_a
 use Rattle.serde_json.specs.Data.{Data}
 use Rattle.serde_json.specs.Read.{max_depth}
 use Rattle.bson.specs.TextMeaning.{IsNoText, IsTextOf}
-use Rattle.bson_place.specs.Place.{dotted, path_of}
-use Rattle.bson_place.specs.declared.place.Place.{Place}
-use Rattle.bson_place.specs.declared.place.Reason.{Reason}
-use Rattle.bson_place.specs.declared.place.Reason.TheVariants.{BadObjectId, WrongShape}
+use Rattle.bson_tree.specs.Place.{dotted, path_of}
+use Rattle.bson_tree.specs.declared.place.Place.{Place}
+use Rattle.bson_tree.specs.declared.place.Reason.{Reason}
+use Rattle.bson_tree.specs.declared.place.Reason.TheVariants.{BadObjectId, WrongShape}
 use Rattle.bson_convert.specs.declared.error.Error.{Error}
 use Rattle.bson_convert.specs.declared.error.Error.TheVariants.{NotJson, NotExtendedJson, NotCanonical}
 use Rattle.bson_run.specs.declared.explain.Explanation.{Explanation}
 use Rattle.bson_run.specs.declared.explain.Explanation.TheVariants as explained
 use Rattle.bson_run.specs.declared.rule.Rule.{Rule}
-use Rattle.bson_run.specs.declared.rule.Rule.TheVariants.{Utf8, EndsEarly, MoreBehind, OutOfRange}
-use Rattle.bson_run.specs.declared.rule.Rule.TheVariants.{NoValue, Number, ControlCharacter, Escape, BehindComma}
-use Rattle.bson_run.specs.declared.rule.Rule.TheVariants.{Quotes, Separator, BehindKey, Depth, RewrittenDepth}
+use Rattle.bson_run.specs.declared.rule.Rule.TheVariants.{Utf8, UnexpectedEnd, TrailingData, OutOfRange}
+use Rattle.bson_run.specs.declared.rule.Rule.TheVariants.{NoValue, Number, ControlCharacter, Escape, ExpectedElement}
+use Rattle.bson_run.specs.declared.rule.Rule.TheVariants.{Quotes, Separator, ExpectedColonAndValue, Depth, RewrittenDepth}
 use Rattle.bson_run.specs.Words.{words_broken}
 
 -- a path that has no word is left out
@@ -70,8 +70,8 @@ IsReasonIn text (WrongShape expected) words =
 IsReasonIn text (BadObjectId why) words = Unit {0}
 
 -- the path to the place, and such a message
-abbrev pub IsPlaced : List ℕ → Place → List ℕ → Type 0
-IsPlaced text place words =
+abbrev pub IsPlacedMessage : List ℕ → Place → List ℕ → Type 0
+IsPlacedMessage text place words =
     (message : List ℕ) × IsReasonIn text place.reason message
     × (words ≡ at_path (told_as (dotted (path_of place))) ++ codes " (" ++ told_as message ++ codes ")")
 
@@ -115,7 +115,7 @@ IsOfBad NoValue = Unit {0}
 IsOfBad Number = Unit {0}
 IsOfBad ControlCharacter = Unit {0}
 IsOfBad Escape = Unit {0}
-IsOfBad BehindComma = Unit {0}
+IsOfBad ExpectedElement = Unit {0}
 IsOfBad rule = ⊥
 
 -- which rule bytes break that are no text: three are told exactly where they are broken; of a text of blanks it is told
@@ -125,8 +125,8 @@ pub record Breaks (bytes : List ℕ) (rule : Rule) : Type 0 where
   pub utf8 : rule ≡ Utf8 ↔ ¬ (IsUtf8 bytes)
   pub number : rule ≡ OutOfRange ↔ HasGrammar bytes × IsNoText bytes
   pub rewritten : rule ≡ RewrittenDepth ↔ HasTree bytes
-  pub more : rule ≡ MoreBehind ↔ HasMoreBehind bytes
-  pub blank : IsUtf8 bytes → tokens bytes ≡ [] → rule ≡ EndsEarly
+  pub more : rule ≡ TrailingData ↔ HasMoreBehind bytes
+  pub blank : IsUtf8 bytes → tokens bytes ≡ [] → rule ≡ UnexpectedEnd
   pub depth : rule ≡ Depth → NestsDeeper (tokens bytes)
   pub no_token : IsOfBad rule → HasBad (tokens bytes)
 
@@ -180,7 +180,7 @@ words_at text explained.Other = []
 -- where the fault of a text lies in it; nothing for a fault that no text has
 abbrev pub IsWhere : List ℕ → Error → List ℕ → Type 0
 IsWhere text NotJson words = IsStop text words
-IsWhere text (NotExtendedJson place) words = IsPlaced text place words
+IsWhere text (NotExtendedJson place) words = IsPlacedMessage text place words
 IsWhere text (NotCanonical column) words = words ≡ at_difference column
 IsWhere text other words = words ≡ []
 
@@ -188,10 +188,10 @@ IsWhere text other words = words ≡ []
 
 -- a rule that a text breaks which is UTF-8 and begins with no value
 abbrev pub IsOfValue : Rule → Type 0
-IsOfValue rule = (rule ≢ Utf8) × (rule ≢ OutOfRange) × (rule ≢ MoreBehind) × (rule ≢ RewrittenDepth)
+IsOfValue rule = (rule ≢ Utf8) × (rule ≢ OutOfRange) × (rule ≢ TrailingData) × (rule ≢ RewrittenDepth)
 
 -- one that a token breaks where it stands, so many brackets being open
 abbrev pub IsOfToken : ℕ → Token → Rule → Type 0
 IsOfToken depth token rule =
-    (rule ≡ Quotes) ⊎ (rule ≡ Separator) ⊎ (rule ≡ BehindKey)
+    (rule ≡ Quotes) ⊎ (rule ≡ Separator) ⊎ (rule ≡ ExpectedColonAndValue)
     ⊎ ((rule ≡ Depth) × (closes token ≡ 0) × (max_depth < depth + opens token))

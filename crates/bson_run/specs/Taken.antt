@@ -6,10 +6,10 @@ use Rattle.json.specs.Json.{Json}
 use Rattle.json.specs.Strict.{HasUniqueKeys}
 use Rattle.serde_json.specs.Data.{Data}
 use Rattle.serde_json.specs.Read.{read}
-use Rattle.bson_distinct.specs.Double.{json_of, HasDoubleKey}
-use Rattle.bson_legacy.specs.Text.{IsModernText}
-use Rattle.bson_place.specs.Place.{path_of}
-use Rattle.bson_place.specs.declared.place.Place.{Place}
+use Rattle.bson_tokens.specs.Double.{json_of, HasDuplicateKey}
+use Rattle.bson_v1.specs.Text.{IsUpgradedText}
+use Rattle.bson_tree.specs.Place.{path_of}
+use Rattle.bson_tree.specs.declared.place.Place.{Place}
 use Rattle.bson_convert.specs.declared.error.Error.{Error}
 use Rattle.bson_convert.specs.declared.error.Error.TheVariants.{NotExtendedJson, OutOfMemory}
 use Rattle.bson_run.specs.declared.order.Taking.{Taking}
@@ -21,21 +21,21 @@ HasNoDoubleKey bytes = (j : Json) → IsUtf8 bytes → json_of bytes ≡ Some j 
 
 -- the bytes are a JSON text, whose first key that stands twice lies at the place
 abbrev pub HasDoubleKeyAt : Place → List ℕ → Type 0
-HasDoubleKeyAt place bytes = IsUtf8 bytes × HasDoubleKey bytes (path_of place)
+HasDoubleKeyAt place bytes = IsUtf8 bytes × HasDuplicateKey bytes (path_of place)
 
 -- the bytes are not a JSON text whose numbers are in range
 abbrev pub IsNoJson : List ℕ → Type 0
 IsNoJson bytes = (d : Data) → IsUtf8 bytes → read bytes ≡ Some d → ⊥
 
 -- in the place of a JSON text stands that of the tree for which its tree stands; other bytes stay
-abbrev pub StandsFor : List ℕ → List ℕ → Type 0
-StandsFor bytes modern = (IsUtf8 bytes × IsModernText bytes modern) ⊎ (IsNoJson bytes × (modern ≡ bytes))
+abbrev pub UpgradesTo : List ℕ → List ℕ → Type 0
+UpgradesTo bytes upgraded = (IsUtf8 bytes × IsUpgradedText bytes upgraded) ⊎ (IsNoJson bytes × (upgraded ≡ bytes))
 
 -- the bytes are let through, and these are read in their place
 abbrev pub IsTakenAs : Taking → List ℕ → List ℕ → Type 0
 IsTakenAs Distinct bytes taken = HasNoDoubleKey bytes × (taken ≡ bytes)
-IsTakenAs Legacy bytes taken = StandsFor bytes taken
-IsTakenAs DistinctLegacy bytes taken = HasNoDoubleKey bytes × StandsFor bytes taken
+IsTakenAs Legacy bytes taken = UpgradesTo bytes taken
+IsTakenAs DistinctLegacy bytes taken = HasNoDoubleKey bytes × UpgradesTo bytes taken
 
 -- the bytes are refused before they are read
 abbrev pub IsTurnedAway : Taking → Place → List ℕ → Type 0

@@ -4,13 +4,13 @@ ghost use Rattle.bson_convert.specs.Convert.{ConvertsIn, IsRefusedIn};
 ghost use Rattle.bson_run.specs.Accepted.{HasOutput, IsSure, IsUtf8Accepted, Outputs};
 ghost use Rattle.bson_run.specs.InOrder.{ConvertsInOrder};
 
-use crate::in_order::{convert_whole_in_order, filter_once};
+use crate::convert::{convert_whole_in_order, filter_once};
 use bson::extjson::Options;
 use bson_convert::convert::{convert_whole, end_line};
-use bson_convert::converted::{Tried, arrange, refuse, try_text};
+use bson_convert::converted::{Tried, normalize, refuse, try_text};
 use bson_convert::error::Error;
 use bson_convert::mode::Mode;
-use bson_distinct::arrangement::Arrangement;
+use bson_tokens::arrangement::Arrangement;
 use json::Scratch;
 use std::alloc::Global;
 
@@ -31,13 +31,13 @@ pub enum Accepted {
     Output(Vec<u8>),
     /// A text to be written in the place of the one that was accepted: its output in the mode is that
     /// of the text.
-    Arranged(Mode, String),
+    Normalized(Mode, String),
     /// The same in the order of its keys.
-    ArrangedInOrder(Mode, String),
+    NormalizedInOrder(Mode, String),
 }
 
 impl Accepted {
-    /// Reads bytes in the mode, as [`convert_with`](bson_convert::convert::convert_with) does. A
+    /// Reads bytes in the mode, as [`convert_sorted`](bson_convert::convert::convert_sorted) does. A
     /// caller who needs rejected bytes need not keep them in memory next to the output.
     ///
     /// Bytes that cannot be written as they are read are checked for a fault at once. The check
@@ -55,12 +55,12 @@ impl Accepted {
     {
         match try_text(alloc, options, mode, bytes)? {
             Tried::Written(text) => Ok(Accepted::Output(end_line(text)?)),
-            Tried::Arranged(text) => Ok(Accepted::Arranged(mode, text)),
+            Tried::Normalized(text) => Ok(Accepted::Normalized(mode, text)),
         }
     }
 
-    /// [`Accepted::of`] in the order of the keys, as
-    /// [`convert_in_order`](crate::in_order::convert_in_order) gives it.
+    /// Reads bytes as [`Accepted::of`] does, in the order of the keys, as
+    /// [`convert_text`](crate::convert::convert_text) with keys as given writes it.
     ///
     /// # Errors
     ///
@@ -93,8 +93,8 @@ impl Accepted {
             Some(written) => Ok(Accepted::Output(end_line(written)?)),
             None => {
                 refuse(alloc, options, text)?;
-                let arranged = arrange(alloc, Arrangement::FirstPlaces, text)?;
-                Ok(Accepted::ArrangedInOrder(mode, arranged))
+                let normalized = normalize(alloc, Arrangement::FirstPlaces, text)?;
+                Ok(Accepted::NormalizedInOrder(mode, normalized))
             }
         }
     }
@@ -112,10 +112,10 @@ impl Accepted {
     {
         match self {
             Accepted::Output(output) => Ok(output),
-            Accepted::Arranged(mode, text) => {
+            Accepted::Normalized(mode, text) => {
                 convert_whole(alloc, options, mode, text.into_bytes())
             }
-            Accepted::ArrangedInOrder(mode, text) => {
+            Accepted::NormalizedInOrder(mode, text) => {
                 convert_whole_in_order(alloc, options, mode, text)
             }
         }

@@ -34,7 +34,7 @@ pub(crate) fn rule_of(text: &str, scratch: &mut Scratch) -> Result<Rule, AllocEr
             return Ok(rule);
         }
     }
-    Ok(Rule::EndsEarly)
+    Ok(Rule::UnexpectedEnd)
 }
 
 // What is open between two tokens.
@@ -67,7 +67,7 @@ impl Open {
             (λ rule. IsOfToken self.old.depth (token_of token.entry) rule) }
     {
         if self.lacks_colon {
-            return Some(Rule::BehindKey);
+            return Some(Rule::ExpectedColonAndValue);
         }
         match token {
             Token::Key(_) => return self.pass_key(),
@@ -107,10 +107,10 @@ impl Open {
 
     fn close(&mut self, is_object: bool) -> Option<Rule>
         ensures { MatchOption result (self.new.depth + 1 ≡ self.old.depth)
-            (λ rule. (rule ≡ Rule.BehindKey) ⊎ (rule ≡ Rule.Separator)) }
+            (λ rule. (rule ≡ Rule.ExpectedColonAndValue) ⊎ (rule ≡ Rule.Separator)) }
     {
         if self.wants_value {
-            return Some(Rule::BehindKey);
+            return Some(Rule::ExpectedColonAndValue);
         }
         if self.depth == 0 || self.is_object() != is_object {
             return Some(Rule::Separator);
@@ -128,10 +128,10 @@ fn rule_of_bad(bytes: &[u8], at: usize, wants_key: bool) -> Rule
 {
     let (before, there) = bytes.split_at(at.min(bytes.len()));
     let Some((first, rest)) = there.split_first() else {
-        return Rule::EndsEarly;
+        return Rule::UnexpectedEnd;
     };
     match before.trim_ascii_end().last() {
-        Some(b',') if matches!(*first, b',' | b':' | b']' | b'}') => Rule::BehindComma,
+        Some(b',') if matches!(*first, b',' | b':' | b']' | b'}') => Rule::ExpectedElement,
         None | Some(b',' | b':' | b'[' | b'{') => rule_of_beginning(*first, rest, wants_key),
         Some(_) => Rule::Separator,
     }
@@ -162,5 +162,5 @@ fn rule_of_text(bytes: &[u8]) -> Rule
             other => is_escaped = other == b'\\' && !is_escaped,
         }
     }
-    Rule::EndsEarly
+    Rule::UnexpectedEnd
 }

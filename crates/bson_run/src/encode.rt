@@ -3,29 +3,33 @@ ghost use Rattle.std.specs.Prelude.{◌≡◌, IfOk, IfErr, IfSome, ℕ, List, S
 ghost use Rattle.serde_json.specs.Data.{Data};
 ghost use Rattle.bson_model.specs.Means.{MeansIn};
 ghost use Rattle.bson_model.specs.Value.{Pairs, document};
-ghost use Rattle.bson_order.specs.Kept.{read_kept};
-ghost use Rattle.bson_order.specs.Means.{MeansInOrder};
+ghost use Rattle.bson_model.specs.Kept.{read_kept};
+ghost use Rattle.bson_model.specs.OrderedMeans.{MeansInOrder};
 ghost use Rattle.bson.specs.View.{bson_view};
 ghost use Rattle.bson.specs.TextMeaning.{IsTextOf};
 ghost use Rattle.bson_codec.specs.Canonical.{FitsDocument};
 ghost use Rattle.bson_codec.specs.Writing.{IsRefusal};
 ghost use Rattle.bson_codec.specs.Unwritten.TheVariants as errors;
-ghost use Rattle.bson_run.specs.Encode.{EncodesIn, EncodesInOrder, FailsAlone, IsBytesOf, IsUnencodedFor};
-ghost use Rattle.bson_run.specs.Encode.{IsUnencodedIn, IsUnencodedInOrder};
+ghost use Rattle.bson_run.specs.Encode.{Encodes, EncodesIn, EncodesInOrder, FailsAlone, IsBytesOf, IsUnencodedBy};
+ghost use Rattle.bson_run.specs.Encode.{IsUnencodedFor, IsUnencodedIn, IsUnencodedInOrder};
+ghost use Rattle.bson.specs.declared.extjson.key_order.KeyOrder.TheVariants.{Ascending, AsGiven};
 
 use bson::Bson;
-use bson::extjson::Options;
+use bson::extjson::{KeyOrder, Options};
+use bson_codec::pack::pack_text;
 use bson_codec::{ser, to_vec};
 use bson_convert::convert::error_of;
 use bson_convert::error::Error;
 use bson_convert::no_bytes::NoBytes;
-use bson_filter::stop::Stop;
-use bson_pack::pack::pack_text;
+use bson_text::stop::Stop;
 use json::Scratch;
 use std::alloc::Global;
 
-/// Returns the canonical bytes of the document that the text means, its keys in ascending order at
-/// every depth, as [`convert_with`](bson_convert::convert::convert_with) has them.
+/// Returns the canonical bytes of the document that the text means, its keys in the order that the
+/// options name, at every depth.
+///
+/// With `KeyOrder::AsGiven` it is the order of the text. If a key is duplicated, its last value wins,
+/// at its first position.
 ///
 /// # Errors
 ///
@@ -36,12 +40,51 @@ use std::alloc::Global;
 /// - `OutOfMemory`: an allocation failed.
 ///
 /// ```
-/// if let Ok(bytes) = encode_with(alloc, Options::default(), br#"{"n": 5, "a": 2}"#) {
+/// if let Ok(bytes) = encode(alloc, Options::mongodb(), br#"{"n": 5, "a": 2}"#) {
 ///     let document = from_slice(alloc, &bytes, DEPTH)?;
-///     println!(rt; "{document}")?; // { "a": 2, "n": 5 }
+///     println!(rt; "{document}")?; // { "n": 5, "a": 2 }
 /// }
 /// ```
-pub fn encode_with(alloc: Global, options: Options, bytes: &[u8]) -> Result<Vec<u8>, Error>
+pub fn encode(alloc: Global, options: Options, bytes: &[u8]) -> Result<Vec<u8>, Error>
+    ensures ok { IfOk result (λ out. Encodes options.key_order options bytes.now out.items) }
+    ensures accepts { (tree : Data) (ps : Pairs) → options.key_order ≡ Ascending → IsTextOf bytes.now tree
+        → MeansIn options.doubles tree (document ps) → FitsDocument ps
+        → IfErr result (λ fault. fault ≡ Error.OutOfMemory) }
+    ensures accepts_in_order { (tree : Data) (ps : Pairs) → options.key_order ≡ AsGiven → IsUtf8 bytes.now
+        → read_kept bytes.now ≡ Some tree → MeansInOrder options.doubles tree (document ps) → FitsDocument ps
+        → IfErr result (λ fault. fault ≡ Error.OutOfMemory) }
+    ensures fault { IfErr result (λ fault. IsUnencodedBy options.key_order options fault bytes.now) }
+{
+    encode_by(alloc, options.key_order, options, bytes)
+}
+
+fn encode_by(
+    alloc: Global,
+    order: KeyOrder,
+    options: Options,
+    bytes: &[u8],
+) -> Result<Vec<u8>, Error>
+    ensures ok { IfOk result (λ out. Encodes order options bytes.now out.items) }
+    ensures accepts { (tree : Data) (ps : Pairs) → order ≡ Ascending → IsTextOf bytes.now tree
+        → MeansIn options.doubles tree (document ps) → FitsDocument ps
+        → IfErr result (λ fault. fault ≡ Error.OutOfMemory) }
+    ensures accepts_in_order { (tree : Data) (ps : Pairs) → order ≡ AsGiven → IsUtf8 bytes.now
+        → read_kept bytes.now ≡ Some tree → MeansInOrder options.doubles tree (document ps) → FitsDocument ps
+        → IfErr result (λ fault. fault ≡ Error.OutOfMemory) }
+    ensures fault { IfErr result (λ fault. IsUnencodedBy order options fault bytes.now) }
+{
+    match order {
+        KeyOrder::Ascending => encode_sorted(alloc, options, bytes),
+        KeyOrder::AsGiven => encode_ordered(alloc, options, bytes),
+    }
+}
+
+/// Returns the bytes of [`encode`] with keys in ascending order, whatever the options say.
+///
+/// # Errors
+///
+/// The errors of [`encode`].
+pub fn encode_sorted(alloc: Global, options: Options, bytes: &[u8]) -> Result<Vec<u8>, Error>
     ensures ok { IfOk result (λ out. EncodesIn options bytes.now out.items) }
     ensures one { IfOk result (λ out. (other : List ℕ) → EncodesIn options bytes.now other → other ≡ out.items) }
     ensures accepts { (tree : Data) (ps : Pairs) → IsTextOf bytes.now tree
@@ -49,26 +92,22 @@ pub fn encode_with(alloc: Global, options: Options, bytes: &[u8]) -> Result<Vec<
         → IfErr result (λ fault. fault ≡ Error.OutOfMemory) }
     ensures fault { IfErr result (λ fault. IsUnencodedIn options fault bytes.now) }
 {
-    match Bson::try_from_text_with(alloc, options, bytes) {
+    let sorted = Options {
+        key_order: KeyOrder::Ascending,
+        ..options
+    };
+    match Bson::from_text(alloc, sorted, bytes) {
         Ok(value) => bytes_of(alloc, value),
         Err(error) => Err(error_of(error)),
     }
 }
 
-/// Returns the bytes of [`encode_with`], but each document has its keys in the order of the text,
-/// at every depth. If a key is duplicated, its last value wins, at its first position.
+/// Returns the bytes of [`encode`] with keys in the order of the text, whatever the options say.
 ///
 /// # Errors
 ///
-/// The errors of [`encode_with`].
-///
-/// ```
-/// if let Ok(bytes) = encode_in_order(alloc, Options::default(), br#"{"n": 5, "a": 2}"#) {
-///     let document = from_slice(alloc, &bytes, DEPTH)?;
-///     println!(rt; "{document}")?; // { "n": 5, "a": 2 }
-/// }
-/// ```
-pub fn encode_in_order(alloc: Global, options: Options, bytes: &[u8]) -> Result<Vec<u8>, Error>
+/// The errors of [`encode`].
+pub fn encode_ordered(alloc: Global, options: Options, bytes: &[u8]) -> Result<Vec<u8>, Error>
     ensures ok { IfOk result (λ out. EncodesInOrder options bytes.now out.items) }
     ensures one { IfOk result (λ out. (other : List ℕ) → EncodesInOrder options bytes.now other
         → other ≡ out.items) }
@@ -77,11 +116,11 @@ pub fn encode_in_order(alloc: Global, options: Options, bytes: &[u8]) -> Result<
         → IfErr result (λ fault. fault ≡ Error.OutOfMemory) }
     ensures fault { IfErr result (λ fault. IsUnencodedInOrder options fault bytes.now) }
 {
-    encode_line_in_order(alloc, options, bytes, &mut Scratch::new(alloc))
+    encode_line_ordered(alloc, options, bytes, &mut Scratch::new(alloc))
 }
 
-/// [`encode_in_order`] with the memory of a run.
-pub(crate) fn encode_line_in_order(
+/// [`encode_ordered`] with the memory of a run.
+pub(crate) fn encode_line_ordered(
     alloc: Global,
     options: Options,
     bytes: &[u8],
@@ -129,7 +168,11 @@ fn encode_whole(alloc: Global, options: Options, bytes: &[u8]) -> Result<Vec<u8>
         → IfErr result (λ fault. fault ≡ Error.OutOfMemory) }
     ensures fault { IfErr result (λ fault. IsUnencodedInOrder options fault bytes.now) }
 {
-    match Bson::try_from_text_in_order(alloc, options, bytes) {
+    let ordered = Options {
+        key_order: KeyOrder::AsGiven,
+        ..options
+    };
+    match Bson::from_text(alloc, ordered, bytes) {
         Ok(value) => bytes_of(alloc, value),
         Err(error) => Err(error_of(error)),
     }

@@ -1,6 +1,6 @@
 //! Why a text is rejected, and where: as data, and in words.
 ghost use Rattle.std.specs.Prelude.{◌≡◌, ◌++◌, codes, ℕ, List, IfOk, string_bytes};
-ghost use Rattle.bson_place.specs.Place.{dotted, path_of};
+ghost use Rattle.bson_tree.specs.Place.{dotted, path_of};
 ghost use Rattle.bson_run.specs.Place.{IsExplanation, IsQuote, IsReasonIn, IsWhere, at_difference, at_path, told_as};
 ghost use Rattle.bson_run.specs.Place.{words_at};
 
@@ -8,9 +8,9 @@ use crate::order::{Taking, Task};
 use crate::quoted::quote;
 use crate::shorten::shorten;
 use crate::stop::Stop;
-use crate::taken::{DOUBLE_KEY, take_as};
+use crate::taken::{DUPLICATE_KEY, take_as};
 use bson_convert::error::Error;
-use bson_place::place::{Place, Reason, Segment};
+use bson_tree::place::{Place, Reason, Segment};
 use std::alloc::{AllocError, Global};
 
 /// How many characters are told of a path, and of a message.
@@ -97,8 +97,8 @@ pub fn explain(alloc: Global, fault: &Error, text: &[u8]) -> Result<String, Allo
     explain_in(alloc, fault, text, None)
 }
 
-/// [`explain`] of a text that a task refused. If another text was read in its place, the path leads
-/// into that text. The value there is quoted only if the first text has it at that path, too.
+/// Explains why a task rejected a text, as [`explain`] does. If another text was read instead, the
+/// path leads into that text. The value there is quoted only if the first text has it at that path, too.
 ///
 /// # Errors
 ///
@@ -228,7 +228,7 @@ fn quote_at(
 ) -> Result<String, AllocError>
     ensures { IfOk result (λ words. IsQuote text.now (string_bytes words)) }
 {
-    if expected == DOUBLE_KEY {
+    if expected == DUPLICATE_KEY {
         return Ok(String::new(alloc));
     }
     let found = quote(alloc, segments, text)?;

@@ -9,22 +9,22 @@ ghost use Rattle.bson_run.specs.InOrder.{IsConvertedTextInOrder};
 ghost use Rattle.bson_run.specs.Indent.{mode_of, ConvertsIndented, ConvertsInOrderIndented, IsKeptIndented};
 ghost use Rattle.bson_run.specs.Indent.{IsKeptInOrderIndented, IsLaidOut};
 
-use crate::in_order::text_in_order;
+use crate::convert::text_in_order;
 use crate::indent::indent_text;
 use bson::extjson::{Form, Options};
-use bson_convert::convert::{end_line, text_with};
+use bson_convert::convert::{converted_text, end_line};
 use bson_convert::error::Error;
 use bson_convert::mode::Mode;
 use json::Scratch;
 use std::alloc::Global;
 
-/// Returns the text of [`convert_with`](bson_convert::convert::convert_with) in a form, over
+/// Returns the text of [`convert_sorted`](bson_convert::convert::convert_sorted) in a form, over
 /// several lines. [`indent_text`](crate::indent::indent_text) makes its layout with `spaces` for
 /// each bracket. The text and its layout are in memory together.
 ///
 /// # Errors
 ///
-/// The errors of `convert_with`, for the same bytes.
+/// The errors of `convert_sorted`, for the same bytes.
 ///
 /// ```
 /// let text = br#"{"a": {"$numberLong": "5"}, "b": []}"#;
@@ -55,12 +55,12 @@ pub fn convert_indented(
     lay_out(alloc, spaces, &text)
 }
 
-/// Returns the text of [`convert_in_order`](crate::in_order::convert_in_order) in a form, over
-/// several lines in the same way.
+/// Returns the text of [`convert_text`](crate::convert::convert_text) with keys as given in a
+/// form, over several lines in the same way.
 ///
 /// # Errors
 ///
-/// The errors of `convert_in_order`, for the same bytes.
+/// The errors of `convert_text`, for the same bytes.
 ///
 /// ```
 /// let text = br#"{"b": "x", "a": null}"#;
@@ -108,7 +108,7 @@ fn text_of(alloc: Global, options: Options, form: Form, bytes: &[u8]) -> Result<
         → MeansIn options.doubles tree value → IfErr result (λ fault. fault ≡ Error.OutOfMemory) }
     ensures fault { IfErr result (λ fault. IsRefusedIn options fault bytes.now) }
 {
-    Ok(into_string(text_with(alloc, options, mode_of(form), bytes)?))
+    Ok(into_string(converted_text(alloc, options, mode_of(form), bytes)?))
 }
 
 // The text in the form of the value that the bytes mean in the order of their keys, in that order.

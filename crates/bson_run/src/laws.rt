@@ -15,9 +15,10 @@ ghost use Rattle.bson_run.specs.declared.order.OnRefusal.{OnRefusal};
 ghost use Rattle.bson_run.specs.declared.order.Task.{Task};
 
 use bson_bytes::laws::{first_cause_is_one, what_fits_has_no_cause};
-use bson_distinct::laws::one_double;
+use bson_tokens::laws::one_double;
 
-/// The same lines have one output, and as many of them are refused, for the same faults.
+/// Proves that the same lines have one output, and that as many of them are rejected, for the same
+/// faults.
 pub fn one_outcome()
     ensures { (options : Options) (task : Task) (on_refusal : OnRefusal) (lines : List (List ℕ))
         (output other told tells : List ℕ) (refused left : ℕ)
@@ -30,8 +31,8 @@ pub fn one_outcome()
     first_cause_is_one();
 }
 
-/// A run over the same lines stops inside them at one line, for one fault. It has one output before
-/// that line, and the lines are not all done.
+/// Proves that a run over the same lines stops inside them at one line, for one fault. It has one
+/// output before that line, and the lines are not all done.
 pub fn one_stop()
     ensures stop { (options : Options) (task : Task) (on_refusal : OnRefusal) (lines : List (List ℕ))
         (output other told tells : List ℕ) (fault cause : Error) (number count : ℕ)
@@ -48,8 +49,8 @@ pub fn one_stop()
     first_cause_is_one();
 }
 
-/// An output in a form is accepted again: its own output is the same bytes, unless it nests deeper
-/// than texts may. A layout is laid out again as it is.
+/// Proves that an output in a form is accepted again: its own output is the same bytes, unless it
+/// nests deeper than texts may. A layout is laid out again as it is.
 pub fn outputs_are_kept()
     ensures ascending { (options : Options) (mode : Mode) (bytes output : List ℕ)
         → ConvertsIn options mode bytes output → IsUtf8 output → IsKeptIn options mode output }
@@ -63,8 +64,8 @@ pub fn outputs_are_kept()
         → IsKeptInOrderIndented options form spaces output }
 {}
 
-/// A run over known bytes that is done has done all of their lines. One that stops for a fault of a
-/// text stops inside them. What it wrote and told is what the lines before gave.
+/// Proves that a run over known bytes that is done has done all of their lines. One that stops for a
+/// fault of a text stops inside them. What it wrote and reported is that of the lines before.
 pub fn runs_are_inside()
     ensures done { (options : Options) (task : Task) (on_refusal : OnRefusal) (all : List ℕ)
         (after had holds told tells : Option (List ℕ)) (number refused : ℕ)

@@ -2,16 +2,15 @@
 ghost use Rattle.std.specs.Prelude.{◌≡◌, ◌+◌, ℕ, List, Option, IfOk, IfErr, OnOk, OnErr};
 ghost use Rattle.std.specs.Prelude.{string_bytes};
 ghost use Rattle.std.specs.Io.KnownBytes.{Appends, Consumes, IsAtEnd};
-ghost use Rattle.bson_convert.specs.Convert.{default_options};
+ghost use Rattle.bson.specs.Options.{default_options};
 ghost use Rattle.bson_run.specs.Lines.{DoneLinesIn, FailsAtIn, number_of, text_held};
-ghost use Rattle.bson_run.specs.LinesSteps.{CannotWriteBoth, HasRoom, HasWritten, IsCountedOut};
+ghost use Rattle.bson_run.specs.LinesSteps.{CannotWriteBoth, CountsFit, HasWritten, IsCountedOut};
 ghost use Rattle.bson_run.specs.LinesSteps.{IsStart, Running};
 ghost use Rattle.bson_run.specs.Place.{IsWhere};
 
-use crate::gathered::{Asked, Gathered, empty};
+use crate::collected::{Asked, Collected, empty};
 use crate::order::{OnRefusal, Task};
 use bson::extjson::Options;
-use bson_convert::convert::default_options;
 use bson_convert::error::Error;
 use bson_convert::stream::write_whole;
 use std::alloc::{AllocError, Global};
@@ -52,25 +51,25 @@ pub struct Counts {
 /// ```
 #[derive(Drop)]
 pub struct LineRun {
-    /// What a line means, and which values have a text.
+    /// What a line means, and which values have a text. The task says the order of keys.
     pub options: Options,
     /// What is done with each line.
     pub task: Task,
     /// What becomes of the run at a line that is refused.
     pub on_refusal: OnRefusal,
-    pub(crate) gathered: Gathered,
+    pub(crate) collected: Collected,
 }
 
 impl LineRun {
-    /// A run that did not begin, with the options by default.
+    /// Makes a run that did not begin, with the options by default.
     pub fn new(alloc: Global, task: Task, on_refusal: OnRefusal) -> LineRun
         ensures asked { (result.options ≡ default_options) × (result.task ≡ task) × (result.on_refusal ≡ on_refusal) }
     {
         LineRun {
-            options: default_options(),
+            options: Options::default(),
             task,
             on_refusal,
-            gathered: Gathered::new(alloc),
+            collected: Collected::new(alloc),
         }
     }
 
@@ -108,7 +107,7 @@ impl LineRun {
             (T.contents report.old) (T.contents report.new) counts.lines counts.refused) }
         ensures fails { IfErr result (λ e. FailsAtIn self.old.options e self.old.task self.old.on_refusal
             (R.remaining reader.old) (R.remaining reader.new) (W.contents writer.old) (W.contents writer.new)
-            (T.contents report.old) (T.contents report.new) (number_of self.new) (text_held self.new.gathered)) }
+            (T.contents report.old) (T.contents report.new) (number_of self.new) (text_held self.new.collected)) }
         ensures same { (self.new.options ≡ self.old.options) × (self.new.task ≡ self.old.task)
             × (self.new.on_refusal ≡ self.old.on_refusal) }
     {
@@ -117,16 +116,16 @@ impl LineRun {
             task: self.task,
             on_refusal: self.on_refusal,
         };
-        self.gathered = Gathered::new(alloc);
-        run_on(alloc, asked, &mut self.gathered, reader, writer, report)
+        self.collected = Collected::new(alloc);
+        run_on(alloc, asked, &mut self.collected, reader, writer, report)
     }
 
-    /// The number of the line at which the run is: the first that was not done. Lines are counted
-    /// from 1, and blank ones count.
+    /// Returns the number of the line at which the run is: the first that was not done. Lines are
+    /// counted from 1, and blank ones count.
     pub fn number(&self) -> u64
         ensures { result ≡ number_of self.now }
     {
-        self.gathered.lines.saturating_add(1)
+        self.collected.lines.saturating_add(1)
     }
 
     /// Returns where the line at which the run stopped is wrong, in the words of `explain_under`.
@@ -135,31 +134,31 @@ impl LineRun {
     ///
     /// `AllocError` if an allocation fails.
     pub fn place(&self, alloc: Global, fault: &Error) -> Result<String, AllocError>
-        ensures { IfOk result (λ place. IsWhere (text_held self.now.gathered) fault.now (string_bytes place)) }
+        ensures { IfOk result (λ place. IsWhere (text_held self.now.collected) fault.now (string_bytes place)) }
     {
-        self.gathered.place(alloc, self.task, fault)
+        self.collected.place(alloc, self.task, fault)
     }
 }
 
-// A run that has gathered nothing yet.
+// A run that has collected nothing yet.
 fn run_on<R: Read, W: Write, T: Write>(
     alloc: Global,
     asked: Asked,
-    gathered: &mut Gathered,
+    collected: &mut Collected,
     reader: &mut R,
     writer: &mut W,
     report: &mut T,
 ) -> Result<Counts, Error>
-    requires start { IsStart gathered.old }
-    requires room { HasRoom gathered.old }
-    ensures room { HasRoom gathered.new }
+    requires start { IsStart collected.old }
+    requires room { CountsFit collected.old }
+    ensures room { CountsFit collected.new }
     ensures done { IfOk result
         (λ counts. DoneLinesIn asked.options asked.task asked.on_refusal (R.remaining reader.old) (R.remaining reader.new)
         (W.contents writer.old) (W.contents writer.new) (T.contents report.old) (T.contents report.new) counts.lines
         counts.refused) }
     ensures fails { IfErr result
         (λ e. FailsAtIn asked.options e asked.task asked.on_refusal (R.remaining reader.old) (R.remaining reader.new)
-        (W.contents writer.old) (W.contents writer.new) (T.contents report.old) (T.contents report.new) (gathered.new.lines + 1) (text_held gathered.new)) }
+        (W.contents writer.old) (W.contents writer.new) (T.contents report.old) (T.contents report.new) (collected.new.lines + 1) (text_held collected.new)) }
 {
     let mut block = [0u8; BLOCK];
     for _ in 0..u64::MAX {
@@ -167,9 +166,9 @@ fn run_on<R: Read, W: Write, T: Write>(
             return Err(Error::CannotRead);
         };
         if count == 0 {
-            return end(alloc, asked, gathered, writer, report);
+            return end(alloc, asked, collected, writer, report);
         }
-        pass_on(alloc, asked, gathered, &block[..count], writer, report)?;
+        pass_on(alloc, asked, collected, &block[..count], writer, report)?;
     }
     // A count that no run reaches.
     Err(Error::CannotRead)
@@ -179,29 +178,29 @@ fn run_on<R: Read, W: Write, T: Write>(
 fn pass_on<W: Write, T: Write>(
     alloc: Global,
     asked: Asked,
-    gathered: &mut Gathered,
+    collected: &mut Collected,
     block: &[u8],
     writer: &mut W,
     report: &mut T,
 ) -> Result<(), Error>
-    requires room { HasRoom gathered.old }
-    ensures room { HasRoom gathered.new }
+    requires room { CountsFit collected.old }
+    ensures room { CountsFit collected.new }
     ensures ok { OnOk result ((before given after had told : Option (List ℕ))
         → Running asked.options asked.task asked.on_refusal before given had (W.contents writer.old) told (T.contents report.old)
-        gathered.old
+        collected.old
         → Consumes given after block.now
         → Running asked.options asked.task asked.on_refusal before after had (W.contents writer.new) told (T.contents report.new)
-        gathered.new) }
+        collected.new) }
     ensures fails { IfErr result (λ e. (before given after had told : Option (List ℕ))
         → Running asked.options asked.task asked.on_refusal before given had (W.contents writer.old) told (T.contents report.old)
-        gathered.old
+        collected.old
         → Consumes given after block.now
         → FailsAtIn asked.options e asked.task asked.on_refusal before after had (W.contents writer.new) told
-        (T.contents report.new) (gathered.new.lines + 1) (text_held gathered.new)) }
-    ensures count { IfErr result (λ e. IsCountedOut e gathered.new.lines) }
+        (T.contents report.new) (collected.new.lines + 1) (text_held collected.new)) }
+    ensures count { IfErr result (λ e. IsCountedOut e collected.new.lines) }
 {
-    let step = gathered.take(alloc, asked, block);
-    write_out(gathered, writer, report)?;
+    let step = collected.take(alloc, asked, block);
+    write_out(collected, writer, report)?;
     step
 }
 
@@ -209,60 +208,60 @@ fn pass_on<W: Write, T: Write>(
 fn end<W: Write, T: Write>(
     alloc: Global,
     asked: Asked,
-    gathered: &mut Gathered,
+    collected: &mut Collected,
     writer: &mut W,
     report: &mut T,
 ) -> Result<Counts, Error>
-    requires room { HasRoom gathered.old }
-    ensures room { HasRoom gathered.new }
+    requires room { CountsFit collected.old }
+    ensures room { CountsFit collected.new }
     ensures done { IfOk result (λ counts. (before after had told : Option (List ℕ))
         → Running asked.options asked.task asked.on_refusal before after had (W.contents writer.old) told (T.contents report.old)
-        gathered.old
+        collected.old
         → IsAtEnd after
         → DoneLinesIn asked.options asked.task asked.on_refusal before after had (W.contents writer.new) told
         (T.contents report.new) counts.lines counts.refused) }
     ensures fails { IfErr result (λ e. (before after had told : Option (List ℕ))
         → Running asked.options asked.task asked.on_refusal before after had (W.contents writer.old) told (T.contents report.old)
-        gathered.old
+        collected.old
         → IsAtEnd after
         → FailsAtIn asked.options e asked.task asked.on_refusal before after had (W.contents writer.new) told
-        (T.contents report.new) (gathered.new.lines + 1) (text_held gathered.new)) }
-    ensures count { IfErr result (λ e. IsCountedOut e gathered.new.lines) }
+        (T.contents report.new) (collected.new.lines + 1) (text_held collected.new)) }
+    ensures count { IfErr result (λ e. IsCountedOut e collected.new.lines) }
 {
-    let step = gathered.take_last(alloc, asked);
-    write_out(gathered, writer, report)?;
+    let step = collected.take_last(alloc, asked);
+    write_out(collected, writer, report)?;
     step?;
     Ok(Counts {
-        lines: gathered.lines,
-        refused: gathered.refused,
+        lines: collected.lines,
+        refused: collected.refused,
     })
 }
 
 // Writes what is held, and tells what is untold. The verdicts come first, so that a writer that
 // takes no more hides none.
 fn write_out<W: Write, T: Write>(
-    gathered: &mut Gathered,
+    collected: &mut Collected,
     writer: &mut W,
     report: &mut T,
 ) -> Result<(), Error>
-    requires room { HasRoom gathered.old }
-    ensures room { HasRoom gathered.new }
-    ensures ok { OnOk result (HasWritten gathered.old gathered.new) }
-    ensures written { OnOk result (Appends (W.contents writer.old) (W.contents writer.new) gathered.old.output.items) }
-    ensures reported { OnOk result (Appends (T.contents report.old) (T.contents report.new) gathered.old.told.items) }
+    requires room { CountsFit collected.old }
+    ensures room { CountsFit collected.new }
+    ensures ok { OnOk result (HasWritten collected.old collected.new) }
+    ensures written { OnOk result (Appends (W.contents writer.old) (W.contents writer.new) collected.old.output.items) }
+    ensures reported { OnOk result (Appends (T.contents report.old) (T.contents report.new) collected.old.told.items) }
     ensures cut { OnErr result
         (CannotWriteBoth (W.contents writer.old) (W.contents writer.new) (T.contents report.old)
-        (T.contents report.new) gathered.old.output.items gathered.old.told.items) }
-    ensures same { OnErr result (gathered.new.lines ≡ gathered.old.lines) }
+        (T.contents report.new) collected.old.output.items collected.old.told.items) }
+    ensures same { OnErr result (collected.new.lines ≡ collected.old.lines) }
     ensures fault { IfErr result (λ e. e ≡ Error.CannotWrite) }
 {
-    let Ok(()) = write_whole(report, &gathered.told) else {
+    let Ok(()) = write_whole(report, &collected.told) else {
         return Err(Error::CannotWrite);
     };
-    let Ok(()) = write_whole(writer, &gathered.output) else {
+    let Ok(()) = write_whole(writer, &collected.output) else {
         return Err(Error::CannotWrite);
     };
-    empty(&mut gathered.output);
-    gathered.told.clear();
+    empty(&mut collected.output);
+    collected.told.clear();
     Ok(())
 }

@@ -93,7 +93,7 @@ pub enum Work {
 }
 
 impl Task {
-    /// The task of this name: that of a mode, whose output is written, `check` or `encode`.
+    /// Returns the task of this name: that of a mode, whose output is written, `check` or `encode`.
     pub fn from_name(name: &str) -> Option<Task>
         ensures named { IfSome result (λ task. name.now ≡ task_name task) }
         ensures other { result ≡ None → (task : Task) → name.now ≡ task_name task → ⊥ }

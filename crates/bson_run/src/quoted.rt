@@ -3,8 +3,8 @@ ghost use Rattle.std.specs.Prelude.{◌≡◌, IfOk, IfSome, string_bytes};
 ghost use Rattle.bson_run.specs.Place.{IsPart, IsQuote, found_as};
 
 use crate::shorten::shorten;
-use bson_place::place::Segment;
 use bson_tokens::MAX_DEPTH;
+use bson_tree::place::Segment;
 use json::{Invalid, Reader, Scratch, Token};
 use std::alloc::{AllocError, Global};
 

@@ -14,7 +14,7 @@ pub enum Rule {
     /// The bytes are no UTF-8.
     Utf8,
     /// The text ends before its value is whole; a text of blanks too.
-    EndsEarly,
+    UnexpectedEnd,
     /// A key has no double quotes, or a text has others.
     Quotes,
     /// No value begins as it does there.
@@ -29,13 +29,13 @@ pub enum Rule {
     /// is not open, or a key stands outside of an object.
     Separator,
     /// No element stands behind a comma.
-    BehindComma,
+    ExpectedElement,
     /// No colon stands behind a key, or no value behind the colon.
-    BehindKey,
+    ExpectedColonAndValue,
     /// Arrays and objects nest deeper than 127.
     Depth,
     /// More stands behind the value.
-    MoreBehind,
+    TrailingData,
     /// The text has the grammar of JSON, but a number in it has no finite nearest double.
     OutOfRange,
     /// The text is JSON, but the rewritten text that is read instead nests deeper than 127.
@@ -43,23 +43,23 @@ pub enum Rule {
 }
 
 impl Rule {
-    /// What a program says of it.
+    /// Returns what a program says of the rule.
     pub fn message(self) -> &'static str
         ensures { result.now ≡ words_broken self }
     {
         match self {
             Rule::Utf8 => "invalid UTF-8",
-            Rule::EndsEarly => "unexpected end of input",
+            Rule::UnexpectedEnd => "unexpected end of input",
             Rule::Quotes => "keys and strings must be in double quotes",
             Rule::NoValue => "expected a value",
             Rule::Number => "invalid number",
             Rule::ControlCharacter => "unescaped control character in a string",
             Rule::Escape => "invalid escape sequence",
             Rule::Separator => "expected a comma or a closing bracket",
-            Rule::BehindComma => "expected an element after the comma",
-            Rule::BehindKey => "expected a colon and a value after the key",
+            Rule::ExpectedElement => "expected an element after the comma",
+            Rule::ExpectedColonAndValue => "expected a colon and a value after the key",
             Rule::Depth => "nested more than 127 levels deep",
-            Rule::MoreBehind => "unexpected data after the value",
+            Rule::TrailingData => "unexpected data after the value",
             Rule::OutOfRange => "number out of range",
             Rule::RewrittenDepth => "the rewritten input is nested more than 127 levels deep",
         }

@@ -5,9 +5,9 @@ ghost use Rattle.bson_run.specs.Place.{Breaks, HasGrammar, HasTree, at_column, b
 
 use crate::broken::rule_of;
 use crate::rule::Rule;
-use bson_distinct::arrange::arrange_text;
-use bson_distinct::arrangement::Arrangement;
 use bson_tokens::MAX_DEPTH;
+use bson_tokens::arrangement::Arrangement;
+use bson_tokens::normalize::normalize_text;
 use bson_tokens::number::number;
 use json::{Reader, Scratch, Token};
 use std::alloc::{AllocError, Global};
@@ -57,7 +57,7 @@ impl Stop {
         }
     }
 
-    /// The line on which it lies, counted from 1.
+    /// Returns the line on which it lies, counted from 1.
     pub fn line(self, bytes: &[u8]) -> usize
         ensures { result ≡ line_at self.offset bytes.now }
     {
@@ -65,7 +65,7 @@ impl Stop {
         1 + before.iter().filter(|byte| **byte == b'\n').count()
     }
 
-    /// The column of the byte there, or of the last where the bytes end, counted from 1.
+    /// Returns the column of the byte there, or of the last byte if the bytes end, counted from 1.
     pub fn column(self, bytes: &[u8]) -> usize
         ensures { result ≡ column_at self.offset bytes.now }
     {
@@ -113,7 +113,7 @@ fn stop_in(alloc: Global, text: &str) -> Result<Stop, AllocError>
         return Ok(Stop {
             offset: reader.offset(),
             is_number: false,
-            rule: Rule::MoreBehind,
+            rule: Rule::TrailingData,
         });
     }
     if has_tree(alloc, text)? {
@@ -135,7 +135,7 @@ fn has_tree(alloc: Global, text: &str) -> Result<bool, AllocError>
     ensures yes { IfOk result (λ has. IsTrue has → HasTree text.now) }
     ensures no { IfOk result (λ has. has ≡ false → IsNoText text.now) }
 {
-    match arrange_text(alloc, Arrangement::FirstPlaces, text) {
+    match normalize_text(alloc, Arrangement::FirstPlaces, text) {
         Ok(_) => Ok(true),
         Err(json::Error::Invalid) => Ok(false),
         Err(_) => Err(AllocError),

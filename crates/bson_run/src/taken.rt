@@ -1,23 +1,23 @@
 //! Texts that are looked at before they are read.
 ghost use Rattle.std.specs.Prelude.{◌≡◌, IfErr, IfOk, OnOk};
-ghost use Rattle.bson_run.specs.Taken.{HasNoDoubleKey, IsTakenAs, IsUntaken, StandsFor, taken_of};
+ghost use Rattle.bson_run.specs.Taken.{HasNoDoubleKey, IsTakenAs, IsUntaken, UpgradesTo, taken_of};
 ghost use Rattle.bson_run.specs.declared.order.Taking.TheVariants.{Distinct};
 
 use crate::order::Taking;
 use bson_convert::error::Error;
-use bson_distinct::walk::first_double_key;
-use bson_legacy::modern::modern_text;
-use bson_place::place::{Place, Reason};
+use bson_tokens::walk::first_duplicate_key;
+use bson_tree::place::{Place, Reason};
+use bson_v1::upgraded::upgraded_text;
 use std::alloc::Global;
 
 /// What is told of a key that stands twice.
-pub(crate) const DOUBLE_KEY: &str = "duplicate key";
+pub(crate) const DUPLICATE_KEY: &str = "duplicate key";
 
 /// Returns the text that is read instead of the bytes, or `None` if the bytes themselves are read.
 ///
 /// With `Distinct` and `DistinctLegacy` a JSON text may have no duplicate key, at any depth and in
 /// wrappers too. Keys are compared after their escapes are read. With `Legacy` and `DistinctLegacy`
-/// the text is that of [`modern_text`]. Bytes that are not a JSON text are left to the reader.
+/// the text is that of [`upgraded_text`]. Bytes that are not a JSON text are left to the reader.
 ///
 /// # Errors
 ///
@@ -37,29 +37,29 @@ pub fn take_as(alloc: Global, taking: Taking, bytes: &[u8]) -> Result<Option<Str
 {
     match taking {
         Taking::Distinct => {
-            refuse_double_keys(alloc, bytes)?;
+            reject_duplicate_keys(alloc, bytes)?;
             Ok(None)
         }
-        Taking::Legacy => modernize(alloc, bytes),
+        Taking::Legacy => upgrade(alloc, bytes),
         Taking::DistinctLegacy => {
-            refuse_double_keys(alloc, bytes)?;
-            modernize(alloc, bytes)
+            reject_duplicate_keys(alloc, bytes)?;
+            upgrade(alloc, bytes)
         }
     }
 }
 
 // Refuses a text in which a key stands twice.
-fn refuse_double_keys(alloc: Global, bytes: &[u8]) -> Result<(), Error>
+fn reject_duplicate_keys(alloc: Global, bytes: &[u8]) -> Result<(), Error>
     ensures ok { OnOk result (HasNoDoubleKey bytes.now) }
     ensures fault { IfErr result (λ fault. IsUntaken Distinct fault bytes.now) }
 {
     let Ok(text) = simdutf8::compat::from_utf8(bytes) else {
         return Ok(());
     };
-    match first_double_key(alloc, text) {
+    match first_duplicate_key(alloc, text) {
         Ok(None) | Err(json::Error::Invalid) => Ok(()),
         Ok(Some(segments)) => {
-            let reason = Reason::WrongShape(DOUBLE_KEY);
+            let reason = Reason::WrongShape(DUPLICATE_KEY);
             Err(Error::NotExtendedJson(Place { reason, segments }))
         }
         Err(_) => Err(Error::OutOfMemory),
@@ -67,14 +67,14 @@ fn refuse_double_keys(alloc: Global, bytes: &[u8]) -> Result<(), Error>
 }
 
 // The text in the place of one of v1; none for what is no JSON text.
-fn modernize(alloc: Global, bytes: &[u8]) -> Result<Option<String>, Error>
-    ensures ok { IfOk result (λ text. StandsFor bytes.now (taken_of bytes.now text)) }
+fn upgrade(alloc: Global, bytes: &[u8]) -> Result<Option<String>, Error>
+    ensures ok { IfOk result (λ text. UpgradesTo bytes.now (taken_of bytes.now text)) }
     ensures fault { IfErr result (λ fault. fault ≡ Error.OutOfMemory) }
 {
     let Ok(text) = simdutf8::compat::from_utf8(bytes) else {
         return Ok(None);
     };
-    match modern_text(alloc, text) {
+    match upgraded_text(alloc, text) {
         Ok(text) => Ok(Some(text)),
         Err(json::Error::Invalid) => Ok(None),
         Err(_) => Err(Error::OutOfMemory),

@@ -10,14 +10,14 @@ use Rattle.std.proofs.lemmas.Slice.Eq.{bytes_eq-Decides}
 use Rattle.bson_decimal.specs.declared.ParseError.{ParseError}
 use Rattle.bson_decimal.specs.FromStr.{ParsesTo}
 use Rattle.bson_decimal.specs.Pattern.{first_form, normal_decimal}
-use Rattle.bson_decimal.specs.Displayed.{display_text as decimal_text}
+use Rattle.bson_decimal.specs.Displayed.{decimal128_text as decimal_text}
 use Rattle.bson_decimal.specs.Steps.{finite}
 use Rattle.bson_decimal.specs.Text.{Parses, SpecialWord, nan, snan, infinity, inf, lowercase}
 use Rattle.bson_decimal.proofs.Offered.{special-parses, finite-parses, refused-parses, display_text-parses}
 use Rattle.bson_decimal.proofs.Offered.{display_text-same, display_text-canon}
 use Rattle.serde_json.specs.Data.{Data}
 use Rattle.bson_scalar.specs.Means.{MeansScalar, number_decimal}
-use Rattle.bson_scalar.specs.Reading.{word_of, decimal_at, decimal_of, decimal_read}
+use Rattle.bson_scalar.specs.Reading.{special_decimal, decimal_at, decimal_pattern, decimal_read}
 use Rattle.bson_scalar.specs.Scalar.{Scalar}
 use Rattle.bson_scalar.specs.Shapes.{object_of_one}
 use Rattle.bson_scalar.proofs.InverseLemmas.{means_by, un_ok, text_then, some_then}
@@ -52,7 +52,7 @@ word_is-at w false false true d e f g h = infinity (same _ _ g)
 word_is-at w false false false true e f g h = inf (same _ _ h)
 word_is-at w false false false false e f g h = no_word w e f g h
 
-word_is : (w : List ℕ) → WordIs w (word_of w)
+word_is : (w : List ℕ) → WordIs w (special_decimal w)
 word_is w = word_is-at w _ _ _ _ refl refl refl refl
 
 -- the pattern is that of the text, and there is no other
@@ -70,8 +70,8 @@ answers_at : (s : List ℕ) (o : Option ℕ) → WordIs (without_leading_sign s)
 answers_at s None plain = finite_answers s plain _ refl
 answers_at s (Some n) word = special-parses s n word
 
-answers : (s : List ℕ) → Answers s (decimal_of s)
-unfolding decimal_of
+answers : (s : List ℕ) → Answers s (decimal_pattern s)
+unfolding decimal_pattern
 answers s = answers_at s _ (word_is (without_leading_sign s))
 
 from_answer : (s b : List ℕ) (o : Option (List ℕ)) → Answers s o → Parses s b → o ≡ Some b
@@ -82,10 +82,10 @@ to_answer : (s b : List ℕ) (o : Option (List ℕ)) → Answers s o → o ≡ S
 to_answer s b None h e = cc
 to_answer s b (Some d) h e = let is : d ≡ b = cc in subst (Parses s) is h.0
 
-pub decimal_of-some : (s b : List ℕ) → Parses s b → decimal_of s ≡ Some b
+pub decimal_of-some : (s b : List ℕ) → Parses s b → decimal_pattern s ≡ Some b
 decimal_of-some s b p = from_answer s b _ (answers s) p
 
-pub decimal_of-from : (s b : List ℕ) → decimal_of s ≡ Some b → Parses s b
+pub decimal_of-from : (s b : List ℕ) → decimal_pattern s ≡ Some b → Parses s b
 decimal_of-from s b e = to_answer s b _ (answers s) e
 
 none_from : (s : List ℕ) (o : Option (List ℕ)) → Answers s o → ((b : List ℕ) → ¬ (Parses s b)) → o ≡ None
@@ -93,11 +93,11 @@ none_from s None h never = refl
 none_from s (Some d) h never = absurd (never d h.0)
 
 -- what a parser of the text gives
-pub parsed_decimal : (s : List ℕ) (r : Result (List ℕ) ParseError) → ParsesTo s r → result_ok r ≡ decimal_of s
+pub parsed_decimal : (s : List ℕ) (r : Result (List ℕ) ParseError) → ParsesTo s r → result_ok r ≡ decimal_pattern s
 parsed_decimal s (Ok d) h = sym (decimal_of-some s d h.0)
 parsed_decimal s (Err k) h = sym (none_from s _ (answers s) h.0)
 
-pub decimal_of-display_text : (b : List ℕ) → decimal_of (decimal_text b) ≡ Some (normal_decimal b)
+pub decimal_of-display_text : (b : List ℕ) → decimal_pattern (decimal_text b) ≡ Some (normal_decimal b)
 decimal_of-display_text b = decimal_of-some (decimal_text b) (normal_decimal b) (display_text-parses b)
 
 pub canon-again : (b : List ℕ) → normal_decimal (normal_decimal b) ≡ normal_decimal b
@@ -107,5 +107,5 @@ pub decimal_from : (d : Data) (x : Scalar) → decimal_read d ≡ Ok x
     → MeansScalar (object_of_one (codes "$numberDecimal") d) x
 decimal_from d x h =
     let t = text_then d _ x h in
-    let b = some_then (decimal_of t.0) _ x t.2 in
+    let b = some_then (decimal_pattern t.0) _ x t.2 in
     means_by (codes "$numberDecimal") d _ x _ t.1 (un_ok _ _ b.2) (number_decimal t.0 b.0 (decimal_of-from t.0 b.0 b.1))

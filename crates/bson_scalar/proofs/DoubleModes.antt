@@ -7,8 +7,8 @@ use Rattle.serde_json.specs.Data.{Data}
 use Rattle.serde_json.specs.Data as tree
 use Rattle.bson_double.specs.Doubles.{is_finite, finite_of}
 use Rattle.bson_double.proofs.Offered.{read_back}
-use Rattle.bson_scalar.specs.Doubles.{double_of, double_in, double_text, text_in, normal_double}
-use Rattle.bson_scalar.specs.Doubles.{is_special, is_writable, or_finite_text, or_finite_of, IsTextIn}
+use Rattle.bson_scalar.specs.Doubles.{double_pattern, double_in, double_text, text_in, normal_double}
+use Rattle.bson_scalar.specs.Doubles.{is_special, is_writable, or_finite_text, or_finite_of, IsDoubleTextIn}
 use Rattle.bson_scalar.specs.Means.{MeansScalarIn, MeansScalar, number_double, nearest_to_text}
 use Rattle.bson_scalar.specs.Normal.{IsReadScalarIn, IsReadScalar}
 use Rattle.bson_scalar.specs.Reading.{double_read_in}
@@ -17,7 +17,7 @@ use Rattle.bson_scalar.specs.Shapes.{object_of_one}
 use Rattle.bson_scalar.specs.declared.form.Doubles.{Doubles}
 use Rattle.bson_scalar.specs.declared.form.Doubles.TheVariants.{Special, Finite}
 use Rattle.bson_scalar.proofs.DoubleLaws.{double_form, double_again, double_text-form, special_is}
-use Rattle.bson_scalar.specs.Shortest.{finite_text}
+use Rattle.bson_scalar.specs.Shortest.{finite_double_text}
 use Rattle.bson_scalar.proofs.FiniteDoubles.{finite_normal, finite_text_to, special_text_is, agree}
 use Rattle.bson_scalar.proofs.ShortestText.{finite_text-some, finite_text_is}
 use Rattle.bson_scalar.proofs.InverseLemmas.{un_ok, text_then, some_then}
@@ -30,7 +30,7 @@ in_each Special h = h
 in_each Finite h = inl h
 
 -- the mode `Finite` reads a text as the grammar says
-two_ways : (o : Option ℕ) (s : List ℕ) (p : ℕ) → double_of s ≡ o → or_finite_of o s ≡ Some p
+two_ways : (o : Option ℕ) (s : List ℕ) (p : ℕ) → double_pattern s ≡ o → or_finite_of o s ≡ Some p
     → MeansScalarIn Finite (object_of_one (codes "$numberDouble") (tree.string s)) (double p)
 two_ways (Some q) s p is h = inl (number_double s p (is ∙ h))
 two_ways None s p is h = inr (nearest_to_text s p h)
@@ -38,7 +38,7 @@ two_ways None s p is h = inr (nearest_to_text s p h)
 pub double_means : (m : Doubles) (s : List ℕ) (p : ℕ) → double_in m s ≡ Some p
     → MeansScalarIn m (object_of_one (codes "$numberDouble") (tree.string s)) (double p)
 double_means Special s p h = number_double s p h
-double_means Finite s p h = two_ways (double_of s) s p refl h
+double_means Finite s p h = two_ways (double_pattern s) s p refl h
 
 pub double_from : (m : Doubles) (d : Data) (x : Scalar) → double_read_in m d ≡ Ok x
     → MeansScalarIn m (object_of_one (codes "$numberDouble") d) x
@@ -49,16 +49,16 @@ double_from m d x h =
     (subst (λ y. MeansScalarIn m (object_of_one (codes "$numberDouble") (tree.string t.0)) y) (sym (un_ok _ _ n.2))
     (double_means m t.0 n.0 n.1))
 
-pub double_to : (m : Doubles) (s : List ℕ) (p : ℕ) → double_of s ≡ Some p → double_in m s ≡ Some p
+pub double_to : (m : Doubles) (s : List ℕ) (p : ℕ) → double_pattern s ≡ Some p → double_in m s ≡ Some p
 double_to Special s p h = h
 double_to Finite s p h = rw h refl
 
-finite_at : (o : Option ℕ) (s : List ℕ) (p : ℕ) → double_of s ≡ o → finite_of s ≡ Some p → or_finite_of o s ≡ Some p
+finite_at : (o : Option ℕ) (s : List ℕ) (p : ℕ) → double_pattern s ≡ o → finite_of s ≡ Some p → or_finite_of o s ≡ Some p
 finite_at (Some q) s p is h = ap Some (agree s q is p h)
 finite_at None s p is h = h
 
 pub finite_to : (s : List ℕ) (p : ℕ) → finite_of s ≡ Some p → double_in Finite s ≡ Some p
-finite_to s p h = finite_at (double_of s) s p refl h
+finite_to s p h = finite_at (double_pattern s) s p refl h
 
 or_true : (a b : Bool) → b ≡ true → (a || b) ≡ true
 or_true true b h = refl
@@ -72,7 +72,7 @@ true_or false b h = cc
 pub finite_form : (p : ℕ) → is_finite p ≡ true → IsReadScalarIn Finite (double p)
 finite_form p h = (or_true (is_special p) (is_finite p) h, ap double (finite_normal p h))
 
-pub double_form_in : (m : Doubles) (s : List ℕ) (p : ℕ) → double_of s ≡ Some p → IsReadScalarIn m (double p)
+pub double_form_in : (m : Doubles) (s : List ℕ) (p : ℕ) → double_pattern s ≡ Some p → IsReadScalarIn m (double p)
 double_form_in Special s p h = double_form s p h
 double_form_in Finite s p h =
     let f : IsReadScalar (double p) = double_form s p h in (true_or (is_special p) (is_finite p) f.0, f.1)
@@ -81,24 +81,24 @@ double_form_in Finite s p h =
 
 -- the function and the relation
 text_at : (o : Option (List ℕ)) (p : ℕ) (s : List ℕ) → double_text p ≡ o → or_finite_text o p ≡ Some s
-    → IsTextIn Finite p s
+    → IsDoubleTextIn Finite p s
 text_at (Some t) p s is h = inl (is ∙ h)
 text_at None p s is h = inr (finite_text_is p s h)
 
-pub text_is : (m : Doubles) (p : ℕ) (s : List ℕ) → text_in m p ≡ Some s → IsTextIn m p s
+pub text_is : (m : Doubles) (p : ℕ) (s : List ℕ) → text_in m p ≡ Some s → IsDoubleTextIn m p s
 text_is Special p s h = h
 text_is Finite p s h = text_at (double_text p) p s refl h
 
-same_text : (p : ℕ) (t s : List ℕ) → finite_text p ≡ Some t → finite_text p ≡ Some s → Some t ≡ Some s
+same_text : (p : ℕ) (t s : List ℕ) → finite_double_text p ≡ Some t → finite_double_text p ≡ Some s → Some t ≡ Some s
 same_text p t s h g = sym h ∙ g
 
 text_to_at : (o : Option (List ℕ)) (p : ℕ) (s : List ℕ) → double_text p ≡ o → is_finite p ≡ true
-    → finite_text p ≡ Some s → or_finite_text o p ≡ Some s
+    → finite_double_text p ≡ Some s → or_finite_text o p ≡ Some s
 text_to_at (Some t) p s is finite h =
     same_text p t s (finite_text_to p t finite (special_text_is p t finite is)) h
 text_to_at None p s is finite h = h
 
-pub text_to : (m : Doubles) (p : ℕ) (s : List ℕ) → IsTextIn m p s → text_in m p ≡ Some s
+pub text_to : (m : Doubles) (p : ℕ) (s : List ℕ) → IsDoubleTextIn m p s → text_in m p ≡ Some s
 text_to Special p s h = h
 text_to Finite p s (inl h) = rw h refl
 text_to Finite p s (inr h) = text_to_at (double_text p) p s refl h.0 (finite_text_to p s h.0 h.1)
@@ -130,7 +130,7 @@ no_text_normal p h = normal_at _ _ _ _ _ _ p h
 form_at : (o : Option (List ℕ)) (p : ℕ) → double_text p ≡ o
     → or_finite_text o (normal_double p) ≡ or_finite_text o p
 form_at (Some s) p is = refl
-form_at None p is = ap finite_text (no_text_normal p is)
+form_at None p is = ap finite_double_text (no_text_normal p is)
 
 pub text_form : (m : Doubles) (p : ℕ) → text_in m (normal_double p) ≡ text_in m p
 text_form Special p = double_text-form p

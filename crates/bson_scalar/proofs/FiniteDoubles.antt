@@ -14,8 +14,8 @@ use Rattle.ryu.proofs.Signs.{parts, finite_number as number_of_finite}
 use Rattle.bson_double.specs.Doubles.{is_finite, is_number, finite_bits, finite_of}
 use Rattle.bson_double.specs.Text.{IsDoubleText}
 use Rattle.bson_double.proofs.Offered.{one_text, read_back}
-use Rattle.bson_scalar.specs.Doubles.{double_of, double_text, normal_double, is_nan, is_minus_nan, finite_pattern}
-use Rattle.bson_scalar.specs.Shortest.{finite_text}
+use Rattle.bson_scalar.specs.Doubles.{double_pattern, double_text, normal_double, is_nan, is_minus_nan, finite_pattern}
+use Rattle.bson_scalar.specs.Shortest.{finite_double_text}
 use Rattle.bson_scalar.proofs.InverseLemmas.{un_some, if_some, key_is}
 use Rattle.bson_scalar.proofs.ShortestText.{finite_text-some, finite_text_is}
 
@@ -116,9 +116,9 @@ pub some_of : {A : Type 0} (o : Option A) → is_some o ≡ true → (x : A) × 
 some_of (Some x) h = (x, refl)
 some_of None h = cc
 
-pub finite_text_to : (p : ℕ) (s : List ℕ) → is_finite p ≡ true → IsDoubleText p s → finite_text p ≡ Some s
+pub finite_text_to : (p : ℕ) (s : List ℕ) → is_finite p ≡ true → IsDoubleText p s → finite_double_text p ≡ Some s
 finite_text_to p s finite text =
-    let t = some_of (finite_text p) (finite_text-some p ∙ finite) in
+    let t = some_of (finite_double_text p) (finite_text-some p ∙ finite) in
     t.1 ∙ ap Some (one_text p t.0 s (finite_text_is p t.0 t.1).1 text)
 
 -- ---- beside the six texts: the zeros have one text by both ways, and the words write no number
@@ -184,5 +184,5 @@ agree_at false false false false true f s q i j k l m n h = rw (key_is s _ m) (n
 agree_at false false false false false true s q i j k l m n h = rw (key_is s _ n) (no_number (codes "-NaN") q refl)
 agree_at false false false false false false s q i j k l m n h = cc
 
-pub agree : (s : List ℕ) (q : ℕ) → double_of s ≡ Some q → Agree s q
+pub agree : (s : List ℕ) (q : ℕ) → double_pattern s ≡ Some q → Agree s q
 agree s q h = agree_at _ _ _ _ _ _ s q refl refl refl refl refl refl h

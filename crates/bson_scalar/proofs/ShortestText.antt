@@ -4,12 +4,12 @@ use Rattle.std.proofs.Common.{◌||◌, cond, refl, sym, ap, ◌∙◌, subst, i
 use Rattle.std.specs.Prelude.{codes, Some, None, is_some}
 use Rattle.std.proofs.lemmas.Bool.{cases_order, eqb-true, eqb-false, ltb-true, ltb-false}
 use Rattle.bson_double.specs.Doubles.{is_finite}
-use Rattle.bson_double.specs.Shortest.{IsRead, IsShortest, IsNoneFrom, whole_of, step_of}
+use Rattle.bson_double.specs.Shortest.{DecimalIsReadAs, IsShortest, IsNoneFrom, whole_of, step_of}
 use Rattle.bson_double.specs.Text.{IsDoubleText, IsUnsignedText, decimal_text}
 use Rattle.bson_double.proofs.Offered.{has_shortest, none_above, beside, floor_under, floor_over, low_taken}
 use Rattle.bson_double.proofs.Offered.{high_taken, IsPositive, step_pos, read_by_bits}
 use Rattle.bson_scalar.specs.Shortest.{is_read, multiple_below, is_some_read, top_power, read_one, digits_at}
-use Rattle.bson_scalar.specs.Shortest.{unsigned_text, finite_text}
+use Rattle.bson_scalar.specs.Shortest.{unsigned_text, finite_double_text}
 use Rattle.bson_scalar.proofs.InverseLemmas.{if_some}
 
 or_no : (a b : Bool) → (a || b) ≡ false → (a ≡ false) × (b ≡ false)
@@ -17,13 +17,13 @@ or_no true b h = cc
 or_no false b h = (refl, h)
 
 module _ (p : ℕ) (h : IsPositive p) where
-  is_so : (d k : ℕ) → is_read p d k ≡ true → IsRead p d k
+  is_so : (d k : ℕ) → is_read p d k ≡ true → DecimalIsReadAs p d k
   is_so d k e = (read_by_bits p d k (let s = h.small in omega arith) h.finite).0 e
 
-  is_not : (d k : ℕ) → is_read p d k ≡ false → IsRead p d k → ⊥
+  is_not : (d k : ℕ) → is_read p d k ≡ false → DecimalIsReadAs p d k → ⊥
   is_not d k e r = true≢false (sym ((read_by_bits p d k (let s = h.small in omega arith) h.finite).1 r) ∙ e)
 
-  none_read : (k : ℕ) → is_some_read p k ≡ false → (c : ℕ) → IsRead p c k → ⊥
+  none_read : (k : ℕ) → is_some_read p k ≡ false → (c : ℕ) → DecimalIsReadAs p c k → ⊥
   none_read k e c y =
       let g = or_no _ _ e in
       elim (beside p k c h y) [ inl r ↦ is_not _ k g.0 r | inr r ↦ is_not _ k g.1 r ]
@@ -37,7 +37,7 @@ module _ (p : ℕ) (h : IsPositive p) where
   unfolding IsTop
   top_step n true e none rest = (none, e)
   top_step n false e none rest = rest (λ c j l y. elim (cases_order j n) [
-    | inl same ↦ none_read n e c (subst (λ i. IsRead p c i) same y)
+    | inl same ↦ none_read n e c (subst (λ i. DecimalIsReadAs p c i) same y)
     | inr (inl m) ↦ absurd (omega (arith, l, m))
     | inr (inr m) ↦ none c j (omega (arith, m)) y
   ])
@@ -49,7 +49,7 @@ module _ (p : ℕ) (h : IsPositive p) where
 
   -- of the two multiples beside the double the one that is taken
   near_at : (k f : ℕ) (l e v : Bool) → IsNoneFrom p (suc k) → f * step_of k ≤ whole_of p
-      → whole_of p < (f + 1) * step_of k → IsRead p f k → IsRead p (f + 1) k
+      → whole_of p < (f + 1) * step_of k → DecimalIsReadAs p f k → DecimalIsReadAs p (f + 1) k
       → nat_lt (2 * whole_of p) ((2 * f + 1) * step_of k) ≡ l
       → nat_eq (2 * whole_of p) ((2 * f + 1) * step_of k) ≡ e → nat_eq (f % 2) 0 ≡ v
       → IsShortest p (cond l f (cond (e && v) f (f + 1))) k
@@ -86,7 +86,7 @@ module _ (p : ℕ) (h : IsPositive p) where
       low_taken p k f h none under (is_so f k i) (inl (is_not (f + 1) k j))
   pick k f false true none under beyond i j some =
       high_taken p k f h none beyond (is_so (f + 1) k j)
-      (inl (λ x. is_not f k i (let same : f + 1 - 1 ≡ f = omega arith in subst (λ d. IsRead p d k) same x)))
+      (inl (λ x. is_not f k i (let same : f + 1 - 1 ≡ f = omega arith in subst (λ d. DecimalIsReadAs p d k) same x)))
   pick k f false false none under beyond i j some = cc
 
   digits_shortest : (k : ℕ) → IsTop k → IsShortest p (digits_at p k) k
@@ -111,16 +111,16 @@ unsigned_is : (p : ℕ) → p < 2 ^ 63 → is_finite p ≡ true → IsUnsignedTe
 unfolding unsigned_text
 unsigned_is p small finite = text_at p (nat_eq p 0) refl small finite
 
-pub finite_text-some : (p : ℕ) → is_some (finite_text p) ≡ is_finite p
-unfolding finite_text
+pub finite_text-some : (p : ℕ) → is_some (finite_double_text p) ≡ is_finite p
+unfolding finite_double_text
 finite_text-some p = some_if (is_finite p) _
   where
     some_if : (b : Bool) (s : List ℕ) → is_some (cond b (Some s) None) ≡ b
     some_if true s = refl
     some_if false s = refl
 
-pub finite_text_is : (p : ℕ) (s : List ℕ) → finite_text p ≡ Some s → (is_finite p ≡ true) × IsDoubleText p s
-unfolding finite_text
+pub finite_text_is : (p : ℕ) (s : List ℕ) → finite_double_text p ≡ Some s → (is_finite p ≡ true) × IsDoubleText p s
+unfolding finite_double_text
 finite_text_is p s h =
     let g = if_some (is_finite p) _ s h in
     let low : is_finite (p % 2 ^ 63) ≡ true = size_finite p g.0 in

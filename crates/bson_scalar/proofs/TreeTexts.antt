@@ -27,7 +27,7 @@ use Rattle.serde_json.proofs.Texts.{print-outline}
 use Rattle.bson_double.specs.Doubles.{is_finite}
 use Rattle.bson_double.specs.Text.{IsDoubleText}
 use Rattle.bson_double.proofs.Offered.{bits_back, finite_value, json_number, parses}
-use Rattle.bson_scalar.specs.Shortest.{finite_text}
+use Rattle.bson_scalar.specs.Shortest.{finite_double_text}
 use Rattle.bson_scalar.specs.TreeText.{float_text, number_text, outline, items_outline, members_outline, tokens_of}
 use Rattle.bson_scalar.specs.TreeText as own
 use Rattle.bson_scalar.specs.TreeText.{IsDouble, HasNoFloatIn, tree_text}
@@ -93,7 +93,7 @@ text_at p x s small finite is text =
 pub float_text_is : (x : Float) → IsDouble x → IsDoubleText (to_bits binary64 x) (float_text x)
 float_text_is x (fit, finite) =
     let p = bits_finite x (subst T (sym fit) tt) finite in
-    let t = some_of (finite_text (to_bits binary64 x)) (finite_text-some (to_bits binary64 x) ∙ p.1) in
+    let t = some_of (finite_double_text (to_bits binary64 x)) (finite_text-some (to_bits binary64 x) ∙ p.1) in
     subst (IsDoubleText (to_bits binary64 x)) (sym (ap (λ o. unwrap_or o []) t.1))
     (finite_text_is (to_bits binary64 x) t.0 t.1).1
 
@@ -116,7 +116,7 @@ float_is_read x is = (float_back x is).1
 pub pattern_text : (p : ℕ) (s : List ℕ) → p < 2 ^ 64 → is_finite p ≡ true → IsDoubleText p s
     → float_text (from_bits binary64 p) ≡ s
 pattern_text p s small finite text =
-    ap (λ q. unwrap_or (finite_text q) []) (bits_back p small finite)
+    ap (λ q. unwrap_or (finite_double_text q) []) (bits_back p small finite)
     ∙ ap (λ o. unwrap_or o []) (finite_text_to p s finite text)
 
 pub pattern_is_double : (p : ℕ) → p < 2 ^ 64 → is_finite p ≡ true → IsDouble (from_bits binary64 p)

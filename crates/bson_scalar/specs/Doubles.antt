@@ -12,7 +12,7 @@ use Rattle.serde_json.specs.Data.{Data, Num}
 use Rattle.serde_json.specs.Data as tree
 use Rattle.serde_json.specs.Find.{to_float}
 use Rattle.bson_scalar.specs.Shapes.{object_of_one}
-use Rattle.bson_scalar.specs.Shortest.{finite_text}
+use Rattle.bson_scalar.specs.Shortest.{finite_double_text}
 use Rattle.bson_scalar.specs.Table.{key_of}
 use Rattle.bson_scalar.specs.declared.form.Doubles.{Doubles}
 use Rattle.bson_scalar.specs.declared.form.Doubles.TheVariants.{Special, Finite}
@@ -24,8 +24,8 @@ abbrev pub is_special : ℕ → Bool
 is_special p = (p == 0 || p == 2 ^ 63) || (p / 2 ^ 52 == 0x7FF || p / 2 ^ 52 == 0xFFF)
 
 -- the pattern that a text means
-abbrev pub double_of : List ℕ → Option ℕ
-double_of s =
+abbrev pub double_pattern : List ℕ → Option ℕ
+double_pattern s =
     if bytes_eq s (codes "0.0") then Some 0
     else if bytes_eq s (codes "-0.0") then Some 0x8000000000000000
     else if bytes_eq s (codes "Infinity") then Some 0x7FF0000000000000
@@ -67,8 +67,8 @@ or_finite_of None s = finite_of s
 
 -- the pattern that a text means: in the mode `Finite` also that of the double nearest to a decimal number
 abbrev pub double_in : Doubles → List ℕ → Option ℕ
-double_in Special s = double_of s
-double_in Finite s = or_finite_of (double_of s) s
+double_in Special s = double_pattern s
+double_in Finite s = or_finite_of (double_pattern s) s
 
 -- the pattern of the double nearest to a JSON number, where it is finite
 abbrev pub finite_pattern : Float → Option ℕ
@@ -83,14 +83,14 @@ is_writable Special p = is_special p
 is_writable Finite p = is_special p || is_finite p
 
 -- the pattern has this text: in the mode `Finite` also its shortest decimal
-abbrev pub IsTextIn : Doubles → ℕ → List ℕ → Type 0
-IsTextIn Special p s = double_text p ≡ Some s
-IsTextIn Finite p s = (double_text p ≡ Some s) ⊎ ((is_finite p ≡ true) × IsDoubleText p s)
+abbrev pub IsDoubleTextIn : Doubles → ℕ → List ℕ → Type 0
+IsDoubleTextIn Special p s = double_text p ≡ Some s
+IsDoubleTextIn Finite p s = (double_text p ≡ Some s) ⊎ ((is_finite p ≡ true) × IsDoubleText p s)
 
 -- the same as functions, for the proofs
 abbrev pub or_finite_text : Option (List ℕ) → ℕ → Option (List ℕ)
 or_finite_text (Some s) p = Some s
-or_finite_text None p = finite_text p
+or_finite_text None p = finite_double_text p
 
 abbrev pub text_in : Doubles → ℕ → Option (List ℕ)
 text_in Special p = double_text p

@@ -52,19 +52,19 @@ abbrev pub AllWritable : Type 0
 AllWritable = (x : Scalar) → ScalarInRange x → writable_scalar_in Finite x ≡ true
 
 -- a pattern has a text exactly if it is a zero, an infinity or a NaN, or in the mode `Finite` finite
-abbrev pub HasTextIn : Doubles → Type 0
-HasTextIn m = (p : ℕ) → is_some (text_in m p) ≡ is_writable m p
+abbrev pub DoublesHaveTextsIn : Doubles → Type 0
+DoublesHaveTextsIn m = (p : ℕ) → is_some (text_in m p) ≡ is_writable m p
 
-abbrev pub HasText : Type 0
-HasText = HasTextIn Special
+abbrev pub DoublesHaveTexts : Type 0
+DoublesHaveTexts = DoublesHaveTextsIn Special
 
 -- what is written means the normal form, narrowed in the relaxed form
-abbrev pub ReadsBackIn : Doubles → Type 0
-ReadsBackIn m = (f : Form) (x : Scalar) (t : Data) → writes_scalar_in m f x ≡ Ok t → ScalarInRange x
+abbrev pub ScalarsReadBackIn : Doubles → Type 0
+ScalarsReadBackIn m = (f : Form) (x : Scalar) (t : Data) → writes_scalar_in m f x ≡ Ok t → ScalarInRange x
     → MeansScalarIn m t (scalar_as_read f (normal_scalar x))
 
-abbrev pub ReadsBack : Type 0
-ReadsBack = ReadsBackIn Special
+abbrev pub ScalarsReadBack : Type 0
+ScalarsReadBack = ScalarsReadBackIn Special
 
 -- normal form and narrowing, done again, change nothing
 abbrev pub NormalAgain : Type 0

@@ -17,7 +17,7 @@ pub use Rattle.bson_datetime.specs.Grammar.{Names}
 pub use Rattle.bson_decimal.specs.Text.{Parses}
 pub use Rattle.bson_scalar.specs.Binaries.{IsByteText}
 use Rattle.bson_double.specs.Doubles.{finite_of}
-use Rattle.bson_scalar.specs.Doubles.{double_of, finite_number}
+use Rattle.bson_scalar.specs.Doubles.{double_pattern, finite_number}
 use Rattle.bson_scalar.specs.Ints.{IsIntText}
 use Rattle.bson_scalar.specs.Scalar.{Scalar}
 use Rattle.bson_scalar.specs.Scalar as kind
@@ -38,7 +38,7 @@ pub data MeansScalar : Data → Scalar → Type 0 where
       → MeansScalar (object_of_one (codes "$numberInt") (tree.string s)) (kind.int32 z)
   number_long : (s : List ℕ) (z : ℤ) → IsIntText w64 s z
       → MeansScalar (object_of_one (codes "$numberLong") (tree.string s)) (kind.int64 z)
-  number_double : (s : List ℕ) (p : ℕ) → double_of s ≡ Some p
+  number_double : (s : List ℕ) (p : ℕ) → double_pattern s ≡ Some p
       → MeansScalar (object_of_one (codes "$numberDouble") (tree.string s)) (kind.double p)
   number_decimal : (s b : List ℕ) → Parses s b
       → MeansScalar (object_of_one (codes "$numberDecimal") (tree.string s)) (kind.decimal b)

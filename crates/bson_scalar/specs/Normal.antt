@@ -2,7 +2,7 @@
 use Rattle.std.specs.Prelude.{◌≡◌, ◌⊎◌, ◌<◌, ◌^◌, ℤ, length, Bool, true, FitsSigned}
 use Rattle.std.specs.Int.{w32, w64}
 use Rattle.bson_types.specs.Subtype.{subtype_byte, subtype_of}
-use Rattle.bson_decimal.specs.Pattern.{normal_decimal, bytes_meaning, is_nan}
+use Rattle.bson_decimal.specs.Pattern.{normal_decimal, bytes_meaning, is_decimal_nan}
 use Rattle.hex.specs.Hex.{IsBytes}
 use Rattle.bson_scalar.specs.Doubles.{normal_double, is_writable}
 use Rattle.bson_scalar.specs.Ints.{narrowest}
@@ -55,7 +55,7 @@ ScalarInRange x = Unit {0}
 
 -- in normal form, or a NaN of a decimal: its text can have a sign, or say that it signals
 abbrev pub IsNormalOrNan : Scalar → Type 0
-IsNormalOrNan (decimal b) = (normal_decimal b ≡ b) ⊎ (is_nan (bytes_meaning b) ≡ true)
+IsNormalOrNan (decimal b) = (normal_decimal b ≡ b) ⊎ (is_decimal_nan (bytes_meaning b) ≡ true)
 IsNormalOrNan x = normal_scalar x ≡ x
 
 -- what is known of every scalar that is read

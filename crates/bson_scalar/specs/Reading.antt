@@ -88,29 +88,29 @@ abbrev pub double_read_in : Doubles → Data → Result Scalar Fault
 double_read_in m d = on_text d (λ s. or_wrong_shape (double_in m s) >>= λ p. Ok (double p))
 
 -- the number of the pattern of a NaN or an infinity
-abbrev pub word_of : List ℕ → Option ℕ
-word_of w =
+abbrev pub special_decimal : List ℕ → Option ℕ
+special_decimal w =
     if bytes_eq (lowercase w) (codes "nan") then Some (124 * 2 ^ 120)
     else if bytes_eq (lowercase w) (codes "snan") then Some (126 * 2 ^ 120)
     else if bytes_eq (lowercase w) (codes "infinity") then Some (120 * 2 ^ 120)
     else if bytes_eq (lowercase w) (codes "inf") then Some (120 * 2 ^ 120)
     else None
 
-abbrev pub finite_of : List ℕ → Option (List ℕ)
-finite_of s =
+abbrev pub finite_decimal : List ℕ → Option (List ℕ)
+finite_decimal s =
     option_map (λ r. to_le_bytes w128 (first_form (starts_with_minus s) r.0 r.1))
     (result_ok (finite (without_leading_sign s)))
 
 abbrev pub decimal_at : List ℕ → Option ℕ → Option (List ℕ)
 decimal_at s (Some n) = Some (to_le_bytes w128 (sign_weight (starts_with_minus s) + n))
-decimal_at s None = finite_of s
+decimal_at s None = finite_decimal s
 
 -- the pattern of a decimal text
-unfoldable pub decimal_of : List ℕ → Option (List ℕ)
-decimal_of s = decimal_at s (word_of (without_leading_sign s))
+unfoldable pub decimal_pattern : List ℕ → Option (List ℕ)
+decimal_pattern s = decimal_at s (special_decimal (without_leading_sign s))
 
 abbrev pub decimal_read : Data → Result Scalar Fault
-decimal_read d = on_text d (λ s. or_wrong_shape (decimal_of s) >>= λ b. Ok (decimal b))
+decimal_read d = on_text d (λ s. or_wrong_shape (decimal_pattern s) >>= λ b. Ok (decimal b))
 
 -- ---- texts
 
@@ -132,17 +132,17 @@ id_or s (Ok id) = Ok id
 id_or s (Err e) = Err (wrong_id s)
 
 -- the object id of a text, or that it is none
-abbrev pub id_of : List ℕ → Result (List ℕ) Fault
-id_of s = id_or s (decode_sized s 12)
+abbrev pub parsed_object_id : List ℕ → Result (List ℕ) Fault
+parsed_object_id s = id_or s (decode_sized s 12)
 
 abbrev pub oid_read : Data → Result Scalar Fault
-oid_read d = on_text d (λ s. id_of s >>= λ id. Ok (object_id id))
+oid_read d = on_text d (λ s. parsed_object_id s >>= λ id. Ok (object_id id))
 
 -- the shape first, so that an object id's text is at fault only where it alone is wrong
 abbrev pub pointer_read : Data → Result Scalar Fault
 pointer_read d =
     on_two (codes "$id") (codes "$ref") d (λ i r.
-    on_text r (λ name. on_lone (codes "$oid") i (λ t. on_text t (λ s. id_of s >>= λ id. Ok (db_pointer name id)))))
+    on_text r (λ name. on_lone (codes "$oid") i (λ t. on_text t (λ s. parsed_object_id s >>= λ id. Ok (db_pointer name id)))))
 
 -- ---- moments
 

@@ -41,5 +41,5 @@ unfoldable pub unsigned_text : ℕ → List ℕ
 unsigned_text p = if p == 0 then codes "0.0" else decimal_text (digits_at p (top_power p 1500)) (top_power p 1500)
 
 -- the text of a finite pattern
-unfoldable pub finite_text : ℕ → Option (List ℕ)
-finite_text p = if is_finite p then Some (sign_text (nat_le (2 ^ 63) p) ++ unsigned_text (p % 2 ^ 63)) else None
+unfoldable pub finite_double_text : ℕ → Option (List ℕ)
+finite_double_text p = if is_finite p then Some (sign_text (nat_le (2 ^ 63) p) ++ unsigned_text (p % 2 ^ 63)) else None

@@ -10,7 +10,7 @@ use Rattle.json.specs.Tree.{json_tokens}
 use Rattle.serde_json.specs.Data.{Num, unsigned, negative, float, Data, null, boolean, number, string, array, object}
 use Rattle.serde_json.specs.Data.{Items, no_items, item, Members, no_members, member}
 use Rattle.serde_json.specs.Written.{has_float, compact_text}
-use Rattle.bson_scalar.specs.Shortest.{finite_text}
+use Rattle.bson_scalar.specs.Shortest.{finite_double_text}
 use Rattle.bson_scalar.specs.declared.form.Doubles.{Doubles}
 use Rattle.bson_scalar.specs.declared.form.Doubles.TheVariants.{Special, Finite}
 use Rattle.bson_scalar.specs.declared.form.Form.{Form}
@@ -21,7 +21,7 @@ abbrev pub IsDouble : Float → Type 0
 IsDouble x = (fits binary64 x ≡ true) × (float_is_finite x ≡ true)
 
 abbrev pub float_text : Float → List ℕ
-float_text x = unwrap_or (finite_text (to_bits binary64 x)) []
+float_text x = unwrap_or (finite_double_text (to_bits binary64 x)) []
 
 abbrev pub number_text : Num → List ℕ
 number_text (unsigned n) = decimal n

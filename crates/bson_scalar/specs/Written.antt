@@ -9,7 +9,7 @@ use Rattle.serde_json.specs.Find.{of_integer}
 use Rattle.bson_scalar.specs.Binaries.{binary_tree}
 use Rattle.bson_scalar.specs.Dates.{date_tree, relaxed_date_tree}
 use Rattle.bson_scalar.specs.Decimals.{decimal_tree}
-use Rattle.bson_scalar.specs.Doubles.{double_tree, double_text, IsTextIn, text_in}
+use Rattle.bson_scalar.specs.Doubles.{double_tree, double_text, IsDoubleTextIn, text_in}
 use Rattle.bson_scalar.specs.Ids.{oid_tree, pointer_tree}
 use Rattle.bson_scalar.specs.Ints.{int32_tree, int64_tree}
 use Rattle.bson_scalar.specs.Lone.{min_key_tree, max_key_tree, undefined_tree}
@@ -45,8 +45,8 @@ number_tree p = tree.number (float (from_bits binary64 p))
 
 -- a finite double is a JSON number in the relaxed form of the mode `Finite`
 abbrev pub WrittenDoubleIn : Doubles → Form → ℕ → Data → Type 0
-WrittenDoubleIn Special f p t = (s : List ℕ) × IsTextIn Special p s × (t ≡ double_tree s)
-WrittenDoubleIn Finite Canonical p t = (s : List ℕ) × IsTextIn Finite p s × (t ≡ double_tree s)
+WrittenDoubleIn Special f p t = (s : List ℕ) × IsDoubleTextIn Special p s × (t ≡ double_tree s)
+WrittenDoubleIn Finite Canonical p t = (s : List ℕ) × IsDoubleTextIn Finite p s × (t ≡ double_tree s)
 WrittenDoubleIn Finite Relaxed p t =
     ((is_finite p ≡ true) × (t ≡ number_tree p))
     ⊎ ((is_finite p ≡ false) × ((s : List ℕ) × (double_text p ≡ Some s) × (t ≡ double_tree s)))

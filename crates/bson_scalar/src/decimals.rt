@@ -4,7 +4,7 @@ ghost use Rattle.std.specs.Prelude.{◌≡◌, IfOk};
 ghost use Rattle.serde_json.specs.View.{view};
 ghost use Rattle.bson_scalar.specs.Decimals.{decimal_tree};
 ghost use Rattle.bson_scalar.specs.Faults.{Gives};
-ghost use Rattle.bson_scalar.specs.Reading.{decimal_of as decimal_in, decimal_read};
+ghost use Rattle.bson_scalar.specs.Reading.{decimal_pattern as decimal_in, decimal_read};
 ghost use Rattle.bson_scalar.specs.View.{scalar_view};
 
 use crate::error::Error;

@@ -3,7 +3,7 @@
 //! double in the relaxed form as `12.5`; a double is its pattern of 64 bits (IEEE 754-2008 binary64).
 ghost use Rattle.std.specs.Prelude.{◌≡◌, ℕ, List, Some, IfOk, IsTrue, option_map};
 ghost use Rattle.bson_double.specs.Doubles.{is_finite};
-ghost use Rattle.bson_scalar.specs.Shortest.{finite_text};
+ghost use Rattle.bson_scalar.specs.Shortest.{finite_double_text};
 ghost use Rattle.serde_json.specs.View.{view, number_view};
 ghost use Rattle.bson_scalar.specs.Doubles as spec;
 ghost use Rattle.bson_scalar.specs.Faults.{Gives};
@@ -39,7 +39,7 @@ const FINITE_NUMBER: &str = "a number is greater than any double";
 
 // The pattern of a text: of a NaN the quiet one of its sign with no payload.
 fn double_of(text: &str) -> Option<u64>
-    ensures { result ≡ spec.double_of text.now }
+    ensures { result ≡ spec.double_pattern text.now }
 {
     if text == "0.0" {
         Some(0)
@@ -60,7 +60,7 @@ fn double_of(text: &str) -> Option<u64>
 
 // The same, and else the pattern of the double nearest to a decimal number.
 fn finite_of(text: &str) -> Option<u64>
-    ensures { result ≡ spec.or_finite_of (spec.double_of text.now) text.now }
+    ensures { result ≡ spec.or_finite_of (spec.double_pattern text.now) text.now }
 {
     match double_of(text) {
         Some(pattern) => Some(pattern),
@@ -167,7 +167,7 @@ fn write_special<S: Sink>(pattern: u64, out: &mut S) -> Result<S::Tree, WriteErr
 // Writes the shortest decimal of a double that is finite.
 fn write_finite<S: Sink>(pattern: u64, out: &mut S) -> Result<S::Tree, AllocError>
     requires { IsTrue (is_finite pattern) }
-    ensures written { IfOk result (λ t. (s : List ℕ) × (finite_text pattern ≡ Some s)
+    ensures written { IfOk result (λ t. (s : List ℕ) × (finite_double_text pattern ≡ Some s)
         × S.wrote out.old (spec.double_tree s) t out.new) }
     ensures before { S.before out.new ≡ S.before out.old }
 {

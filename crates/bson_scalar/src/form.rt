@@ -4,9 +4,9 @@
 ///
 /// ```
 /// let (count, options) = (Bson::Int32(5), Options::default());
-/// let canonical = count.to_text_with(alloc, options, Form::Canonical)?;
+/// let canonical = count.to_text(alloc, options, Form::Canonical)?;
 /// println!(rt; "{canonical}")?; // {"$numberInt":"5"}
-/// let relaxed = count.to_text_with(alloc, options, Form::Relaxed)?;
+/// let relaxed = count.to_text(alloc, options, Form::Relaxed)?;
 /// println!(rt; "{relaxed}")?; // 5
 /// ```
 #[derive(Clone, Copy, Debug, Drop, PartialEq, Eq)]
@@ -23,8 +23,9 @@ pub enum Form {
 /// ```
 /// let options = Options {
 ///     doubles: Doubles::Finite,
+///     ..Options::default()
 /// };
-/// let value = Bson::try_from_text_with(alloc, options, b"[0.5, 1]")?;
+/// let value = Bson::from_text(alloc, options, b"[0.5, 1]")?;
 /// println!(rt; "{value:?}")?; // Array([Double(0x3fe0000000000000), Int32(1)])
 /// ```
 #[derive(Clone, Copy, Debug, Drop, PartialEq, Eq)]

@@ -8,7 +8,7 @@ ghost use Rattle.bson_types.specs.DbPointer.{namespace_of, id_of as pointer_id};
 ghost use Rattle.bson_types.specs.Oid.{IsObjectId};
 ghost use Rattle.bson_scalar.specs.Faults.{Gives};
 ghost use Rattle.bson_scalar.specs.Ids.{oid_tree, pointer_tree};
-ghost use Rattle.bson_scalar.specs.Reading.{id_of, oid_read, pointer_read};
+ghost use Rattle.bson_scalar.specs.Reading.{parsed_object_id, oid_read, pointer_read};
 ghost use Rattle.bson_scalar.specs.Shapes.{object_of_two};
 ghost use Rattle.bson_scalar.specs.View.{scalar_view};
 
@@ -27,7 +27,7 @@ const POINTER_SHAPE: &str =
 
 // The object id of a text, or `InvalidObjectId` with the fault that the text has.
 fn id_of(alloc: Global, text: &str) -> Result<ObjectId, Error>
-    ensures { Gives (λ id. id) result (id_of text.now) }
+    ensures { Gives (λ id. id) result (parsed_object_id text.now) }
 {
     match ObjectId::parse_str(alloc, text) {
         Ok(id) => Ok(id),

@@ -2,10 +2,10 @@
 ghost use Rattle.std.specs.Prelude.{to_bits};
 ghost use Rattle.std.specs.Float.{Float, binary64};
 ghost use Rattle.bson_double.specs.Text.{IsDoubleText};
-ghost use Rattle.bson_scalar.specs.Laws.{Meaning, OneMeaning, ReadForm, Tree, Writable, HasText};
-ghost use Rattle.bson_scalar.specs.Laws.{ReadsBack, NormalAgain, AsReadAgain};
+ghost use Rattle.bson_scalar.specs.Laws.{Meaning, OneMeaning, ReadForm, Tree, Writable, DoublesHaveTexts};
+ghost use Rattle.bson_scalar.specs.Laws.{ScalarsReadBack, NormalAgain, AsReadAgain};
 ghost use Rattle.bson_scalar.specs.Laws.{MeaningIn, OneMeaningIn, ReadFormIn, TreeIn, WritableIn};
-ghost use Rattle.bson_scalar.specs.Laws.{HasTextIn, AllWritable, ReadsBackIn};
+ghost use Rattle.bson_scalar.specs.Laws.{DoublesHaveTextsIn, AllWritable, ScalarsReadBackIn};
 ghost use Rattle.bson_scalar.specs.TreeText.{IsDouble, float_text};
 ghost use Rattle.bson_scalar.specs.declared.form.Doubles.{Doubles};
 
@@ -21,12 +21,12 @@ pub fn reading()
 pub fn writing()
     ensures tree { Tree }
     ensures writable { Writable }
-    ensures text { HasText }
+    ensures text { DoublesHaveTexts }
 {}
 
 /// Proves that what is written reads back as the normal form, narrowed in the relaxed form.
 pub fn round_trip()
-    ensures back { ReadsBack }
+    ensures back { ScalarsReadBack }
     ensures normal { NormalAgain }
     ensures as_read { AsReadAgain }
 {}
@@ -39,8 +39,8 @@ pub fn each_mode()
     ensures tree { (m : Doubles) → TreeIn m }
     ensures writable { (m : Doubles) → WritableIn m }
     ensures all { AllWritable }
-    ensures text { (m : Doubles) → HasTextIn m }
-    ensures back { (m : Doubles) → ReadsBackIn m }
+    ensures text { (m : Doubles) → DoublesHaveTextsIn m }
+    ensures back { (m : Doubles) → ScalarsReadBackIn m }
 {}
 
 /// Proves that the text of a finite double that is written as a JSON number is its shortest

@@ -10,7 +10,7 @@ use Rattle.std.specs.Str.{bytes_eq}
 use Rattle.std.specs.declared.cmp.Ordering.TheVariants.{Less}
 use Rattle.bson_store.specs.Order.{key_cmp}
 use Rattle.bson_store.specs.Pairs.{keys, HasDistinctKeys}
-use Rattle.bson_store.specs.Small.{stored_pairs, KeysAscend}
+use Rattle.bson_store.specs.Small.{stored_pairs, HasAscendingKeys}
 use Rattle.bson_store.specs.declared.small.Pair.{Pair}
 use Rattle.bson_store.proofs.AscendingLaws.{ascend_none}
 use Rattle.bson_store.proofs.Least.{less_of}
@@ -28,7 +28,7 @@ distinct_keys (k ∷ ks) up = (apart k ks up.0, distinct_keys ks up.1)
 
 module _ {V : Type 0} where
   -- keys that ascend are distinct
-  pub distinct_from : (ps : List (List ℕ × V)) → KeysAscend ps → HasDistinctKeys ps
+  pub distinct_from : (ps : List (List ℕ × V)) → HasAscendingKeys ps → HasDistinctKeys ps
   distinct_from ps up = distinct_keys (keys ps) up
 
   abbrev pub is_below : Pair V → Pair V → Bool
@@ -50,7 +50,7 @@ module _ {V : Type 0} where
   key-at (p ∷ ps) (suc i) d = key-at ps i d
 
   pub ascend_from : (ps : List (Pair V)) → AllAdjacentBelow (λ p q. true ≡ is_below p q) ps (length ps)
-      → KeysAscend (stored_pairs ps)
+      → HasAscendingKeys (stored_pairs ps)
   unfolding keys_of
   ascend_from [] next = ascend_none
   ascend_from (p ∷ ps) next =
@@ -60,7 +60,7 @@ module _ {V : Type 0} where
 
   pub not_ascending : (ps : List (Pair V))
       → (i : ℕ) × (i + 1 < length ps) × ((d : Pair V) → false ≡ is_below (get_or ps i d) (get_or ps (i + 1) d))
-      → KeysAscend (stored_pairs ps) → false ≡ true
+      → HasAscendingKeys (stored_pairs ps) → false ≡ true
   unfolding keys_of
   not_ascending [] stop up = absurd (let l = stop.1 in omega arith)
   not_ascending (p ∷ ps) stop up =

@@ -10,7 +10,7 @@ use Rattle.std.proofs.lemmas.Option.{slice_get-map}
 use Rattle.bson_store.specs.Ascending.{NoneAbove, AllAbove, IsFirstAbove}
 use Rattle.bson_store.specs.Order.{key_cmp}
 use Rattle.bson_store.specs.Pairs.{keys, position_of}
-use Rattle.bson_store.specs.Small.{KeysAscend}
+use Rattle.bson_store.specs.Small.{HasAscendingKeys}
 use Rattle.bson_store.proofs.Found.{key-place}
 use Rattle.bson_store.proofs.Least.{key_total, less_of}
 use Rattle.bson_store.proofs.Placed.{all-push, all-remove}
@@ -53,8 +53,8 @@ module _ {V : Type 0} where
   below-at k (p ∷ ps) zero l h e = let same : p.0 ≡ l = cc in ap (key_cmp k) (sym same) ∙ h.0
   below-at k (p ∷ ps) (suc i) l h e = below-at k ps i l h.1 e
 
-  pub ascend-push : (ps : List (List ℕ × V)) (n : ℕ) (l k : List ℕ) (v : V) → KeysAscend ps → length ps ≡ suc n
-      → slice_get (keys ps) n ≡ Some l → key_cmp l k ≡ Less → KeysAscend (ps ++ (k, v) ∷ [])
+  pub ascend-push : (ps : List (List ℕ × V)) (n : ℕ) (l k : List ℕ) (v : V) → HasAscendingKeys ps → length ps ≡ suc n
+      → slice_get (keys ps) n ≡ Some l → key_cmp l k ≡ Less → HasAscendingKeys (ps ++ (k, v) ∷ [])
   unfolding IsStrictlySortedBy
   ascend-push [] n l k v up len e below = cc
   ascend-push (p ∷ []) zero l k v up len e below =
@@ -67,11 +67,11 @@ module _ {V : Type 0} where
     ascend-push (q ∷ ps) n l k v up.1 (omega (arith, len)) e below,
   )
 
-  pub ascend-one : (k : List ℕ) (v : V) → KeysAscend ((k, v) ∷ [])
+  pub ascend-one : (k : List ℕ) (v : V) → HasAscendingKeys ((k, v) ∷ [])
   unfolding IsStrictlySortedBy
   ascend-one k v = (tt, tt)
 
-  pub ascend-remove : (ps : List (List ℕ × V)) (i : ℕ) → KeysAscend ps → KeysAscend (remove ps i)
+  pub ascend-remove : (ps : List (List ℕ × V)) (i : ℕ) → HasAscendingKeys ps → HasAscendingKeys (remove ps i)
   unfolding IsStrictlySortedBy
   ascend-remove [] zero up = up
   ascend-remove [] (suc i) up = up
@@ -87,7 +87,7 @@ module _ {V : Type 0} where
 
   -- ---- where a key lies
 
-  pub order-at : (ps : List (List ℕ × V)) (i j : ℕ) (k l : List ℕ) → KeysAscend ps → i < j
+  pub order-at : (ps : List (List ℕ × V)) (i j : ℕ) (k l : List ℕ) → HasAscendingKeys ps → i < j
       → slice_get (keys ps) i ≡ Some k → slice_get (keys ps) j ≡ Some l → key_cmp k l ≡ Less
   unfolding IsStrictlySortedBy
   order-at [] i j k l up less e f = cc
@@ -101,7 +101,7 @@ module _ {V : Type 0} where
   key-of ps i p e = slice_get-map (λ x. x.0) ps i ∙ ap (option_map (λ x. x.0)) e
 
   -- what a place's key is above, the keys behind it are above too
-  pub above-at : (last : List ℕ) (ps : List (List ℕ × V)) (m j : ℕ) (k l : List ℕ) → KeysAscend ps → m ≤ j
+  pub above-at : (last : List ℕ) (ps : List (List ℕ × V)) (m j : ℕ) (k l : List ℕ) → HasAscendingKeys ps → m ≤ j
       → slice_get (keys ps) m ≡ Some k → slice_get (keys ps) j ≡ Some l → is_lt (key_cmp last k) ≡ true
       → is_lt (key_cmp last l) ≡ true
   unfolding IsStrictlySortedBy
@@ -116,18 +116,18 @@ module _ {V : Type 0} where
   above-at last (p ∷ ps) (suc m) (suc j) k l up le e f a = above-at last ps m j k l up.1 (omega (arith, le)) e f a
 
   -- one step of the halves: from a key above the last one all are above it, and up to one that is not none is
-  pub above-from : (last : List ℕ) (ps : List (List ℕ × V)) (m : ℕ) (k : List ℕ) → KeysAscend ps
+  pub above-from : (last : List ℕ) (ps : List (List ℕ × V)) (m : ℕ) (k : List ℕ) → HasAscendingKeys ps
       → slice_get (keys ps) m ≡ Some k → is_lt (key_cmp last k) ≡ true → AllAbove (Some last) ps m
   above-from last ps m k up e a = λ j l le f. above-at last ps m j k l up le e f a
 
-  pub none-above-to : (last : List ℕ) (ps : List (List ℕ × V)) (m : ℕ) (k : List ℕ) → KeysAscend ps
+  pub none-above-to : (last : List ℕ) (ps : List (List ℕ × V)) (m : ℕ) (k : List ℕ) → HasAscendingKeys ps
       → slice_get (keys ps) m ≡ Some k → is_lt (key_cmp last k) ≡ false → NoneAbove (Some last) ps (m + 1)
   none-above-to last ps m k up e a =
       λ j l less f. by_test (is_lt (key_cmp last l))
       (λ t. true≢false (sym (above-at last ps j m l k up (omega (arith, less)) f e t) ∙ a))
 
   -- a key that is not above the key at a place before it is that key
-  same-at : (ps : List (List ℕ × V)) (j n : ℕ) (k l : List ℕ) → KeysAscend ps → j ≤ n → slice_get (keys ps) j ≡ Some k
+  same-at : (ps : List (List ℕ × V)) (j n : ℕ) (k l : List ℕ) → HasAscendingKeys ps → j ≤ n → slice_get (keys ps) j ≡ Some k
       → slice_get (keys ps) n ≡ Some l → is_lt (key_cmp k l) ≡ false → k ≡ l
   unfolding IsStrictlySortedBy
   same-at [] j n k l up le e f a = cc
@@ -146,7 +146,7 @@ module _ {V : Type 0} where
       (λ j e. absurd (true≢false (sym (all j k (omega arith) (key-place k ps j e)) ∙ not_below_itself k)))
 
   -- none, where the key before the first one above is another
-  pub absent-behind : (k : List ℕ) (ps : List (List ℕ × V)) (n : ℕ) (l : List ℕ) → KeysAscend ps
+  pub absent-behind : (k : List ℕ) (ps : List (List ℕ × V)) (n : ℕ) (l : List ℕ) → HasAscendingKeys ps
       → IsFirstAbove (Some k) ps (n + 1) → slice_get (keys ps) n ≡ Some l → (k ≡ l → ⊥) → position_of k ps ≡ None
   absent-behind k ps n l up first e other = by_option (λ r. r ≡ None) (position_of k ps) (λ f. refl)
       (λ j f. absurd (split j (n + 1)

@@ -14,7 +14,7 @@ use Rattle.bson_store.specs.declared.places.Index.TheVariants.{Sorted, Map}
 use Rattle.bson_store.specs.declared.small.Pair.{Pair}
 use Rattle.bson_store.specs.Order.{key_cmp}
 use Rattle.bson_store.specs.Pairs.{keys, values, get, position_of, with_value, HasDistinctKeys}
-use Rattle.bson_store.specs.Small.{IndexOrNone, stored_pairs, keyed, KeysAscend, Indexes, IsPlaced, IsIndexed}
+use Rattle.bson_store.specs.Small.{IndexOrNone, stored_pairs, keyed, HasAscendingKeys, Indexes, IsPlaced, IsIndexed}
 use Rattle.std.proofs.lemmas.Option.{slice_get-map, slice_get-get_or}
 use Rattle.bson_store.specs.Removal.{index_before_removal}
 use Rattle.bson_store.proofs.Distinct.{apart, absent-before, take-next}
@@ -229,7 +229,7 @@ module _ {V : Type 0} where
   indexes-with (Sorted v) ps i w h =
       let same : keyed v.items (with_value ps i w) ≡ keyed v.items ps =
       ap (λ ks. map (λ j. (slice_index_or ks j [], j)) v.items) (keys-with_value ps i w) in (
-        subst (λ es. KeysAscend es) (sym same) h.0,
+        subst (λ es. HasAscendingKeys es) (sym same) h.0,
         λ k. ap (get k) same ∙ h.1 k ∙ sym (place-with_value ps i w k),
       )
   indexes-with (Map m) ps i w h = λ k. h k ∙ sym (place-with_value ps i w k)

@@ -16,7 +16,7 @@ use Rattle.std.proofs.lemmas.Option.{slice_get-map, slice_get-get_or, slice_get_
 use Rattle.bson_store.specs.Order.{key_cmp}
 use Rattle.bson_store.specs.Pairs.{keys, get, position_of, HasDistinctKeys}
 use Rattle.bson_store.specs.Removal.{index_before_removal, place_after_removal}
-use Rattle.bson_store.specs.Small.{stored_pairs, keyed, KeysAscend, AreSorted}
+use Rattle.bson_store.specs.Small.{stored_pairs, keyed, HasAscendingKeys, AreSorted}
 use Rattle.bson_store.specs.declared.small.Pair.{Pair}
 use Rattle.bson_store.proofs.Adjacent.{distinct_from}
 use Rattle.bson_store.proofs.AscendingLaws.{by_option, key-of}
@@ -125,13 +125,13 @@ module _ {V : Type 0} where
         | false ↦ λ e. (ap (key_cmp k) (key-after ps at i (another i at e)) ∙ h.0, below-gone k is ps at h.1)
       ] refl
 
-  ascend-gone : (is : List ℕ) (ps : List (List ℕ × V)) (at : ℕ) → KeysAscend (keyed is ps)
-      → KeysAscend (keyed (gone at is) (remove ps at))
+  ascend-gone : (is : List ℕ) (ps : List (List ℕ × V)) (at : ℕ) → HasAscendingKeys (keyed is ps)
+      → HasAscendingKeys (keyed (gone at is) (remove ps at))
   unfolding IsStrictlySortedBy
   ascend-gone [] ps at up = tt
   ascend-gone (i ∷ is) ps at up =
       elim (i == at) as
-      (λ b. (i == at) ≡ b → KeysAscend (keyed (map (place_after_removal at)
+      (λ b. (i == at) ≡ b → HasAscendingKeys (keyed (map (place_after_removal at)
       (cond (not b) (i ∷ filter (λ j. not (j == at)) is) (filter (λ j. not (j == at)) is))) (remove ps at))) [
         | true ↦ λ e. ascend-gone is ps at up.1
         | false ↦ λ e. (
@@ -232,7 +232,7 @@ module _ {V : Type 0} where
   below ps i j = is_lt (key_cmp (key_or ps i) (key_or ps j))
 
   pub ascend-keyed : (is : List ℕ) (ps : List (List ℕ × V))
-      → AllAdjacentBelow (λ i j. true ≡ below ps i j) is (length is) → KeysAscend (keyed is ps)
+      → AllAdjacentBelow (λ i j. true ≡ below ps i j) is (length is) → HasAscendingKeys (keyed is ps)
   ascend-keyed is ps next =
       sorted_from_all_adjacent key_total (keys (keyed is ps)) (key_or ps 0)
       (λ j l. rw (keys-at is ps j 0, keys-at is ps (j + 1) 0)
@@ -265,7 +265,7 @@ module _ {V : Type 0} where
 
   -- all places, in an order in which their keys ascend
   pub sorted-from : (is : List ℕ) (ps : List (List ℕ × V)) → IsPermutation (range_with_len 0 (length ps)) is
-      → KeysAscend (keyed is ps) → HasDistinctKeys ps × AreSorted is ps
+      → HasAscendingKeys (keyed is ps) → HasDistinctKeys ps × AreSorted is ps
   sorted-from is ps moved up =
       let all = range_with_len 0 (length ps) in
       let es = keyed all ps in

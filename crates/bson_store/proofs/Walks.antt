@@ -17,7 +17,7 @@ use Rattle.std.specs.String.{string_cmp}
 use Rattle.std.specs.declared.cmp.Ordering.TheVariants.{Less}
 use Rattle.bson_store.specs.Order.{key_cmp, in_order}
 use Rattle.bson_store.specs.Pairs.{keys, get, position_of}
-use Rattle.bson_store.specs.Small.{Places, keyed, KeysAscend, HasPlaces, AreSorted}
+use Rattle.bson_store.specs.Small.{Places, keyed, HasAscendingKeys, HasPlaces, AreSorted}
 use Rattle.bson_store.specs.Walks.{pairs_at, AreWithin, IsFirst}
 use Rattle.bson_store.proofs.Adjacent.{distinct_from}
 use Rattle.bson_store.proofs.AscendingLaws.{key-of}
@@ -32,19 +32,19 @@ module _ {X : Type 0} where
   below_of k [] h = tt
   below_of k (e ∷ es) h = both _ _ (subst (λ o. T (is_lt o)) (sym h.0) tt) (below_of k es h.1)
 
-  sorted_of : (es : List (List ℕ × X)) → KeysAscend es → T (is_sorted key_cmp es)
+  sorted_of : (es : List (List ℕ × X)) → HasAscendingKeys es → T (is_sorted key_cmp es)
   unfolding IsStrictlySortedBy
   sorted_of [] up = tt
   sorted_of (e ∷ es) up = both _ _ (below_of e.0 es up.0) (sorted_of es up.1)
 
   -- pairs whose keys ascend, and that are found where others are, are those in order
-  in_order_is : (es ps : List (List ℕ × X)) → KeysAscend es → ((q : List ℕ) → find key_cmp q es ≡ find key_cmp q ps)
+  in_order_is : (es ps : List (List ℕ × X)) → HasAscendingKeys es → ((q : List ℕ) → find key_cmp q es ≡ find key_cmp q ps)
       → es ≡ in_order ps
   in_order_is es ps up found =
       same_entries key_cmp key_total same_key es (in_order ps) (sorted_of es up) (in_order_sorted ps)
       (λ q. found q ∙ sym (find-in_order q ps))
 
-  pub ascending_walk : (ps : List (List ℕ × X)) → KeysAscend ps → ps ≡ in_order ps
+  pub ascending_walk : (ps : List (List ℕ × X)) → HasAscendingKeys ps → ps ≡ in_order ps
   ascending_walk ps up = in_order_is ps ps up (λ q. refl)
 
   -- ---- pairs at places
@@ -156,7 +156,7 @@ below_seen : (k : Text) (es : List (Text × ℕ)) → AllByRecursion (λ y. stri
 below_seen k [] h = tt
 below_seen k (e ∷ es) h = (h.0, below_seen k es h.1)
 
-ascend_seen : (es : List (Text × ℕ)) → IsStrictlySortedBy string_cmp (keys_of es) → KeysAscend (seen es)
+ascend_seen : (es : List (Text × ℕ)) → IsStrictlySortedBy string_cmp (keys_of es) → HasAscendingKeys (seen es)
 unfolding IsStrictlySortedBy
 ascend_seen [] up = tt
 ascend_seen (e ∷ es) up = (below_seen e.0 es up.0, ascend_seen es up.1)
@@ -180,4 +180,4 @@ module _ {V : Type 0} where
       let up = ascend_seen es ordered in
       let same = keyed_is es ps (λ j e there. get_or_from_slice_get (keys ps) e.1 e.0 []
       (key-place e.0 ps e.1 (sym (has e.0) ∙ sym (get_seen e.0 es) ∙ get-at (seen es) j e (distinct_from (seen es) up) there))) in
-      (subst KeysAscend (sym same) up, λ k. ap (get k) same ∙ get_seen k es ∙ has k)
+      (subst HasAscendingKeys (sym same) up, λ k. ap (get k) same ∙ get_seen k es ∙ has k)

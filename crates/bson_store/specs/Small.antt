@@ -29,8 +29,8 @@ module _ {V : Type 0} where
   HasPlaces m ps = (k : List ℕ) → get_by_text m k ≡ position_of k ps
 
   -- each key is below those behind it
-  abbrev pub KeysAscend : List (List ℕ × V) → Type 0
-  KeysAscend ps = IsStrictlySortedBy key_cmp (keys ps)
+  abbrev pub HasAscendingKeys : List (List ℕ × V) → Type 0
+  HasAscendingKeys ps = IsStrictlySortedBy key_cmp (keys ps)
 
 module _ {V : Type 0} where
   -- the key at each place, with the place
@@ -39,7 +39,7 @@ module _ {V : Type 0} where
 
   -- the places have their keys ascend, and are those of the keys
   abbrev pub AreSorted : List ℕ → List (List ℕ × V) → Type 0
-  AreSorted is ps = KeysAscend (keyed is ps) × ((k : List ℕ) → get k (keyed is ps) ≡ position_of k ps)
+  AreSorted is ps = HasAscendingKeys (keyed is ps) × ((k : List ℕ) → get k (keyed is ps) ≡ position_of k ps)
 
   -- the index has each key at its place, and no other
   abbrev pub Indexes : Index → List (List ℕ × V) → Type 0
@@ -48,7 +48,7 @@ module _ {V : Type 0} where
 
   -- with no index, pairs that are more than sixteen have keys that ascend; with one, they are more than sixteen
   abbrev pub IsPlaced : List (List ℕ × V) → IndexOrNone → Type 0
-  IsPlaced ps None = 16 < length ps → KeysAscend ps
+  IsPlaced ps None = 16 < length ps → HasAscendingKeys ps
   IsPlaced ps (Some x) = (16 < length ps) × Indexes x.value ps
 
   -- what always holds of the pairs and of their index

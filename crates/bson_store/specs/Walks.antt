@@ -4,8 +4,8 @@ use Rattle.std.specs.Prelude.{slice_get, filter_map, string_bytes}
 use Rattle.std.specs.FinMap.Entries.{where_key}
 use Rattle.std.specs.Slice.Iter.{iter_rest}
 use Rattle.bson_store.specs.Order.{key_cmp, is_above, in_order}
-use Rattle.bson_store.specs.declared.small.iter.Turn.{Turn}
-use Rattle.bson_store.specs.declared.small.iter.Turn.TheVariants.{From, Sorted, Mapped, Above}
+use Rattle.bson_store.specs.declared.small.iter.Cursor.{Cursor}
+use Rattle.bson_store.specs.declared.small.iter.Cursor.TheVariants.{From, Sorted, Mapped, Above}
 
 module _ {V : Type 0} where
   -- the pairs at the places
@@ -13,7 +13,7 @@ module _ {V : Type 0} where
   pairs_at is ps = filter_map (slice_get ps) is
 
   -- the pairs that are still to come
-  abbrev pub left : Turn → List (List ℕ × V) → List (List ℕ × V)
+  abbrev pub left : Cursor → List (List ℕ × V) → List (List ℕ × V)
   left (From i) ps = drop i ps
   left (Sorted it) ps = pairs_at (iter_rest it) ps
   left (Mapped is) ps = pairs_at is ps
@@ -23,14 +23,14 @@ module _ {V : Type 0} where
   abbrev pub AreWithin : List ℕ → List (List ℕ × V) → Type 0
   AreWithin is ps = (j i : ℕ) → slice_get is j ≡ Some i → i < length ps
 
-  abbrev pub IsWithin : Turn → List (List ℕ × V) → Type 0
+  abbrev pub IsWithin : Cursor → List (List ℕ × V) → Type 0
   IsWithin (From i) ps = i ≤ length ps
   IsWithin (Sorted it) ps = AreWithin (iter_rest it) ps
   IsWithin (Mapped is) ps = AreWithin is ps
   IsWithin (Above last) ps = Unit {0}
 
   -- all pairs are still to come, by ascending key
-  abbrev pub GoesByKey : Turn → List (List ℕ × V) → Type 0
+  abbrev pub GoesByKey : Cursor → List (List ℕ × V) → Type 0
   GoesByKey turn ps = IsWithin turn ps × (left turn ps ≡ in_order ps)
 
   -- the first pair that was still to come stands at the place
@@ -38,5 +38,5 @@ module _ {V : Type 0} where
   IsFirst ps old new r = MatchOption r ((old ≡ []) × (new ≡ []))
       (λ i. (p : List ℕ × V) × (slice_get ps i ≡ Some p) × (old ≡ p ∷ new))
 
-  abbrev pub TakesPlace : List (List ℕ × V) → Turn → Option ℕ → Turn → Type 0
+  abbrev pub TakesPlace : List (List ℕ × V) → Cursor → Option ℕ → Cursor → Type 0
   TakesPlace ps old r new = IsWithin new ps × IsFirst ps (left old ps) (left new ps) r

@@ -3,14 +3,14 @@ ghost use Rattle.std.specs.Prelude.{◌≡◌, ◌≤◌, [], ◌∷◌, ◌++�
 ghost use Rattle.std.specs.Prelude.{IsTrue, false};
 ghost use Rattle.bson_store.specs.Ascending.{IsFirstAbove};
 ghost use Rattle.bson_store.specs.Pairs.{position_of, HasDistinctKeys};
-ghost use Rattle.bson_store.specs.Small.{stored_pairs, KeysAscend, IsPlaced};
+ghost use Rattle.bson_store.specs.Small.{stored_pairs, HasAscendingKeys, IsPlaced};
 
 use crate::places::FEW;
 use crate::small::Pair;
 
 // The place of the first key above the key, or the number of the pairs.
 fn first_above<V>(pairs: &Vec<Pair<V>>, key: &str) -> usize
-    requires { KeysAscend (stored_pairs pairs.now.items) }
+    requires { HasAscendingKeys (stored_pairs pairs.now.items) }
     ensures { IsFirstAbove (Some key.now) (stored_pairs pairs.now.items) result }
 {
     let mut low = 0;
@@ -29,7 +29,7 @@ fn first_above<V>(pairs: &Vec<Pair<V>>, key: &str) -> usize
 // The place of the key.
 pub(crate) fn find_ascending<V>(pairs: &Vec<Pair<V>>, key: &str) -> Option<usize>
     requires distinct { HasDistinctKeys (stored_pairs pairs.now.items) }
-    requires ascending { KeysAscend (stored_pairs pairs.now.items) }
+    requires ascending { HasAscendingKeys (stored_pairs pairs.now.items) }
     ensures { result ≡ position_of key.now (stored_pairs pairs.now.items) }
 {
     let above = first_above(pairs, key);
@@ -45,9 +45,9 @@ pub(crate) fn find_ascending<V>(pairs: &Vec<Pair<V>>, key: &str) -> Option<usize
 // Whether the key is above those of the first pairs, which ascend.
 fn is_above_first<V>(pairs: &Vec<Pair<V>>, count: usize, key: &str) -> bool
     requires within { count ≤ length (stored_pairs pairs.now.items) }
-    requires ascending { KeysAscend (take count (stored_pairs pairs.now.items)) }
+    requires ascending { HasAscendingKeys (take count (stored_pairs pairs.now.items)) }
     ensures { IsTrue result
-        → (v : V) → KeysAscend (take count (stored_pairs pairs.now.items) ++ (key.now, v) ∷ []) }
+        → (v : V) → HasAscendingKeys (take count (stored_pairs pairs.now.items) ++ (key.now, v) ∷ []) }
 {
     if count == 0 {
         return true;
@@ -57,7 +57,7 @@ fn is_above_first<V>(pairs: &Vec<Pair<V>>, count: usize, key: &str) -> bool
 
 // Whether the keys ascend.
 pub(crate) fn ascends<V>(pairs: &Vec<Pair<V>>) -> bool
-    ensures { IsTrue result → KeysAscend (stored_pairs pairs.now.items) }
+    ensures { IsTrue result → HasAscendingKeys (stored_pairs pairs.now.items) }
 {
     let mut count = 0;
     'pairs: while count < pairs.len() && is_above_first(pairs, count, pairs[count].key.as_str()) {

@@ -6,7 +6,7 @@ ghost use Rattle.bson_store.specs.Ascending.{IsFirstAbove};
 ghost use Rattle.bson_store.specs.Order.{key_cmp};
 ghost use Rattle.bson_store.specs.Pairs.{keys, position_of, HasDistinctKeys};
 ghost use Rattle.bson_store.specs.Removal.{place_after_removal};
-ghost use Rattle.bson_store.specs.Small.{stored_pairs, keyed, KeysAscend, AreSorted};
+ghost use Rattle.bson_store.specs.Small.{stored_pairs, keyed, HasAscendingKeys, AreSorted};
 
 use crate::small::Pair;
 use std::alloc::{AllocError, Global};
@@ -31,7 +31,7 @@ fn is_below<V>(pairs: &Vec<Pair<V>>, one: usize, next: usize) -> bool
 
 // Among the sorted places, that of the first key above the key, or their number.
 fn first_above<V>(pairs: &Vec<Pair<V>>, places: &Vec<usize>, key: &str) -> usize
-    requires { KeysAscend (keyed places.now.items (stored_pairs pairs.now.items)) }
+    requires { HasAscendingKeys (keyed places.now.items (stored_pairs pairs.now.items)) }
     ensures { IsFirstAbove (Some key.now) (keyed places.now.items (stored_pairs pairs.now.items)) result }
 {
     let mut low = 0;

@@ -1,6 +1,6 @@
 //! Runs of the calls on BSON bytes.
 use crate::ran::Ends;
-use bson::extjson::{Doubles, Options};
+use bson::extjson::{Doubles, KeyOrder, Options};
 use bson::{Bson, Document};
 use bson_codec::de::DEPTH;
 use bson_codec::documents::{Line, Run, run_documents};
@@ -57,6 +57,7 @@ pub(crate) fn documents(
     let run = Run {
         options: Options {
             doubles: Doubles::Finite,
+            key_order: KeyOrder::Ascending,
         },
         line,
         keep_going: on_refusal == OnRefusal::KeepGoing,

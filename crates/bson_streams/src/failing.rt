@@ -25,22 +25,22 @@ impl End {
     }
 }
 
-/// Gives at most `piece` bytes a read, until `reads` reads were done.
+/// Gives at most `span` bytes a read, until `reads` reads were done.
 #[derive(Drop)]
-pub(crate) struct Pieces<'a> {
+pub(crate) struct MemberSpans<'a> {
     pub rest: &'a [u8],
-    pub piece: usize,
+    pub span: usize,
     pub reads: u64,
     pub end: End,
 }
 
-impl Read for Pieces<'_> {
+impl Read for MemberSpans<'_> {
     fn read(&mut self, buf: &mut [u8]) -> io::Result<usize> {
         if self.reads == 0 {
             return self.end.answer();
         }
         self.reads -= 1;
-        let most = buf.len().min(self.piece);
+        let most = buf.len().min(self.span);
         self.rest.read(&mut buf[..most])
     }
 }

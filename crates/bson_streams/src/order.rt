@@ -24,7 +24,7 @@ pub(crate) enum Call {
 pub(crate) struct Order {
     pub call: Call,
     /// The reader gives so many bytes a read at most.
-    pub piece: usize,
+    pub span: usize,
     /// The reader gives so many reads.
     pub reads: u64,
     /// The writer takes so many bytes.
@@ -40,7 +40,7 @@ pub(crate) fn order_of(line: &[u8]) -> Option<Order> {
     let mut words = str::from_utf8(line).ok()?.split(' ');
     Some(Order {
         call: call_of(words.next()?)?,
-        piece: words.next()?.parse::<usize>().ok()?,
+        span: words.next()?.parse::<usize>().ok()?,
         reads: words.next()?.parse::<u64>().ok()?,
         writes: words.next()?.parse::<u64>().ok()?,
         reports: words.next()?.parse::<u64>().ok()?,

@@ -1,13 +1,13 @@
 //! A run, and what is told of it.
 use crate::coded;
-use crate::failing::{Drip, Pieces};
+use crate::failing::{Drip, MemberSpans};
 use crate::order::{Call, Order};
-use bson::extjson::Options;
+use bson::extjson::{KeyOrder, Options};
 use bson_convert::convert::convert;
 use bson_convert::error::Error;
 use bson_convert::mode::Mode;
 use bson_convert::run::run;
-use bson_run::in_order::convert_in_order;
+use bson_run::convert::convert_text;
 use bson_run::lines::LineRun;
 use bson_run::order::{OnRefusal, Task};
 use std::alloc::{AllocError, Global};
@@ -18,7 +18,7 @@ const ROOM: usize = 4096;
 /// The reader and the writers of a run.
 #[derive(Drop)]
 pub(crate) struct Ends<'a> {
-    pub reader: Pieces<'a>,
+    pub reader: MemberSpans<'a>,
     pub writer: Drip,
     pub report: Drip,
 }
@@ -26,9 +26,9 @@ pub(crate) struct Ends<'a> {
 impl<'a> Ends<'a> {
     fn of(alloc: Global, order: Order, input: &'a [u8]) -> Result<Ends<'a>, AllocError> {
         Ok(Ends {
-            reader: Pieces {
+            reader: MemberSpans {
                 rest: input,
-                piece: order.piece,
+                span: order.span,
                 reads: order.reads,
                 end: order.end,
             },
@@ -53,12 +53,12 @@ pub(crate) fn ran(alloc: Global, order: Order, input: &[u8]) -> Result<Vec<u8>, 
         Call::Run(mode) => whole(alloc, mode, &mut ends)?,
         Call::Convert(mode) => converted(alloc, convert(alloc, mode, input), &mut ends)?,
         Call::ConvertInOrder(mode) => {
-            let options = Options::default();
-            converted(
-                alloc,
-                convert_in_order(alloc, options, mode, input),
-                &mut ends,
-            )?
+            let options = Options {
+                key_order: KeyOrder::AsGiven,
+                ..Options::default()
+            };
+            let output = convert_text(alloc, options, mode, input);
+            converted(alloc, output, &mut ends)?
         }
         Call::RunLines(task, on_refusal) => by_lines(alloc, task, on_refusal, &mut ends)?,
         Call::FromReader => coded::read(alloc, &mut ends)?,
@@ -83,7 +83,7 @@ fn whole(alloc: Global, mode: Mode, ends: &mut Ends<'_>) -> Result<String, Alloc
     }
 }
 
-/// The answer of `convert` or `convert_in_order`, as that of `run`. What it gave stands where a
+/// The answer of `convert` or `convert_text`, as that of `run`. What it gave stands where a
 /// writer would have taken it.
 fn converted(
     alloc: Global,

@@ -3,7 +3,7 @@ use Rattle.std.proofs.Common.{ℤ, pos, refl, subst, rules}
 use Rattle.std.specs.Prelude.{codes, ℕ, List}
 use Rattle.jiff_core.specs.Calendar.{days_of_years, days_of_months, day_count, days_from_civil}
 use Rattle.bson_datetime.specs.Rfc3339.{named_moment, date_part, time_part, fraction_part, offset_part, hours_minutes}
-use Rattle.bson_datetime.specs.Rfc3339.{digits_below, after, after_letter, day_number, two_digits, four_digits}
+use Rattle.bson_datetime.specs.Rfc3339.{digits_below, after_byte, after_letter, day_number, two_digits, four_digits}
 use Rattle.jiff_fmt.specs.Reader.{fraction_value}
 use Rattle.bson_datetime.specs.Moment.{Civil, IsCivil, IsMoment}
 use Rattle.bson_datetime.proofs.Offered.{rfc-fields}
@@ -20,13 +20,13 @@ use Rattle.bson_tables.proofs.Shapes.{row}
 
 millis_read : Means (object_of_one (codes "$date") (tree.string (codes "1970-01-01T00:00:00.005Z")))
     (model.scalar (kind.date (pos 5)))
-unfolding named_moment date_part time_part fraction_part offset_part hours_minutes digits_below after after_letter
+unfolding named_moment date_part time_part fraction_part offset_part hours_minutes digits_below after_byte after_letter
     day_number two_digits four_digits fraction_value days_of_years days_of_months day_count days_from_civil
 millis_read = row _ _ refl
 
 offset_read : Means (object_of_one (codes "$date") (tree.string (codes "1970-01-01T01:00:00+01:00")))
     (model.scalar (kind.date (pos 0)))
-unfolding named_moment date_part time_part fraction_part offset_part hours_minutes digits_below after after_letter
+unfolding named_moment date_part time_part fraction_part offset_part hours_minutes digits_below after_byte after_letter
     day_number two_digits four_digits fraction_value days_of_years days_of_months day_count days_from_civil
 offset_read = row _ _ refl
 

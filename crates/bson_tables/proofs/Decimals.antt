@@ -2,7 +2,7 @@
 use Rattle.std.proofs.Common.{◌≡◌, ℕ, zero, suc, Bool, true, false, not, ◌&&◌, Some, refl, ◌∙◌}
 use Rattle.std.specs.Prelude.{codes}
 use Rattle.std.proofs.lemmas.Bool.{and_parts}
-use Rattle.bson_scalar.specs.Shortest.{finite_text, unsigned_text, top_power, digits_at, is_some_read}
+use Rattle.bson_scalar.specs.Shortest.{finite_double_text, unsigned_text, top_power, digits_at, is_some_read}
 
 -- its power of ten is found from above: at none of the d powers below n is a multiple read
 abbrev none_read : ℕ → ℕ → ℕ → Bool
@@ -35,6 +35,6 @@ power_of_one_and_a_half : top_power 0x3FF8000000000000 1500 ≡ 1099
 unfolding lib.Ieee.round lib.Ieee.to_bits
 power_of_one_and_a_half = top_below 0x3FF8000000000000 400 1500 refl ∙ top_here 0x3FF8000000000000 1099 refl
 
-pub one_and_a_half : finite_text 0x3FF8000000000000 ≡ Some (codes "1.5")
-unfolding finite_text unsigned_text digits_at lib.Ieee.round lib.Ieee.to_bits Rattle.std.specs.Fmt.digits
+pub one_and_a_half : finite_double_text 0x3FF8000000000000 ≡ Some (codes "1.5")
+unfolding finite_double_text unsigned_text digits_at lib.Ieee.round lib.Ieee.to_bits Rattle.std.specs.Fmt.digits
 one_and_a_half = rw power_of_one_and_a_half refl

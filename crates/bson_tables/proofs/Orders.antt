@@ -20,13 +20,13 @@ use Rattle.bson_scalar.specs.declared.form.Form.{Form}
 use Rattle.bson_scalar.specs.declared.form.Form.TheVariants.{Canonical, Relaxed}
 use Rattle.bson_model.specs.Normal.{normal_form}
 use Rattle.bson_model.specs.Value.{Value, scalar, code_scope, array, document, no_values, value, no_pairs, pair}
-use Rattle.bson_order.specs.Kept.{kept, read_kept}
-use Rattle.bson_order.specs.Means.{MeansInOrder}
-use Rattle.bson_order.specs.Reading.{reads_in_order}
-use Rattle.bson_order.specs.Texts.{HasMeaningInOrder}
-use Rattle.bson_order.specs.Writing.{writes_in_order}
-use Rattle.bson_order.specs.Written.{WrittenInOrder}
-use Rattle.bson_order.proofs.Offered.{means_from, text_means, written_from}
+use Rattle.bson_model.specs.Kept.{kept, read_kept}
+use Rattle.bson_model.specs.OrderedMeans.{MeansInOrder}
+use Rattle.bson_model.specs.OrderedReading.{reads_in_order}
+use Rattle.bson_model.specs.OrderedTexts.{HasMeaningInOrder}
+use Rattle.bson_model.specs.OrderedWriting.{writes_in_order}
+use Rattle.bson_model.specs.OrderedWritten.{WrittenInOrder}
+use Rattle.bson_model.proofs.OfferedInOrder.{means_from, text_means, written_from}
 use Rattle.bson_tables.proofs.Decimals.{one_and_a_half}
 use Rattle.bson_tables.proofs.Shapes.{whole}
 

@@ -8,8 +8,8 @@ use Rattle.bson_scalar.specs.Scalar as kind
 use Rattle.bson_scalar.specs.Shapes.{object_of_one, object_of_two}
 use Rattle.bson_scalar.specs.declared.form.Doubles.TheVariants.{Special}
 use Rattle.bson_model.specs.Value as model
-use Rattle.bson_place.specs.Place.{FaultAt, key, element, array, document, here, later, at_key}
-use Rattle.bson_place.proofs.Offered.{lone_fault, not_code}
+use Rattle.bson_tree.specs.Place.{FaultAt, key, element, array, document, here, later, at_key}
+use Rattle.bson_tree.proofs.Offered.{lone_fault, not_code}
 use Rattle.bson_tables.proofs.Shapes.{whole, list_of_two, row}
 
 -- an object id of two letters, which are no hexadecimal digits

@@ -7,11 +7,11 @@ use Rattle.base64.specs.Decode.{groups_error, groups_bytes, scan_steps}
 use Rattle.base64.specs.Rfc4648.{encode_symbols}
 use Rattle.hex.specs.Hex.{encode_with, decode_pairs}
 use Rattle.uuid.specs.Text.{by_index}
-use Rattle.bson_decimal.specs.Steps.{cut_at_34, raise_to_least, zeros_to_add, exponent_value, written_exponent}
+use Rattle.bson_decimal.specs.Steps.{cut_at_34, raise_to_least, zeros_to_add, exponent_value, written_exponent_place}
 use Rattle.bson_decimal.specs.Steps.{scaled_exponent, coefficient, stored_pair, finite}
 use Rattle.bson_decimal.specs.Pattern.{normal_decimal}
-use Rattle.bson_decimal.specs.Displayed.{display_text as decimal_text}
-use Rattle.bson_scalar.specs.Reading.{decimal_of}
+use Rattle.bson_decimal.specs.Displayed.{decimal128_text as decimal_text}
+use Rattle.bson_scalar.specs.Reading.{decimal_pattern}
 use Rattle.bson_scalar.specs.Scalar as kind
 use Rattle.bson_scalar.specs.Shapes.{object_of_one, object_of_two}
 use Rattle.bson_scalar.specs.declared.form.Form.{Form}
@@ -91,7 +91,7 @@ uuid_read = row _ _ refl
 -- 15 at the exponent -1, little-endian
 decimal_read : Means (object_of_one (codes "$numberDecimal") (tree.string (codes "1.5")))
     (model.scalar (kind.decimal (0x0F ∷ 0 ∷ 0 ∷ 0 ∷ 0 ∷ 0 ∷ 0 ∷ 0 ∷ 0 ∷ 0 ∷ 0 ∷ 0 ∷ 0 ∷ 0 ∷ 0x3E ∷ 0x30 ∷ [])))
-unfolding decimal_of cut_at_34 raise_to_least zeros_to_add exponent_value written_exponent scaled_exponent coefficient
+unfolding decimal_pattern cut_at_34 raise_to_least zeros_to_add exponent_value written_exponent_place scaled_exponent coefficient
     stored_pair finite
 decimal_read = row _ _ refl
 
@@ -106,26 +106,26 @@ decimal_written f = canon_from f
 -- the greatest exponent and the least one
 greatest_exponent_read : Means (object_of_one (codes "$numberDecimal") (tree.string (codes "1E+6111")))
     (model.scalar (kind.decimal (1 ∷ 0 ∷ 0 ∷ 0 ∷ 0 ∷ 0 ∷ 0 ∷ 0 ∷ 0 ∷ 0 ∷ 0 ∷ 0 ∷ 0 ∷ 0 ∷ 0xFE ∷ 0x5F ∷ [])))
-unfolding decimal_of cut_at_34 raise_to_least zeros_to_add exponent_value written_exponent scaled_exponent coefficient
+unfolding decimal_pattern cut_at_34 raise_to_least zeros_to_add exponent_value written_exponent_place scaled_exponent coefficient
     stored_pair finite
 greatest_exponent_read = row _ _ refl
 
 least_exponent_read : Means (object_of_one (codes "$numberDecimal") (tree.string (codes "1E-6176")))
     (model.scalar (kind.decimal (1 ∷ 0 ∷ 0 ∷ 0 ∷ 0 ∷ 0 ∷ 0 ∷ 0 ∷ 0 ∷ 0 ∷ 0 ∷ 0 ∷ 0 ∷ 0 ∷ 0 ∷ 0 ∷ [])))
-unfolding decimal_of cut_at_34 raise_to_least zeros_to_add exponent_value written_exponent scaled_exponent coefficient
+unfolding decimal_pattern cut_at_34 raise_to_least zeros_to_add exponent_value written_exponent_place scaled_exponent coefficient
     stored_pair finite
 least_exponent_read = row _ _ refl
 
 added_zero_read : Means (object_of_one (codes "$numberDecimal") (tree.string (codes "1E+6112")))
     (model.scalar (kind.decimal (10 ∷ 0 ∷ 0 ∷ 0 ∷ 0 ∷ 0 ∷ 0 ∷ 0 ∷ 0 ∷ 0 ∷ 0 ∷ 0 ∷ 0 ∷ 0 ∷ 0xFE ∷ 0x5F ∷ [])))
-unfolding decimal_of cut_at_34 raise_to_least zeros_to_add exponent_value written_exponent scaled_exponent coefficient
+unfolding decimal_pattern cut_at_34 raise_to_least zeros_to_add exponent_value written_exponent_place scaled_exponent coefficient
     stored_pair finite
 added_zero_read = row _ _ refl
 
 -- the NaNs that no canonical pattern is: one with a sign, and one that signals; the normal form of both is NaN
 minus_nan_read : Means (object_of_one (codes "$numberDecimal") (tree.string (codes "-NaN")))
     (model.scalar (kind.decimal (0 ∷ 0 ∷ 0 ∷ 0 ∷ 0 ∷ 0 ∷ 0 ∷ 0 ∷ 0 ∷ 0 ∷ 0 ∷ 0 ∷ 0 ∷ 0 ∷ 0 ∷ 0xFC ∷ [])))
-unfolding decimal_of cut_at_34 raise_to_least zeros_to_add exponent_value written_exponent scaled_exponent coefficient
+unfolding decimal_pattern cut_at_34 raise_to_least zeros_to_add exponent_value written_exponent_place scaled_exponent coefficient
     stored_pair finite
 minus_nan_read = row _ _ refl
 
@@ -137,7 +137,7 @@ minus_nan_normal = refl
 
 signalling_nan_read : Means (object_of_one (codes "$numberDecimal") (tree.string (codes "sNaN")))
     (model.scalar (kind.decimal (0 ∷ 0 ∷ 0 ∷ 0 ∷ 0 ∷ 0 ∷ 0 ∷ 0 ∷ 0 ∷ 0 ∷ 0 ∷ 0 ∷ 0 ∷ 0 ∷ 0 ∷ 0x7E ∷ [])))
-unfolding decimal_of cut_at_34 raise_to_least zeros_to_add exponent_value written_exponent scaled_exponent coefficient
+unfolding decimal_pattern cut_at_34 raise_to_least zeros_to_add exponent_value written_exponent_place scaled_exponent coefficient
     stored_pair finite
 signalling_nan_read = row _ _ refl
 

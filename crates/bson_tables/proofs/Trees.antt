@@ -8,7 +8,7 @@ use Rattle.bson_scalar.specs.Shapes.{object_of_one, object_of_two}
 use Rattle.std.specs.Fmt.{signed_decimal}
 use Rattle.hex.specs.Hex.{encode_lower}
 use Rattle.bson_datetime.specs.Displayed.{rfc}
-use Rattle.bson_decimal.specs.Displayed.{display_text as decimal_text}
+use Rattle.bson_decimal.specs.Displayed.{decimal128_text as decimal_text}
 use Rattle.bson_types.specs.Base64.{padded_text}
 use Rattle.bson_types.specs.Regex.{sorted_text}
 use Rattle.bson_types.specs.declared.spec.BinarySubtype.TheVariants.{Generic}

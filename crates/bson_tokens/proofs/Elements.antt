@@ -4,7 +4,7 @@ use Rattle.json.specs.Token.{Token}
 use Rattle.json.specs.Json.{after_end_array, items, value, parse_map}
 use Rattle.serde_json.specs.Data.{Data, Items, no_items, item}
 use Rattle.serde_json.specs.Read.{of_json, of_items, converted}
-use Rattle.bson_tokens.proofs.Rounds.{NoItems, one_item, last_item, no_more_items}
+use Rattle.bson_tokens.proofs.HeldRounds.{NoItems, one_item, last_item, no_more_items}
 
 -- the elements are read to the end of the array
 abbrev pub ItemsAre : ℕ → List Token → Items → List Token → Type 0

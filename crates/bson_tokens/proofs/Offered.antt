@@ -1,3 +1,6 @@
--- The lemmas that the crates above use. No other file of these proofs is cited from outside.
-pub use Rattle.bson_tokens.proofs.Found.{Is, is_found}
-pub use Rattle.bson_tokens.proofs.Rounds.{if_err, if_ok, was_read}
+-- The laws that the crates above use. No other file of these proofs is cited from outside.
+pub use Rattle.bson_tokens.proofs.ReadAlike.{text_read, text_kept, meant, meant_in_order}
+-- how the elements and members of a text are read
+pub use Rattle.bson_tokens.proofs.Rounds.{no_item, one_item, last_item, no_key, no_member, one_member, last_member}
+pub use Rattle.bson_tokens.proofs.FirstFault.{Is, is_found}
+pub use Rattle.bson_tokens.proofs.HeldRounds.{if_err, if_ok, was_read}

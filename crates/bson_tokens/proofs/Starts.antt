@@ -15,7 +15,7 @@ use Rattle.bson_tokens.specs.declared.start.Primitive.{Primitive}
 use Rattle.bson_tokens.specs.declared.start.Primitive.TheVariants.{Null, Bool as Truth, Number, String}
 use Rattle.bson_tokens.specs.declared.start.Start.{Start}
 use Rattle.bson_tokens.specs.declared.start.Start.TheVariants as start
-use Rattle.bson_tokens.proofs.Rounds.{under}
+use Rattle.bson_tokens.proofs.HeldRounds.{under}
 
 array_converted : (o : Option (json.Items × List Token))
     → converted of_json (parse_map json.array o) ≡ parse_map array (converted of_items o)

@@ -1,71 +1,61 @@
--- The first fault of a tree and the path to it, as a function. For private clauses.
-use Rattle.std.specs.Prelude.{ℕ, ◌+◌, List, [], ◌∷◌, ◌++◌, codes, ◌&&◌, if◌then◌else◌, Option, Some, None}
-use Rattle.std.specs.Prelude.{Result, Ok, Err}
+-- The path to the first key that stands twice, as a function. For private clauses.
+use Rattle.std.specs.Prelude.{◌≡◌, ◌++◌, ◌+◌, ℕ, List, [], ◌∷◌, Option, Some, None, Bool, true, false, not, option_map}
+use Rattle.std.specs.Prelude.{Vec}
+use Rattle.std.specs.List.{list_any}
 use Rattle.std.specs.Str.{bytes_eq}
-use Rattle.serde_json.specs.Data.{Data, Items, no_items, item, Members, no_members, member}
-use Rattle.serde_json.specs.Data as tree
-use Rattle.bson_scalar.specs.Faults.{Fault, wrong_shape}
-use Rattle.bson_scalar.specs.Reading.{number_read_in, single_at_in}
-use Rattle.bson_scalar.specs.Scalar.{Scalar}
-use Rattle.bson_scalar.specs.Table.{wrapper_of, has_wrapper}
-use Rattle.bson_scalar.specs.declared.form.Doubles.{Doubles}
-use Rattle.bson_place.specs.Place.{PathSegment, key, element}
+use Rattle.std.specs.declared.alloc.Global.{Global}
+use Rattle.json.specs.Token.{Token}
+use Rattle.json.specs.Json.{Json, Items, no_items, item, Members, no_members, member}
+use Rattle.json.specs.Json as json
+use Rattle.bson_tree.specs.Place.{PathSegment, key, element}
+use Rattle.bson_tree.specs.declared.place.Segment.{Segment}
+use Rattle.bson_tokens.specs.Double.{segments_of}
 
--- a fault and the path from it outward, or none
-abbrev pub Verdict : Type 0
-Verdict = Option (Fault × List PathSegment)
+-- a path, or none
+abbrev pub FoundPath : Type 0
+FoundPath = Option (List PathSegment)
 
-abbrev pub within : PathSegment → Verdict → Verdict
-within t None = None
-within t (Some f) = Some (f.0, f.1 ++ t ∷ [])
+abbrev pub path_within : PathSegment → FoundPath → FoundPath
+path_within t None = None
+path_within t (Some path) = Some (path ++ t ∷ [])
 
-abbrev pub or : Verdict → Verdict → Verdict
-or None w = w
-or (Some f) w = Some f
+abbrev pub or_path : FoundPath → FoundPath → FoundPath
+or_path None w = w
+or_path (Some path) w = Some path
 
-abbrev pub here : Verdict
-here = Some (wrong_shape, [])
+-- of a member, whose key is new or stood before
+abbrev pub at_key : Bool → List ℕ → FoundPath → FoundPath
+at_key true k v = path_within (key k) v
+at_key false k v = Some (key k ∷ [])
 
-abbrev pub of_scalar : Result Scalar Fault → Verdict
-of_scalar (Ok x) = None
-of_scalar (Err f) = Some (f, [])
-
-abbrev pub of_code : Data → Verdict → Verdict
-of_code (tree.string s) scope = scope
-of_code _ scope = here
+abbrev pub stands_among : List (List ℕ) → List ℕ → Bool
+stands_among before k = list_any (λ l. bytes_eq l k) before
 
 abbrev mutual
-  pub found : Doubles → Data → Verdict
-  found D tree.null = None
-  found D (tree.boolean b) = None
-  found D (tree.number n) = of_scalar (number_read_in D n)
-  found D (tree.string s) = None
-  found D (tree.array ds) = found_items D 0 ds
-  found D (tree.object ms) = if has_wrapper ms then found_wrapper D ms else found_members D ms
+  pub double : Json → FoundPath
+  double json.null = None
+  double (json.boolean b) = None
+  double (json.number s) = None
+  double (json.string s) = None
+  double (json.array js) = double_items 0 js
+  double (json.object ms) = double_members [] ms
 
   -- of elements, the first of which has this place in its array
-  pub found_items : Doubles → ℕ → Items → Verdict
-  found_items D n no_items = None
-  found_items D n (item d ds) = or (within (element n) (found D d)) (found_items D (n + 1) ds)
+  pub double_items : ℕ → Items → FoundPath
+  double_items n no_items = None
+  double_items n (item j js) = or_path (path_within (element n) (double j)) (double_items (n + 1) js)
 
-  -- of the values of a map, by ascending key
-  pub found_members : Doubles → Members → Verdict
-  found_members D no_members = None
-  found_members D (member k d ms) = or (within (key k) (found D d)) (found_members D ms)
+  -- of members that stand behind others with these keys
+  pub double_members : List (List ℕ) → Members → FoundPath
+  double_members before no_members = None
+  double_members before (member k j ms) =
+      or_path (at_key (not (stands_among before k)) k (double j)) (double_members (k ∷ before) ms)
 
-  -- of a map with a wrapper's key
-  pub found_wrapper : Doubles → Members → Verdict
-  found_wrapper D no_members = here
-  found_wrapper D (member k d no_members) = within (key k) (of_scalar (single_at_in D (wrapper_of k) d))
-  found_wrapper D (member k d (member l e no_members)) =
-      if bytes_eq k (codes "$code") && bytes_eq l (codes "$scope") then of_code d (found_scope D e) else here
-  found_wrapper D (member k d (member l e (member m f ms))) = here
+-- what an answer tells
+abbrev pub told : Option (Vec Segment Global) → FoundPath
+told path = option_map segments_of path
 
-  -- of what stands as a scope beside code
-  pub found_scope : Doubles → Data → Verdict
-  found_scope D tree.null = None
-  found_scope D (tree.boolean b) = here
-  found_scope D (tree.number n) = here
-  found_scope D (tree.string s) = here
-  found_scope D (tree.array ds) = here
-  found_scope D (tree.object ms) = within (key (codes "$scope")) (found_members D ms)
+-- a value or some were read, of which these tokens are left, and the answer tells their verdict
+abbrev pub Finds : {D : Type 0} → (D → FoundPath) → Option (D × List Token) → Option (Vec Segment Global) → List Token
+    → Type 0
+Finds {D} f values path rest = (d : D) × (values ≡ Some (d, rest)) × (told path ≡ f d)

@@ -1,9 +1,16 @@
+pub mod Normalized
+pub mod Normalizing
+pub mod Double
 pub mod Found
+pub mod PutSpans
+pub mod FirstFault
 pub mod Held
 pub mod Parts
 pub mod Prefix
 pub mod Start
 pub mod Told
 -- what public clauses cite of the crates below, so that a caller names this crate alone
-pub use Rattle.bson_place.specs.Place
+pub use Rattle.bson_tokens.specs.Parts
+pub use Rattle.json.specs.Strict
+pub use Rattle.bson_tree.specs.Place
 pub use Rattle.serde_json.specs.Read

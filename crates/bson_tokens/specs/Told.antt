@@ -3,8 +3,8 @@ use Rattle.std.specs.Prelude.{◌≡◌, ℕ, List, Option, Some, MatchOption}
 use Rattle.bson_scalar.specs.declared.form.Doubles.{Doubles}
 use Rattle.serde_json.specs.Data.{Data}
 use Rattle.serde_json.specs.Read.{read}
-use Rattle.bson_place.specs.Place.{HasValueIn, IsFirstFaultIn}
-use Rattle.bson_place.specs.declared.place.Place.{Place}
+use Rattle.bson_tree.specs.Place.{HasValueIn, IsFirstFaultIn}
+use Rattle.bson_tree.specs.declared.place.Place.{Place}
 
 -- the text has a tree; that has a value, or its first fault lies at the place, for its reason
 abbrev pub IsTextPlaceIn : Doubles → List ℕ → Option Place → Type 0

@@ -4,7 +4,7 @@ use bson::{Bson, Document};
 use bson_codec::de::{DEPTH, DuplicateKeys, Error, ReadOptions};
 use bson_codec::documents::{Line, Run, run_documents};
 use bson_codec::{
-    decode_text, from_reader, from_slice, from_slice_with, is_document, to_vec, to_writer,
+    decode_text, from_bytes, from_reader, from_slice, is_document, to_vec, to_writer,
 };
 use std::alloc::Global;
 
@@ -51,7 +51,7 @@ fn fault_kind(rt: &impl Print, alloc: Global) -> anyhow::Result<()> {
 
 fn duplicate_keys(rt: &impl Print, alloc: Global) -> anyhow::Result<()> {
     let twice = b"\x0b\0\0\0\x0aa\0\x0aa\0\0";
-    let read = from_slice_with(alloc, ReadOptions::default(), twice)?;
+    let read = from_bytes(alloc, ReadOptions::default(), twice)?;
     println!(rt; "{read}")?; // { "a": null }
     Ok(())
 }
@@ -62,7 +62,7 @@ fn read_options(rt: &impl Print, alloc: Global) -> anyhow::Result<()> {
         ..ReadOptions::default()
     };
     let twice = b"\x0b\0\0\0\x0aa\0\x0aa\0\0";
-    if let Err(error) = from_slice_with(alloc, options, twice) {
+    if let Err(error) = from_bytes(alloc, options, twice) {
         println!(rt; "{error}")?; // no BSON document, by the byte at 8
     }
     Ok(())

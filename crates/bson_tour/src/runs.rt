@@ -9,9 +9,9 @@ use bson_convert::fault::Fault;
 use bson_convert::mode::{Mode, mode_of};
 use bson_convert::run::run;
 use bson_run::accepted::Accepted;
-use bson_run::encode::{encode_in_order, encode_with};
+use bson_run::convert::convert_text;
+use bson_run::encode::encode;
 use bson_run::explain::Explanation;
-use bson_run::in_order::convert_in_order;
 use bson_run::indent::indent_text;
 use bson_run::indented::{convert_in_order_indented, convert_indented};
 use bson_run::lines::LineRun;
@@ -22,12 +22,11 @@ use std::alloc::Global;
 
 pub(crate) fn print(rt: &impl Print, alloc: Global) -> anyhow::Result<()> {
     convert_call(rt, alloc)?;
-    convert_in_order_call(rt, alloc)?;
+    convert_text_call(rt, alloc)?;
     tried(rt, alloc)?;
     accepted_of(rt, alloc)?;
     accepted_in_order_of(rt, alloc)?;
     encode_call(rt, alloc)?;
-    encode_in_order_call(rt, alloc)?;
     no_bytes(rt, alloc)?;
     indented_call(rt, alloc)?;
     convert_indented_call(rt, alloc)?;
@@ -55,9 +54,9 @@ fn convert_call(rt: &impl Print, alloc: Global) -> anyhow::Result<()> {
     Ok(())
 }
 
-fn convert_in_order_call(rt: &impl Print, alloc: Global) -> anyhow::Result<()> {
+fn convert_text_call(rt: &impl Print, alloc: Global) -> anyhow::Result<()> {
     let text = br#"{"find": "orders", "batchSize": {"$numberInt": "10"}}"#;
-    if let Ok(line) = convert_in_order(alloc, Options::default(), Mode::Relaxed, text) {
+    if let Ok(line) = convert_text(alloc, Options::mongodb(), Mode::Relaxed, text) {
         rt.print(str::from_utf8(&line)?)?; // {"find":"orders","batchSize":10}
     }
     Ok(())
@@ -66,7 +65,7 @@ fn convert_in_order_call(rt: &impl Print, alloc: Global) -> anyhow::Result<()> {
 fn tried(rt: &impl Print, alloc: Global) -> anyhow::Result<()> {
     let options = Options::default();
     let bytes = br#"{"a": 1.5, "a": 7}"#.as_slice();
-    if let Ok(Tried::Arranged(text)) = try_text(alloc, options, Mode::Relaxed, bytes) {
+    if let Ok(Tried::Normalized(text)) = try_text(alloc, options, Mode::Relaxed, bytes) {
         println!(rt; "{text}")?; // {"a":7}
     }
     Ok(())
@@ -95,15 +94,7 @@ fn accepted_in_order_of(rt: &impl Print, alloc: Global) -> anyhow::Result<()> {
 }
 
 fn encode_call(rt: &impl Print, alloc: Global) -> anyhow::Result<()> {
-    if let Ok(bytes) = encode_with(alloc, Options::default(), br#"{"n": 5, "a": 2}"#) {
-        let document = from_slice(alloc, &bytes, DEPTH)?;
-        println!(rt; "{document}")?; // { "a": 2, "n": 5 }
-    }
-    Ok(())
-}
-
-fn encode_in_order_call(rt: &impl Print, alloc: Global) -> anyhow::Result<()> {
-    if let Ok(bytes) = encode_in_order(alloc, Options::default(), br#"{"n": 5, "a": 2}"#) {
+    if let Ok(bytes) = encode(alloc, Options::mongodb(), br#"{"n": 5, "a": 2}"#) {
         let document = from_slice(alloc, &bytes, DEPTH)?;
         println!(rt; "{document}")?; // { "n": 5, "a": 2 }
     }
@@ -111,7 +102,7 @@ fn encode_in_order_call(rt: &impl Print, alloc: Global) -> anyhow::Result<()> {
 }
 
 fn no_bytes(rt: &impl Print, alloc: Global) -> anyhow::Result<()> {
-    if let Err(Error::NoBytes(why)) = encode_in_order(alloc, Options::default(), b"[1, 2]") {
+    if let Err(Error::NoBytes(why)) = encode(alloc, Options::default(), b"[1, 2]") {
         println!(rt; "{}", why.message())?; // not a document
     }
     Ok(())

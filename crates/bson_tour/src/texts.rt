@@ -1,11 +1,11 @@
 //! Extended JSON, from trees and texts, and why they mean nothing.
-use bson::extjson::{Doubles, Form, Options};
+use bson::extjson::{Doubles, Form, KeyOrder, Options};
 use bson::{Bson, Document};
 use bson_convert::canonical::{check_canonical, is_canonical_text};
-use bson_convert::convert::text_with;
+use bson_convert::convert::converted_text;
 use bson_convert::mode::Mode;
-use bson_place::builder::Nothing;
-use bson_place::walk::{first_place, read_tree};
+use bson_tree::builder::Nothing;
+use bson_tree::walk::{first_place, read_tree};
 use serde_json::Value;
 use std::alloc::Global;
 
@@ -15,14 +15,13 @@ pub(crate) fn print(rt: &impl Print, alloc: Global) -> anyhow::Result<()> {
     options(rt, alloc)?;
     form(rt, alloc)?;
     doubles(rt, alloc)?;
-    to_text_with_call(rt, alloc)?;
-    to_text_in_order_call(rt, alloc)?;
+    key_order(rt, alloc)?;
+    to_text_call(rt, alloc)?;
     write_text_into_call(rt, alloc)?;
     try_from_text_call(rt, alloc)?;
-    try_from_text_with_call(rt, alloc)?;
-    try_from_text_in_order_call(rt, alloc)?;
+    from_text_call(rt, alloc)?;
     text_error(rt, alloc)?;
-    text_with_call(rt, alloc)?;
+    converted_text_call(rt, alloc)?;
     is_canonical_text_call(rt, alloc)?;
     check_canonical_call(rt, alloc)?;
     place(rt, alloc)?;
@@ -50,12 +49,9 @@ fn write_error(rt: &impl Print, alloc: Global) -> anyhow::Result<()> {
 
 fn options(rt: &impl Print, alloc: Global) -> anyhow::Result<()> {
     let half = Bson::Double(0x3fe0_0000_0000_0000);
-    let options = Options {
-        doubles: Doubles::Finite,
-    };
-    println!(rt; "{}", half.into_text_with(alloc, options, Form::Canonical)?)?;
-    // {"$numberDouble":"0.5"}
-    if let Err(error) = Bson::Double(1).into_text_with(alloc, Options::default(), Form::Canonical) {
+    let text = half.into_text(alloc, Options::mongodb(), Form::Canonical)?;
+    println!(rt; "{text}")?; // {"$numberDouble":"0.5"}
+    if let Err(error) = Bson::Double(1).into_text(alloc, Options::default(), Form::Canonical) {
         println!(rt; "{error}")?; // a finite double has no text
     }
     Ok(())
@@ -63,9 +59,9 @@ fn options(rt: &impl Print, alloc: Global) -> anyhow::Result<()> {
 
 fn form(rt: &impl Print, alloc: Global) -> anyhow::Result<()> {
     let (count, options) = (Bson::Int32(5), Options::default());
-    let canonical = count.to_text_with(alloc, options, Form::Canonical)?;
+    let canonical = count.to_text(alloc, options, Form::Canonical)?;
     println!(rt; "{canonical}")?; // {"$numberInt":"5"}
-    let relaxed = count.to_text_with(alloc, options, Form::Relaxed)?;
+    let relaxed = count.to_text(alloc, options, Form::Relaxed)?;
     println!(rt; "{relaxed}")?; // 5
     Ok(())
 }
@@ -73,29 +69,30 @@ fn form(rt: &impl Print, alloc: Global) -> anyhow::Result<()> {
 fn doubles(rt: &impl Print, alloc: Global) -> anyhow::Result<()> {
     let options = Options {
         doubles: Doubles::Finite,
+        ..Options::default()
     };
-    let value = Bson::try_from_text_with(alloc, options, b"[0.5, 1]")?;
+    let value = Bson::from_text(alloc, options, b"[0.5, 1]")?;
     println!(rt; "{value:?}")?; // Array([Double(0x3fe0000000000000), Int32(1)])
     Ok(())
 }
 
-fn to_text_with_call(rt: &impl Print, alloc: Global) -> anyhow::Result<()> {
+fn key_order(rt: &impl Print, alloc: Global) -> anyhow::Result<()> {
     let options = Options {
-        doubles: Doubles::Finite,
+        key_order: KeyOrder::AsGiven,
+        ..Options::default()
     };
-    let price = Bson::Double(0x4029_0000_0000_0000);
-    println!(rt; "{}", price.to_text_with(alloc, options, Form::Relaxed)?)?;
-    // 12.5
+    let value = Bson::from_text(alloc, options, br#"{"b": 1, "a": 2}"#)?;
+    println!(rt; "{value}")?; // { "b": 1, "a": 2 }
     Ok(())
 }
 
-fn to_text_in_order_call(rt: &impl Print, alloc: Global) -> anyhow::Result<()> {
+fn to_text_call(rt: &impl Print, alloc: Global) -> anyhow::Result<()> {
     let orders = Bson::string(alloc, "orders")?;
     let mut command = Document::new(alloc);
     drop(command.insert(String::from_str(alloc, "find")?, orders)?);
     drop(command.insert(String::from_str(alloc, "batchSize")?, Bson::Int32(10))?);
     let command = Bson::Document(command);
-    let text = command.to_text_in_order(alloc, Options::default(), Form::Relaxed)?;
+    let text = command.to_text(alloc, Options::mongodb(), Form::Relaxed)?;
     println!(rt; "{text}")?; // {"find":"orders","batchSize":10}
     println!(rt; "{}", command.to_relaxed_text(alloc)?)?; // {"batchSize":10,"find":"orders"}
     Ok(())
@@ -116,19 +113,11 @@ fn try_from_text_call(rt: &impl Print, alloc: Global) -> anyhow::Result<()> {
     Ok(())
 }
 
-fn try_from_text_with_call(rt: &impl Print, alloc: Global) -> anyhow::Result<()> {
-    let options = Options {
-        doubles: Doubles::Finite,
-    };
-    let value = Bson::try_from_text_with(alloc, options, br#"{"price": 12.5}"#)?;
-    println!(rt; "{value:?}")?; // Document({"price": Double(0x4029000000000000)})
-    Ok(())
-}
-
-fn try_from_text_in_order_call(rt: &impl Print, alloc: Global) -> anyhow::Result<()> {
-    let text = br#"{"find": "orders", "batchSize": 10}"#;
-    let value = Bson::try_from_text_in_order(alloc, Options::default(), text)?;
-    println!(rt; "{value}")?; // { "find": "orders", "batchSize": 10 }
+fn from_text_call(rt: &impl Print, alloc: Global) -> anyhow::Result<()> {
+    let text = br#"{"price": 12.5, "count": 10}"#;
+    let value = Bson::from_text(alloc, Options::mongodb(), text)?;
+    println!(rt; "{value:?}")?;
+    // Document({"price": Double(0x4029000000000000), "count": Int32(10)})
     Ok(())
 }
 
@@ -139,9 +128,9 @@ fn text_error(rt: &impl Print, alloc: Global) -> anyhow::Result<()> {
     Ok(())
 }
 
-fn text_with_call(rt: &impl Print, alloc: Global) -> anyhow::Result<()> {
+fn converted_text_call(rt: &impl Print, alloc: Global) -> anyhow::Result<()> {
     let bytes = br#"[{"$numberLong": "5"}]"#;
-    if let Ok(text) = text_with(alloc, Options::default(), Mode::Relaxed, bytes) {
+    if let Ok(text) = converted_text(alloc, Options::default(), Mode::Relaxed, bytes) {
         println!(rt; "{}", str::from_utf8(&text)?)?; // [5]
     }
     Ok(())

@@ -6,7 +6,7 @@ use Rattle.base64.specs.Rfc4648.{encode_symbols, padding_len}
 use Rattle.base64.specs.Engines.{standard}
 use Rattle.base64.specs.GeneralPurpose.{IsBytes, decode_of, encode_of, engine_symbols}
 use Rattle.base64.proofs.EngineFacts.{decode_of_strict, decode_of-encode_of}
-use Rattle.bson_types.specs.Base64.{IsBase64, digit, padded_text}
+use Rattle.bson_types.specs.Base64.{IsBase64, base64_digit, padded_text}
 use Rattle.bson_types.proofs.ByteRanges.{base64_bytes}
 
 three_more : (n : ℕ) → padding_len (suc (suc (suc n))) ≡ padding_len n
@@ -22,7 +22,7 @@ padded (a ∷ b ∷ c ∷ rest) =
     let end : digits ++ replicate (padding_len (length (a ∷ b ∷ c ∷ rest))) 61 ≡ padded_text rest =
     ap (λ n. digits ++ replicate n 61) (three_more (length rest))
     ∙ padded rest in
-    ap (λ t. digit (a / 4) ∷ digit (a % 4 * 16 + b / 16) ∷ digit (b % 16 * 4 + c / 64) ∷ digit (c % 64) ∷ t) end
+    ap (λ t. base64_digit (a / 4) ∷ base64_digit (a % 4 * 16 + b / 16) ∷ base64_digit (b % 16 * 4 + c / 64) ∷ base64_digit (c % 64) ∷ t) end
 
 -- what decodes in a text of bytes is what the text says
 pub base64_from : (text bytes : List ℕ) → IsBytes text → decode_of standard text ≡ Ok bytes → IsBase64 text bytes

@@ -10,6 +10,6 @@ abbrev pub IsVectorError : Error → Type 0
 IsVectorError (Vector message) = Unit {0}
 IsVectorError _ = ⊥
 
-abbrev pub IsOutOfMemory : Error → Type 0
-IsOutOfMemory OutOfMemory = Unit {0}
-IsOutOfMemory _ = ⊥
+abbrev pub IsAllocationError : Error → Type 0
+IsAllocationError OutOfMemory = Unit {0}
+IsAllocationError _ = ⊥

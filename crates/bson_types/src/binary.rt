@@ -5,7 +5,7 @@ ghost use Rattle.std.specs.Prelude.{OnOk, length, true, unwrap_or, vec_len};
 ghost use Rattle.base64.specs.Engines.{standard};
 ghost use Rattle.base64.specs.GeneralPurpose.{encode_of};
 ghost use Rattle.bson_types.specs.Base64.{IsBase64, padded_text};
-ghost use Rattle.bson_types.specs.Fault.{IsDecodingError, IsOutOfMemory};
+ghost use Rattle.bson_types.specs.Fault.{IsDecodingError, IsAllocationError};
 ghost use Rattle.bson_types.specs.Orders.{bytes_in_order, subtype_for};
 ghost use Rattle.bson_types.specs.VectorData.{IsInRange, IsOnlyOne, data_in_range, vector_view};
 ghost use Rattle.bson_types.specs.Vectors.{is_vector, vector_bytes};
@@ -77,7 +77,7 @@ impl Binary {
         ensures ok { IfOk result (λ b. IsBase64 text.now b.bytes.items) }
 
         // No text that is base64 is refused.
-        ensures err { IfErr result (λ e. IsOutOfMemory e
+        ensures err { IfErr result (λ e. IsAllocationError e
             ⊎ (IsDecodingError e × ((bytes : List ℕ) → ¬ (IsBase64 text.now bytes)))) }
     {
         let input = text.as_bytes();

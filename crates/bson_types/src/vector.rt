@@ -4,7 +4,7 @@ ghost use Rattle.std.specs.Prelude.{IfOk, OnOk, false, length, map, true};
 ghost use Rattle.std.specs.Int.{cast_signed, cast_unsigned, w8};
 ghost use Rattle.std.specs.List.{AllByRecursion};
 ghost use Rattle.bson_types.specs.Oid.{IsBytes};
-ghost use Rattle.bson_types.specs.Fault.{IsOutOfMemory, IsVectorError};
+ghost use Rattle.bson_types.specs.Fault.{IsAllocationError, IsVectorError};
 ghost use Rattle.bson_types.specs.Packed.{packed_bytes, packed_padding};
 ghost use Rattle.bson_types.specs.IgnoredBits.{cleared_bytes};
 ghost use Rattle.bson_types.specs.Vectors.{is_vector, is_vector_of_any_bits, le_bytes_of};
@@ -69,7 +69,7 @@ impl Vector {
 
         // Exactly the bytes of a vector are accepted: those that some data in range has.
         ensures accepted { OnOk result (is_vector bytes.now ≡ true) }
-        ensures refused { IfErr result (λ e. IsOutOfMemory e ⊎ (IsVectorError e × (is_vector bytes.now ≡ false))) }
+        ensures refused { IfErr result (λ e. IsAllocationError e ⊎ (IsVectorError e × (is_vector bytes.now ≡ false))) }
         ensures meaning { (is_vector bytes.now ≡ true) ↔ IsVectorBytes bytes.now }
     {
         match bytes {
@@ -98,7 +98,7 @@ impl Vector {
 
         // Exactly the bytes of a vector are accepted, whatever its ignored bits.
         ensures accepted { OnOk result (is_vector_of_any_bits bytes.now ≡ true) }
-        ensures refused { IfErr result (λ e. IsOutOfMemory e
+        ensures refused { IfErr result (λ e. IsAllocationError e
             ⊎ (IsVectorError e × (is_vector_of_any_bits bytes.now ≡ false))) }
     {
         match bytes {
@@ -121,7 +121,7 @@ impl Vector {
         ensures only { IfOk result (λ v. IsOnlyOne binary.now.bytes.items (vector_view v)) }
 
         ensures accepted { OnOk result (is_vector binary.now.bytes.items ≡ true) }
-        ensures refused { IfErr result (λ e. IsOutOfMemory e
+        ensures refused { IfErr result (λ e. IsAllocationError e
             ⊎ (IsVectorError e
             × ((binary.now.subtype ≢ BinarySubtype.Vector) ⊎ (is_vector binary.now.bytes.items ≡ false)))) }
     {
@@ -166,7 +166,7 @@ fn packed_bits(alloc: Global, padding: u8, contents: &[u8]) -> Result<Vector>
     ensures ok { IfOk result (λ v. vector_view v ≡ packed contents.now padding) }
     ensures ranged { IfOk result (λ v. IsInRange (vector_view v)) }
     ensures accepted { OnOk result (is_vector (0x10 ∷ padding ∷ contents.now) ≡ true) }
-    ensures refused { IfErr result (λ e. IsOutOfMemory e
+    ensures refused { IfErr result (λ e. IsAllocationError e
         ⊎ (IsVectorError e × (is_vector (0x10 ∷ padding ∷ contents.now) ≡ false))) }
 {
     let Ok(bytes) = Vec::from_slice(alloc, contents) else {
@@ -179,7 +179,7 @@ fn cleared_bits(alloc: Global, padding: u8, contents: &[u8]) -> Result<Vector>
     ensures ok { IfOk result (λ v. vector_view v ≡ packed (cleared_bytes contents.now padding) padding) }
     ensures ranged { IfOk result (λ v. IsInRange (vector_view v)) }
     ensures accepted { OnOk result (is_vector_of_any_bits (0x10 ∷ padding ∷ contents.now) ≡ true) }
-    ensures refused { IfErr result (λ e. IsOutOfMemory e
+    ensures refused { IfErr result (λ e. IsAllocationError e
         ⊎ (IsVectorError e × (is_vector_of_any_bits (0x10 ∷ padding ∷ contents.now) ≡ false))) }
 {
     let Ok(bytes) = Vec::from_slice(alloc, contents) else {
@@ -193,7 +193,7 @@ fn numbers(alloc: Global, kind: u8, padding: u8, contents: &[u8]) -> Result<Vect
     ensures ok { IfOk result (λ v. vector_bytes v ≡ kind ∷ padding ∷ contents.now) }
     ensures ranged { IfOk result (λ v. IsInRange (vector_view v)) }
     ensures accepted { OnOk result (is_vector (kind ∷ padding ∷ contents.now) ≡ true) }
-    ensures refused { IfErr result (λ e. IsOutOfMemory e
+    ensures refused { IfErr result (λ e. IsAllocationError e
         ⊎ (IsVectorError e × (is_vector_of_any_bits (kind ∷ padding ∷ contents.now) ≡ false))) }
 {
     if padding != 0 {
@@ -213,7 +213,7 @@ fn numbers(alloc: Global, kind: u8, padding: u8, contents: &[u8]) -> Result<Vect
 fn signed_bytes(alloc: Global, contents: &[u8]) -> Result<Vec<i8>>
     ensures ok { IfOk result (λ v. map (cast_unsigned w8) v.items ≡ contents.now) }
     ensures range { IfOk result (λ v. AllByRecursion (FitsSigned w8) v.items) }
-    ensures err { IfErr result IsOutOfMemory }
+    ensures err { IfErr result IsAllocationError }
 {
     match collect(alloc, contents) {
         Ok(v) => Ok(v),
@@ -234,7 +234,7 @@ fn words(alloc: Global, contents: &[u8]) -> Result<Vec<u32>>
     ensures ok { IfOk result (λ v. le_bytes_of v.items ≡ contents.now) }
     ensures range { IfOk result (λ v. AllByRecursion (λ n. n < 2 ^ 32) v.items) }
     ensures whole { OnOk result (length contents.now % 4 ≡ 0) }
-    ensures err { IfErr result (λ e. IsOutOfMemory e ⊎ (IsVectorError e × (length contents.now % 4 ≢ 0))) }
+    ensures err { IfErr result (λ e. IsAllocationError e ⊎ (IsVectorError e × (length contents.now % 4 ≢ 0))) }
 {
     if contents.len() % 4 != 0 {
         return Err(Error::Vector {

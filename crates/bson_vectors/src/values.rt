@@ -37,8 +37,8 @@ fn refused_nowhere_in_comparing_and_hashing(rt: HostRuntime) -> Result<(), Fail>
     assert!(rt; one == other);
     assert!(rt; hashed(&one) == hashed(&other));
     assert!(rt; one != Bson::Null);
-    assert!(rt; one.eq_in_order(&one));
-    assert!(rt; !one.eq_in_order(&other));
+    assert!(rt; one.eq_ordered(&one));
+    assert!(rt; !one.eq_ordered(&other));
     Ok(())
 }
 
@@ -47,8 +47,8 @@ fn refused_nowhere_in_comparing_documents(rt: HostRuntime) -> Result<(), Fail> {
     let one = numbers(rt.alloc(), false)?;
     let other = numbers(rt.alloc(), true)?;
     assert!(rt; one == other);
-    assert!(rt; one.eq_in_order(&one));
-    assert!(rt; !one.eq_in_order(&other));
+    assert!(rt; one.eq_ordered(&one));
+    assert!(rt; !one.eq_ordered(&other));
     Ok(())
 }
 

@@ -6,7 +6,7 @@ use Rattle.std.specs.Prelude.{is_none, min, option_map}
 use Rattle.std.proofs.lemmas.Bool.{eqb-false, false_from_ne_true, ne_eqb}
 use Rattle.bson_bytes.specs.Grammar.{NoZero}
 use Rattle.bson_bytes.specs.Putting.{is_free}
-use Rattle.bson_bytes.specs.Reading.{behind, split_zero}
+use Rattle.bson_bytes.specs.Reading.{with_byte_before, split_zero}
 use Rattle.std.proofs.lemmas.Str.{IsUtf8-from_is_utf8}
 use Rattle.vbson.specs.Builder.{IsAppended, IsTooSmall, built}
 use Rattle.vbson.specs.declared.builder.Builder.{Builder}
@@ -30,12 +30,12 @@ pub not_utf8 : (s : List ℕ) → (IsUtf8 s → ⊥) → is_utf8 s ≡ false
 not_utf8 s none = false_from_ne_true (is_utf8 s) (λ h. none (IsUtf8-from_is_utf8 s h))
 
 -- bytes that do not split at a 0 begin with none
-unsplit : (b : ℕ) (k : List ℕ) (is : Bool) → is_none (cond is (Some ([], k)) (option_map (behind b) (split_zero k))) ≡ true
+unsplit : (b : ℕ) (k : List ℕ) (is : Bool) → is_none (cond is (Some ([], k)) (option_map (with_byte_before b) (split_zero k))) ≡ true
     → (is ≡ false) × (is_none (split_zero k) ≡ true)
 unsplit b k true e = absurd cc
 unsplit b k false e = (refl, kept (split_zero k) e)
   where
-    kept : (o : Option (List ℕ × List ℕ)) → is_none (option_map (behind b) o) ≡ true → is_none o ≡ true
+    kept : (o : Option (List ℕ × List ℕ)) → is_none (option_map (with_byte_before b) o) ≡ true → is_none o ≡ true
     kept None h = refl
     kept (Some p) h = absurd cc
 

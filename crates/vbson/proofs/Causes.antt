@@ -2,25 +2,25 @@
 use Rattle.std.proofs.Common.{◌≡◌, ◌≤◌, inl, inr, ℕ, List, arith, subst}
 use Rattle.serde_json.specs.Data.{Data}
 use Rattle.bson.specs.TextMeaning.{IsTextOf}
-use Rattle.bson_place.specs.Faults.{Fault as TreeFault}
+use Rattle.bson_tree.specs.Faults.{Fault as TreeFault}
 use Rattle.bson.specs.declared.extjson.options.Options.{Options}
-use Rattle.bson_place.proofs.Offered.{first_fault}
-use Rattle.bson_place.specs.Place.{IsFirstFaultIn, IsReason}
-use Rattle.bson_place.specs.declared.place.Reason.{Reason}
-use Rattle.bson_place.specs.declared.place.Reason.TheVariants.{BadObjectId, WrongShape}
-use Rattle.bson_place.specs.declared.place.Place.{Place}
+use Rattle.bson_tree.proofs.Offered.{first_fault}
+use Rattle.bson_tree.specs.Place.{IsFirstFaultIn, IsReason}
+use Rattle.bson_tree.specs.declared.place.Reason.{Reason}
+use Rattle.bson_tree.specs.declared.place.Reason.TheVariants.{BadObjectId, WrongShape}
+use Rattle.bson_tree.specs.declared.place.Place.{Place}
 use Rattle.bson_convert.specs.Convert.{IsRefusedIn}
 use Rattle.bson_convert.specs.declared.error.Error.{Error}
 use Rattle.bson_convert.specs.declared.error.Error.TheVariants.{CannotRead, NotJson, NotExtendedJson, NoBytes, OutOfMemory}
 use Rattle.bson_convert.specs.declared.error.Error.TheVariants.{CannotWrite, NotCanonical}
-use Rattle.bson_run.specs.Encode.{HasNoBytesFor}
+use Rattle.bson_run.specs.Encode.{HasMeaningBy, HasNoBytesFor, IsUnencodedBy}
 use Rattle.bson_convert.specs.declared.no_bytes.NoBytes as without
 use Rattle.bson_convert.specs.declared.no_bytes.NoBytes.TheVariants.{NoDocument, ZeroInKey, ZeroInRegex, TooLong}
-use Rattle.vbson.specs.Convert.{HasNoMeaningIn, IsBad, IsBadId, IsCauseIn, IsOfText, status_for, status_of}
+use Rattle.vbson.specs.Convert.{HasNoMeaningIn, IsBad, IsBadId, IsCauseIn, IsTextError, status_for, status_of}
 use Rattle.vbson.specs.Convert.{status_without}
-use Rattle.vbson.specs.Documents.{HasMeaningBy, IsUnencoded, IsUnencodedBy}
-use Rattle.vbson.specs.declared.options.KeyOrder.{KeyOrder}
-use Rattle.vbson.specs.declared.options.KeyOrder.TheVariants.{Ascending, AsGiven}
+use Rattle.vbson.specs.Documents.{IsUnencoded}
+use Rattle.bson.specs.declared.extjson.key_order.KeyOrder.{KeyOrder}
+use Rattle.bson.specs.declared.extjson.key_order.KeyOrder.TheVariants.{Ascending, AsGiven}
 
 is_bad_id : (f : TreeFault) (r : Reason) → IsReason f r → status_for r ≡ 3 → IsBadId f
 is_bad_id f (BadObjectId e) h is = (h.0, h.1)
@@ -159,7 +159,7 @@ unencoded AsGiven o CannotWrite text h = absurd h
 
 -- a text that gives no bytes has the fault of a text
 pub of_text : (k : KeyOrder) (o : Options) (fault : Error) (text : List ℕ) → IsUnencodedBy k o fault text
-    → IsOfText fault
+    → IsTextError fault
 of_text k o NotJson text h = tt
 of_text k o (NotExtendedJson place) text h = tt
 of_text k o (NoBytes why) text h = tt

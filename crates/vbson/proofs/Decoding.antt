@@ -19,7 +19,7 @@ use Rattle.bson.specs.declared.extjson.options.Options.{Options}
 use Rattle.bson.specs.Kept.{read_kept}
 use Rattle.bson.specs.MeansInOrder.{MeansInOrder}
 use Rattle.bson_codec.specs.Laws.{IsRead}
-use Rattle.bson_codec.specs.Texts.{IsTextOf}
+use Rattle.bson_codec.specs.Texts.{IsDocumentTextOf}
 use Rattle.bson_model.specs.Means.{MeansIn}
 use Rattle.bson_model.specs.Normal.{writable_in}
 use Rattle.bson_model.specs.Sorted.{sorted}
@@ -27,8 +27,8 @@ use Rattle.bson_model.specs.Value.{Value, Pairs, document}
 use Rattle.bson_convert.specs.declared.mode.Mode.{Mode}
 use Rattle.bson_convert.specs.declared.mode.Mode.TheVariants.{Canonical, Relaxed, Show}
 use Rattle.vbson.specs.Documents.{Decodes, HasNoTextIn, IsOneDocument, IsUndecoded, depth, direct_form, form_in, form_under}
-use Rattle.vbson.specs.declared.options.KeyOrder.{KeyOrder}
-use Rattle.vbson.specs.declared.options.KeyOrder.TheVariants.{Ascending, AsGiven}
+use Rattle.bson.specs.declared.extjson.key_order.KeyOrder.{KeyOrder}
+use Rattle.bson.specs.declared.extjson.key_order.KeyOrder.TheVariants.{Ascending, AsGiven}
 
 -- ---- bytes
 
@@ -82,7 +82,7 @@ unread o mode status bytes (inr (ten, none)) =
 
 -- the text that is written while the bytes are read is that of the document
 in_form : (o : Options) (mode : Mode) (f : Form) (bytes text : List ℕ) → o.doubles ≡ Finite → form_in mode ≡ Some f
-    → IsTextOf f depth bytes text → Decodes AsGiven o mode bytes text
+    → IsDocumentTextOf f depth bytes text → Decodes AsGiven o mode bytes text
 in_form o Canonical f bytes text finite is it =
     let same : f ≡ form.Canonical = cc in
     record {
@@ -102,12 +102,12 @@ in_form o Relaxed f bytes text finite is it =
 in_form o Show f bytes text finite is it = absurd cc
 
 under_doubles : (o : Options) (D : Doubles) (mode : Mode) (f : Form) (bytes text : List ℕ) → o.doubles ≡ D
-    → form_under D mode ≡ Some f → IsTextOf f depth bytes text → Decodes AsGiven o mode bytes text
+    → form_under D mode ≡ Some f → IsDocumentTextOf f depth bytes text → Decodes AsGiven o mode bytes text
 under_doubles o Special mode f bytes text is given it = absurd cc
 under_doubles o Finite mode f bytes text is given it = in_form o mode f bytes text is given it
 
 pub directly : (k : KeyOrder) (o : Options) (mode : Mode) (f : Form) (bytes text : List ℕ)
-    → direct_form k o mode ≡ Some f → IsTextOf f depth bytes text → Decodes k o mode bytes text
+    → direct_form k o mode ≡ Some f → IsDocumentTextOf f depth bytes text → Decodes k o mode bytes text
 directly Ascending o mode f bytes text given it = absurd cc
 directly AsGiven o mode f bytes text given it = under_doubles o o.doubles mode f bytes text refl given it
 

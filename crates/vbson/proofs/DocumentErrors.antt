@@ -4,7 +4,7 @@ use Rattle.bson.specs.declared.extjson.options.Options.{Options}
 use Rattle.bson_bytes.specs.Laws.{IsReadIn}
 use Rattle.bson_model.specs.Normal.{writable_in}
 use Rattle.bson_model.specs.Value.{Pairs, document}
-use Rattle.vbson.specs.Convert.{options_of}
+use Rattle.vbson.specs.Convert.{options_of_flags}
 use Rattle.vbson.specs.DocumentError.{ExplainsDocument, HasDocumentText, IsFinding, IsOfDocument, code_for}
 use Rattle.vbson.specs.Documents.{depth}
 use Rattle.vbson.specs.Reading.{duplicate_keys_of}
@@ -15,7 +15,7 @@ use Rattle.vbson.specs.declared.options.CallOptions.{CallOptions}
 
 -- what is found of the document is found of its bytes
 pub of_document : (options : CallOptions) (bytes : List ℕ) (ps : Pairs) (it : Finding)
-    → IsReadIn (duplicate_keys_of options) depth bytes ps → IsOfDocument (options_of options) ps it → IsFinding options bytes it
+    → IsReadIn (duplicate_keys_of options) depth bytes ps → IsOfDocument (options_of_flags options) ps it → IsFinding options bytes it
 of_document options bytes ps Nothing read is = record { pairs = ps; read = read; writable = is }
 of_document options bytes ps (Malformed k n) read is = absurd is
 of_document options bytes ps FiniteDouble read is = record { pairs = ps; read = read; unwritable = is }

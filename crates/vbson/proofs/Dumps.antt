@@ -10,7 +10,7 @@ use Rattle.bson_codec.specs.declared.documents.Run.{Run}
 use Rattle.bson_codec.specs.declared.run_end.RunFault.{RunFault}
 use Rattle.bson_convert.specs.Convert.{newline}
 use Rattle.vbson.specs.Dumps.{GivesDocuments}
-use Rattle.vbson.specs.Text.{IsText}
+use Rattle.vbson.specs.Text.{IsOwnedText}
 use Rattle.vbson.specs.declared.text.Text.{Text}
 
 -- a writer that held nothing holds what was written
@@ -45,10 +45,10 @@ gives_utf8 run block output verdicts count consumed (inr it) =
     (before.0, subst IsUtf8 (sym it.said) (IsUtf8-append it.diagnostics _ before.1 told))
 
 -- the text of a line
-pub of_line : (text line : List ℕ) (out : Text) → line ≡ text ++ newline → IsText (take (length line - 1) line) out
-    → IsText text out
+pub of_line : (text line : List ℕ) (out : Text) → line ≡ text ++ newline → IsOwnedText (take (length line - 1) line) out
+    → IsOwnedText text out
 of_line text line out is left =
     let n = length line - 1 in
     let all : length line ≡ length (text ++ newline) = ap length is in
     let first = take_at text newline n (omega (arith, all, length-append text newline)) in
-    subst (λ t. IsText t out) (ap (take n) is ∙ first) left
+    subst (λ t. IsOwnedText t out) (ap (take n) is ∙ first) left

@@ -11,41 +11,41 @@ use Rattle.bson_bytes.specs.declared.error.Error.TheVariants as sizes
 use Rattle.bson_convert.specs.Convert.{IsRefusedIn}
 use Rattle.bson_convert.specs.declared.error.Error.{Error}
 use Rattle.bson_convert.specs.declared.error.Error.TheVariants as errors
-use Rattle.bson_distinct.specs.Double.{DoubleAt}
+use Rattle.bson_tokens.specs.Double.{DuplicateAt}
 use Rattle.bson_model.specs.Means.{MeansIn}
-use Rattle.bson_place.specs.Place.{PathSegment}
-use Rattle.bson_place.specs.declared.place.Reason.{Reason}
-use Rattle.bson_place.specs.declared.place.Reason.TheVariants.{BadObjectId, WrongShape}
+use Rattle.bson_tree.specs.Place.{PathSegment}
+use Rattle.bson_tree.specs.declared.place.Reason.{Reason}
+use Rattle.bson_tree.specs.declared.place.Reason.TheVariants.{BadObjectId, WrongShape}
 use Rattle.bson_run.specs.Place.{IsExplanation, IsOfNoText}
 use Rattle.bson_run.specs.declared.explain.Explanation.{Explanation}
 use Rattle.bson_run.specs.declared.explain.Explanation.TheVariants as explained
 use Rattle.bson_run.specs.declared.order.Taking.{Taking}
 use Rattle.vbson.proofs.Preprocessed.{meant, not_read, rejected_key}
-use Rattle.vbson.specs.Convert.{options_of, status_for}
-use Rattle.vbson.specs.Explain.{Explains, ExplainsRead, IsError, IsLongPath, IsRejectedFor, IsTooLong, IsUnexplained, Refuses, code_in}
-use Rattle.vbson.specs.Reading.{IsReadAs, IsUnread, MeansUnder, preprocessing_of}
+use Rattle.vbson.specs.Convert.{options_of_flags, status_for}
+use Rattle.vbson.specs.Explain.{Explains, ExplainsRead, IsError, IsLongPath, IsRejectedFor, IsTooLong, IsUnexplained, ExplainsRejection, code_in}
+use Rattle.vbson.specs.Reading.{IsReadAs, IsPreprocessingFault, MeansUnder, preprocessing_of}
 use Rattle.vbson.specs.declared.explain.Rejection.{Rejection}
 use Rattle.vbson.specs.declared.options.CallOptions.{CallOptions}
 
 -- ---- of what is read in the place of the text, and of a text that preprocessing rejects
 
 pub of_read : (options : CallOptions) (text read : List ℕ) (out : Rejection) → IsReadAs (preprocessing_of options) text read
-    → ExplainsRead (options_of options) read out → Explains options text out
+    → ExplainsRead (options_of_flags options) read out → Explains options text out
 of_read options text read out is (inl h) = inl ((h.0.0, record { read = read; read_as = is; meaning = h.0.1 }), h.1)
 of_read options text read out is (inr h) =
     inr (record { fault = h.0; read = read; refused = inl (is, h.1); told = h.2; error = h.3 })
 
 pub long_of_read : (options : CallOptions) (text read : List ℕ) (e : PathError) → IsReadAs (preprocessing_of options) text read
-    → IsUnexplained e (λ fault. IsRefusedIn (options_of options) fault read) → e ≢ sizes.OutOfMemory → IsTooLong options text
+    → IsUnexplained e (λ fault. IsRefusedIn (options_of_flags options) fault read) → e ≢ sizes.OutOfMemory → IsTooLong options text
 long_of_read options text read e is h told =
     let it = h told in record { fault = it.0; read = read; refused = inl (is, it.1); long = it.2 }
 
-pub refused_first : (options : CallOptions) (fault : Error) (text : List ℕ) (out : Rejection) → IsUnread (preprocessing_of options) fault text
+pub refused_first : (options : CallOptions) (fault : Error) (text : List ℕ) (out : Rejection) → IsPreprocessingFault (preprocessing_of options) fault text
     → fault ≢ errors.OutOfMemory → IsError text fault out → Explains options text out
 refused_first options fault text out h told is =
     inr (record { fault = fault; read = text; refused = inr (refl, h); told = told; error = is })
 
-pub long_first : (options : CallOptions) (fault : Error) (text : List ℕ) (e : PathError) → IsUnread (preprocessing_of options) fault text
+pub long_first : (options : CallOptions) (fault : Error) (text : List ℕ) (e : PathError) → IsPreprocessingFault (preprocessing_of options) fault text
     → (e ≢ sizes.OutOfMemory → IsLongPath fault) → e ≢ sizes.OutOfMemory → IsTooLong options text
 long_first options fault text e h long told =
     record { fault = fault; read = text; refused = inr (refl, h); long = long told }
@@ -62,7 +62,7 @@ of_text o (errors.NotCanonical column) bytes h told none = h
 of_text o errors.OutOfMemory bytes h told none = told refl
 of_text o errors.CannotWrite bytes h told none = h
 
-of_unread : (preprocessing : Option Taking) (fault : Error) (text : List ℕ) → IsUnread preprocessing fault text
+of_unread : (preprocessing : Option Taking) (fault : Error) (text : List ℕ) → IsPreprocessingFault preprocessing fault text
     → fault ≢ errors.OutOfMemory → IsOfNoText fault → ⊥
 of_unread None fault text h told none = h
 of_unread (Some taking) errors.CannotRead text h told none = h
@@ -75,7 +75,7 @@ of_unread (Some taking) errors.CannotWrite text h told none = h
 
 of_rejected : (options : CallOptions) (text read : List ℕ) (fault : Error) → IsRejectedFor options text read fault → fault ≢ errors.OutOfMemory
     → IsOfNoText fault → ⊥
-of_rejected options text read fault (inl h) told none = of_text (options_of options) fault read h.1 told none
+of_rejected options text read fault (inl h) told none = of_text (options_of_flags options) fault read h.1 told none
 of_rejected options text read fault (inr h) told none = of_unread (preprocessing_of options) fault text h.1 told none
 
 reason_code : (reason : Reason) (n : ℕ) → n ≡ status_for reason → n ≡ 0 → ⊥
@@ -90,7 +90,7 @@ some_code text fault (explained.Difference column) n h told is zero = absurd (om
 some_code text fault explained.Other n h told is zero = told h
 
 -- a text that is refused has a code
-refuses_code : (options : CallOptions) (text : List ℕ) (out : Rejection) → Refuses options text out → out.code ≡ 0 → ⊥
+refuses_code : (options : CallOptions) (text : List ℕ) (out : Rejection) → ExplainsRejection options text out → out.code ≡ 0 → ⊥
 refuses_code options text out h zero =
     some_code h.read h.fault h.error.explanation out.code h.error.lies
     (of_rejected options text h.read h.fault h.refused h.told) h.error.said.code zero
@@ -119,16 +119,16 @@ not_refused o (errors.NotCanonical column) bytes value means h told = h
 not_refused o errors.OutOfMemory bytes value means h told = told refl
 not_refused o errors.CannotWrite bytes value means h told = h
 
-not_rejected : ((j : Json) (path : List PathSegment) → DoubleAt j path → ¬ HasUniqueKeys j) → (options : CallOptions)
+not_rejected : ((j : Json) (path : List PathSegment) → DuplicateAt j path → ¬ HasUniqueKeys j) → (options : CallOptions)
     (text read : List ℕ) (fault : Error) (value : Value) → MeansUnder options text value → IsRejectedFor options text read fault
     → fault ≢ errors.OutOfMemory → ⊥
 not_rejected twice options text read fault value means (inl h) told =
-    not_refused (options_of options) fault read value (meant options text read value h.0 means) h.1 told
+    not_refused (options_of_flags options) fault read value (meant options text read value h.0 means) h.1 told
 not_rejected twice options text read fault value means (inr h) told =
     not_read twice (preprocessing_of options) text means.read (rejected_key (preprocessing_of options) fault text h.1 told)
     means.read_as
 
-pub accepts_from : ((j : Json) (path : List PathSegment) → DoubleAt j path → ¬ HasUniqueKeys j) → (options : CallOptions)
+pub accepts_from : ((j : Json) (path : List PathSegment) → DuplicateAt j path → ¬ HasUniqueKeys j) → (options : CallOptions)
     (text : List ℕ) (out : Rejection) (value : Value) → MeansUnder options text value → Explains options text out → out.code ≡ 0
 accepts_from twice options text out value means (inl h) = h.1.code
 accepts_from twice options text out value means (inr h) =

@@ -2,15 +2,15 @@
 use Rattle.std.proofs.Common.{◌≡◌, ℕ, List, [], ◌∷◌, Ok, Err, refl, sym, ap, ◌∙◌, length, subst, arith}
 use Rattle.std.specs.Prelude.{decimal, map}
 use Rattle.std.proofs.lemmas.List.{length-map}
-use Rattle.bson_place.specs.Place.{segment_of}
-use Rattle.bson_place.specs.declared.place.Segment.{Segment}
+use Rattle.bson_tree.specs.Place.{segment_of}
+use Rattle.bson_tree.specs.declared.place.Segment.{Segment}
 use Rattle.bson_model.specs.Value.{Pairs, no_pairs, pair}
-use Rattle.bson_bytes.specs.Putting.{Put, then, put_name, put_value, put_pairs, put_room, put_end, put_document, StopsFor}
+use Rattle.bson_bytes.specs.Putting.{Put, then, put_name, put_value, put_elements, put_room, put_end, put_document, StopsFor}
 use Rattle.bson_bytes.specs.Writing.{type_of, FitsDocument, zero_in_key, zero_in_regex, too_long}
 use Rattle.bson_bytes.specs.declared.error.Error.{Error}
 use Rattle.bson_bytes.specs.declared.error.Error.TheVariants as errors
 use Rattle.bson_bytes.proofs.Offered.{told_err, document_fits}
-use Rattle.vbson.specs.Path.{path_pairs, value_of, with_pairs}
+use Rattle.vbson.specs.Path.{path_pairs, segment_value, with_pairs}
 
 then_then : (r : Put) (f g : List ℕ → Put) → then (then r f) g ≡ then r (λ a. then (f a) g)
 then_then (Ok out) f g = refl
@@ -21,15 +21,15 @@ same_then (Ok out) f g h = h out
 same_then (Err c) f g h = refl
 
 -- pairs behind others are put behind them
-pub put_with : (ps qs : Pairs) (out : List ℕ) → put_pairs (with_pairs ps qs) out ≡ then (put_pairs ps out) (put_pairs qs)
-unfolding put_pairs
+pub put_with : (ps qs : Pairs) (out : List ℕ) → put_elements (with_pairs ps qs) out ≡ then (put_elements ps out) (put_elements qs)
+unfolding put_elements
 put_with no_pairs qs out = refl
 put_with (pair k v ps) qs out =
-    same_then (put_name (type_of v) k out) (λ a. then (put_value v a) (λ b. put_pairs (with_pairs ps qs) b))
-    (λ a. then (then (put_value v a) (λ b. put_pairs ps b)) (put_pairs qs))
-    (λ a. same_then (put_value v a) (λ b. put_pairs (with_pairs ps qs) b) (λ b. then (put_pairs ps b) (put_pairs qs))
-    (λ b. put_with ps qs b) ∙ sym (then_then (put_value v a) (λ b. put_pairs ps b) (put_pairs qs)))
-    ∙ sym (then_then (put_name (type_of v) k out) (λ a. then (put_value v a) (λ b. put_pairs ps b)) (put_pairs qs))
+    same_then (put_name (type_of v) k out) (λ a. then (put_value v a) (λ b. put_elements (with_pairs ps qs) b))
+    (λ a. then (then (put_value v a) (λ b. put_elements ps b)) (put_elements qs))
+    (λ a. same_then (put_value v a) (λ b. put_elements (with_pairs ps qs) b) (λ b. then (put_elements ps b) (put_elements qs))
+    (λ b. put_with ps qs b) ∙ sym (then_then (put_value v a) (λ b. put_elements ps b) (put_elements qs)))
+    ∙ sym (then_then (put_name (type_of v) k out) (λ a. then (put_value v a) (λ b. put_elements ps b)) (put_elements qs))
 
 pub stops_then : (e : Error) (r : Put) (f : List ℕ → Put) → StopsFor e r → StopsFor e (then r f)
 stops_then errors.OutOfMemory r f h = tt
@@ -47,42 +47,42 @@ only_memory errors.Size ps fits h = absurd (document_fits ps too_long fits (told
 -- ---- a path
 
 pub no_segments : (segments : List Segment) (out : List ℕ) → length segments ≡ 0
-    → put_pairs (path_pairs (map segment_of segments)) out ≡ Ok out
-unfolding put_pairs
+    → put_elements (path_pairs (map segment_of segments)) out ≡ Ok out
+unfolding put_elements
 no_segments [] out is = refl
 no_segments (segment ∷ outer) out is = absurd (omega (arith, is))
 
 one_more : (segment : Segment) (outer : List Segment) (out : List ℕ)
-    → put_pairs (path_pairs (map segment_of (segment ∷ outer))) out
-    ≡ then (put_pairs (path_pairs (map segment_of outer)) out)
-    (put_pairs (pair (decimal (length outer)) (value_of (segment_of segment)) no_pairs))
+    → put_elements (path_pairs (map segment_of (segment ∷ outer))) out
+    ≡ then (put_elements (path_pairs (map segment_of outer)) out)
+    (put_elements (pair (decimal (length outer)) (segment_value (segment_of segment)) no_pairs))
 one_more segment outer out =
     put_with (path_pairs (map segment_of outer))
-    (pair (decimal (length (map segment_of outer))) (value_of (segment_of segment)) no_pairs) out
-    ∙ ap (λ n. then (put_pairs (path_pairs (map segment_of outer)) out)
-    (put_pairs (pair (decimal n) (value_of (segment_of segment)) no_pairs))) (length-map outer segment_of)
+    (pair (decimal (length (map segment_of outer))) (segment_value (segment_of segment)) no_pairs) out
+    ∙ ap (λ n. then (put_elements (path_pairs (map segment_of outer)) out)
+    (put_elements (pair (decimal n) (segment_value (segment_of segment)) no_pairs))) (length-map outer segment_of)
 
 pub segments_stop : (e : Error) (segments outer : List Segment) (segment : Segment) (out : List ℕ)
-    → segments ≡ segment ∷ outer → StopsFor e (put_pairs (path_pairs (map segment_of outer)) out)
-    → StopsFor e (put_pairs (path_pairs (map segment_of segments)) out)
+    → segments ≡ segment ∷ outer → StopsFor e (put_elements (path_pairs (map segment_of outer)) out)
+    → StopsFor e (put_elements (path_pairs (map segment_of segments)) out)
 segments_stop e segments outer segment out is h =
-    subst (λ (xs : List Segment). StopsFor e (put_pairs (path_pairs (map segment_of xs)) out)) (sym is)
+    subst (λ (xs : List Segment). StopsFor e (put_elements (path_pairs (map segment_of xs)) out)) (sym is)
     (subst (λ (r : Put). StopsFor e r) (sym (one_more segment outer out))
-    (stops_then e (put_pairs (path_pairs (map segment_of outer)) out)
-    (put_pairs (pair (decimal (length outer)) (value_of (segment_of segment)) no_pairs)) h))
+    (stops_then e (put_elements (path_pairs (map segment_of outer)) out)
+    (put_elements (pair (decimal (length outer)) (segment_value (segment_of segment)) no_pairs)) h))
 
 pub segment_put : (segments outer : List Segment) (segment : Segment) (out a : List ℕ) → segments ≡ segment ∷ outer
-    → put_pairs (path_pairs (map segment_of outer)) out ≡ Ok a
-    → put_pairs (path_pairs (map segment_of segments)) out
-    ≡ put_pairs (pair (decimal (length outer)) (value_of (segment_of segment)) no_pairs) a
+    → put_elements (path_pairs (map segment_of outer)) out ≡ Ok a
+    → put_elements (path_pairs (map segment_of segments)) out
+    ≡ put_elements (pair (decimal (length outer)) (segment_value (segment_of segment)) no_pairs) a
 segment_put segments outer segment out a is put =
-    ap (λ (xs : List Segment). put_pairs (path_pairs (map segment_of xs)) out) is ∙ one_more segment outer out
-    ∙ ap (λ (r : Put). then r (put_pairs (pair (decimal (length outer)) (value_of (segment_of segment)) no_pairs))) put
+    ap (λ (xs : List Segment). put_elements (path_pairs (map segment_of xs)) out) is ∙ one_more segment outer out
+    ∙ ap (λ (r : Put). then r (put_elements (pair (decimal (length outer)) (segment_value (segment_of segment)) no_pairs))) put
 
 -- ---- a document
 
-pub document_put : (ps : Pairs) (out : List ℕ) → put_pairs ps (put_room []) ≡ Ok out → put_document ps [] ≡ put_end 0 out
+pub document_put : (ps : Pairs) (out : List ℕ) → put_elements ps (put_room []) ≡ Ok out → put_document ps [] ≡ put_end 0 out
 document_put ps out put = ap (λ (r : Put). then r (put_end 0)) put
 
-pub document_stops : (e : Error) (ps : Pairs) → StopsFor e (put_pairs ps (put_room [])) → StopsFor e (put_document ps [])
-document_stops e ps h = stops_then e (put_pairs ps (put_room [])) (put_end 0) h
+pub document_stops : (e : Error) (ps : Pairs) → StopsFor e (put_elements ps (put_room [])) → StopsFor e (put_document ps [])
+document_stops e ps h = stops_then e (put_elements ps (put_room [])) (put_end 0) h

@@ -4,8 +4,8 @@ use Rattle.json.specs.Json.{Json}
 use Rattle.json.specs.Strict.{HasUniqueKeys}
 use Rattle.serde_json.specs.Data.{Data}
 use Rattle.serde_json.specs.Read.{read}
-use Rattle.bson_distinct.specs.Double.{DoubleAt}
-use Rattle.bson_place.specs.Place.{PathSegment}
+use Rattle.bson_tokens.specs.Double.{DuplicateAt}
+use Rattle.bson_tree.specs.Place.{PathSegment}
 use Rattle.bson_scalar.specs.declared.form.Doubles.{Doubles}
 use Rattle.bson_model.specs.Means.{MeansIn}
 use Rattle.bson_bytes.specs.Laws.{IsReadIn}
@@ -19,9 +19,9 @@ use Rattle.bson_convert.specs.declared.error.Error.TheVariants.{CannotWrite, Not
 use Rattle.bson_run.proofs.Offered.{not_taken, one_taken}
 use Rattle.bson_run.specs.declared.order.Taking.{Taking}
 use Rattle.vbson.proofs.Causes.{causes, reason_status}
-use Rattle.vbson.specs.Convert.{IsOfText, options_of, status_of}
+use Rattle.vbson.specs.Convert.{IsTextError, options_of_flags, status_of}
 use Rattle.vbson.specs.Documents.{depth}
-use Rattle.vbson.specs.Reading.{HasRejectedKey, IsReadAs, IsRejectedWith, IsUnread, IsWithoutValue, MeansUnder}
+use Rattle.vbson.specs.Reading.{HasRejectedKey, IsReadAs, IsRejectedWith, IsPreprocessingFault, IsWithoutValue, MeansUnder}
 use Rattle.vbson.specs.Reading.{IsWithoutDocument, duplicate_keys_of, preprocessing_of}
 use Rattle.vbson.specs.declared.options.CallOptions.{CallOptions}
 
@@ -44,9 +44,9 @@ one_read (Some taking) text a b x y = one_taken taking text a b x y
 
 -- which means one value
 pub meant : (options : CallOptions) (text read : List ℕ) (value : Value) → IsReadAs (preprocessing_of options) text read
-    → MeansUnder options text value → HasTextMeaningIn (options_of options).doubles read value
+    → MeansUnder options text value → HasTextMeaningIn (options_of_flags options).doubles read value
 meant options text read value is means =
-    subst (λ x. HasTextMeaningIn (options_of options).doubles x value)
+    subst (λ x. HasTextMeaningIn (options_of_flags options).doubles x value)
     (one_read (preprocessing_of options) text means.read read means.read_as is) means.meaning
 
 -- ---- what a status says
@@ -72,7 +72,7 @@ rejected o fault bytes h accepts = record {
 
 -- of what is read in the place of a text
 pub without_value : (options : CallOptions) (status : ℕ) (text read : List ℕ) → IsReadAs (preprocessing_of options) text read
-    → IsRejectedWith (options_of options) status read → IsWithoutValue options status text
+    → IsRejectedWith (options_of_flags options) status read → IsWithoutValue options status text
 without_value options status text read is h = record {
   not_json = λ two. record { read = read; read_as = is; rejected = h.cause.not_json two };
   bad_object_id = λ three. record { read = read; read_as = is; rejected = h.cause.bad_object_id three };
@@ -92,12 +92,12 @@ no_memory options text = record {
 }
 
 -- a text that preprocessing rejects is not read
-pub not_read : ((j : Json) (path : List PathSegment) → DoubleAt j path → ¬ HasUniqueKeys j) → (preprocessing : Option Taking)
+pub not_read : ((j : Json) (path : List PathSegment) → DuplicateAt j path → ¬ HasUniqueKeys j) → (preprocessing : Option Taking)
     (text read : List ℕ) → HasRejectedKey preprocessing text → IsReadAs preprocessing text read → ⊥
 not_read twice None text read h is = h
 not_read twice (Some taking) text read h is = not_taken twice taking h.0 text read h.1 is
 
-pub rejected_key : (preprocessing : Option Taking) (fault : Error) (text : List ℕ) → IsUnread preprocessing fault text
+pub rejected_key : (preprocessing : Option Taking) (fault : Error) (text : List ℕ) → IsPreprocessingFault preprocessing fault text
     → fault ≢ OutOfMemory → HasRejectedKey preprocessing text
 rejected_key None fault text h some = h
 rejected_key (Some taking) CannotRead text h some = absurd h
@@ -108,8 +108,8 @@ rejected_key (Some taking) (NotCanonical column) text h some = absurd h
 rejected_key (Some taking) OutOfMemory text h some = absurd (some refl)
 rejected_key (Some taking) CannotWrite text h some = absurd h
 
-pub turned_away : ((j : Json) (path : List PathSegment) → DoubleAt j path → ¬ HasUniqueKeys j) → (options : CallOptions)
-    (fault : Error) (text : List ℕ) → IsUnread (preprocessing_of options) fault text → fault ≢ OutOfMemory
+pub turned_away : ((j : Json) (path : List PathSegment) → DuplicateAt j path → ¬ HasUniqueKeys j) → (options : CallOptions)
+    (fault : Error) (text : List ℕ) → IsPreprocessingFault (preprocessing_of options) fault text → fault ≢ OutOfMemory
     → IsWithoutValue options 4 text
 turned_away twice options fault text h some =
     let key = rejected_key (preprocessing_of options) fault text h some in
@@ -122,7 +122,7 @@ turned_away twice options fault text h some =
     }
 
 -- an error that bytes have as a text is neither of a reader nor of a writer
-pub of_refused : (o : Options) (fault : Error) (bytes : List ℕ) → IsRefusedIn o fault bytes → IsOfText fault
+pub of_refused : (o : Options) (fault : Error) (bytes : List ℕ) → IsRefusedIn o fault bytes → IsTextError fault
 of_refused o CannotRead bytes h = h
 of_refused o NotJson bytes h = tt
 of_refused o (NotExtendedJson place) bytes h = tt

@@ -5,14 +5,14 @@ use Rattle.std.specs.Borrow.{Bor}
 use Rattle.bson_bytes.specs.Reading.{value_with, document_in}
 use Rattle.bson_bytes.specs.declared.keys.DuplicateKeys.TheVariants.{Replace}
 use Rattle.bson_model.specs.Value.{Value, Pairs, no_pairs, pair, scalar, code_scope, array, document}
-use Rattle.bson_raw.specs.Elements.{HasValue, IsElement, IsFirst, IsFound, value_length}
-use Rattle.bson_raw.specs.Held.{binary_of, boolean_of, date_of, double_of, int32_of, int64_of, object_id_of, string_of}
-use Rattle.bson_raw.specs.Nested.{IsNested}
-use Rattle.bson_raw.specs.Raw.{BeginsWithElements}
-use Rattle.bson_raw.specs.declared.element.RawElement.{RawElement}
+use Rattle.bson_bytes.specs.Elements.{HasValue, IsElement, IsFirstElement, IsFound, value_length}
+use Rattle.bson_bytes.specs.Held.{binary_of, boolean_value, date_value, double_value, int32_value, int64_value, object_id_value, string_value}
+use Rattle.bson_bytes.specs.Nested.{IsNested}
+use Rattle.bson_bytes.specs.Raw.{BeginsWithElements}
+use Rattle.bson_bytes.specs.declared.element.RawElement.{RawElement}
 use Rattle.bson_types.specs.Tags.{tag_of}
 use Rattle.bson_types.specs.declared.spec.ElementType.{ElementType}
-use Rattle.vbson.specs.Raw.{IsGot, IsNext, IsTyped, IsValueAt, IsValueOf, bit, subtype_and_bytes}
+use Rattle.vbson.specs.Raw.{IsGot, IsNextElement, IsTyped, IsValueAt, IsValueOf, bit, subtype_and_bytes}
 use Rattle.vbson.specs.declared.raw.RawValue.{RawValue}
 use Rattle.vbson.specs.declared.raw.Slice.{Slice}
 
@@ -36,14 +36,14 @@ pub got_some : (d : ℕ) (o : Option Value) (e : RawElement) (out : RawValue) �
 got_some d o e out found is within =
     subst (λ (p : Option Value). IsGot d p 0 out) (sym found.1) (refl, at_value d e found.0 out found.2 is within)
 
-pub next_none : (d : ℕ) (ps : Pairs) (cursor key : Slice) (value : RawValue) → ps ≡ no_pairs → IsNext d ps 14 cursor key value
-next_none d ps cursor key value none = subst (λ (qs : Pairs). IsNext d qs 14 cursor key value) (sym none) refl
+pub next_none : (d : ℕ) (ps : Pairs) (cursor key : Slice) (value : RawValue) → ps ≡ no_pairs → IsNextElement d ps 14 cursor key value
+next_none d ps cursor key value none = subst (λ (qs : Pairs). IsNextElement d qs 14 cursor key value) (sym none) refl
 
 pub next_some : (d : ℕ) (ps : Pairs) (e : RawElement) (cursor key : Slice) (value : RawValue) → IsElement d e ps
     → IsValueOf e value → length e.rest.now ≤ length e.value.now → cursor.bytes ≡ e.rest → key.bytes ≡ e.key
-    → IsNext d ps 0 cursor key value
+    → IsNextElement d ps 0 cursor key value
 next_some d ps e cursor key value h is within rest name =
-    subst (λ (qs : Pairs). IsNext d qs 0 cursor key value) (sym h.pairs) (
+    subst (λ (qs : Pairs). IsNextElement d qs 0 cursor key value) (sym h.pairs) (
       refl,
       ap (λ (b : Bor (List ℕ)). b.now) name,
       at_value d e h.value value h.read is within,
@@ -76,43 +76,43 @@ no_kind d v value o h none at =
 abbrev pub IsNever : {A : Type 0} → (Value → Option A) → Type 0
 IsNever f = (v : Value) → IsNested v → f v ≡ None
 
-pub never_int32 : IsNever int32_of
+pub never_int32 : IsNever int32_value
 never_int32 (scalar s) h = absurd h
 never_int32 (code_scope s ps) h = refl
 never_int32 (array vs) h = refl
 never_int32 (document ps) h = refl
 
-pub never_int64 : IsNever int64_of
+pub never_int64 : IsNever int64_value
 never_int64 (scalar s) h = absurd h
 never_int64 (code_scope s ps) h = refl
 never_int64 (array vs) h = refl
 never_int64 (document ps) h = refl
 
-pub never_double : IsNever double_of
+pub never_double : IsNever double_value
 never_double (scalar s) h = absurd h
 never_double (code_scope s ps) h = refl
 never_double (array vs) h = refl
 never_double (document ps) h = refl
 
-pub never_boolean : IsNever boolean_of
+pub never_boolean : IsNever boolean_value
 never_boolean (scalar s) h = absurd h
 never_boolean (code_scope s ps) h = refl
 never_boolean (array vs) h = refl
 never_boolean (document ps) h = refl
 
-pub never_string : IsNever string_of
+pub never_string : IsNever string_value
 never_string (scalar s) h = absurd h
 never_string (code_scope s ps) h = refl
 never_string (array vs) h = refl
 never_string (document ps) h = refl
 
-pub never_object_id : IsNever object_id_of
+pub never_object_id : IsNever object_id_value
 never_object_id (scalar s) h = absurd h
 never_object_id (code_scope s ps) h = refl
 never_object_id (array vs) h = refl
 never_object_id (document ps) h = refl
 
-pub never_date_time : IsNever date_of
+pub never_date_time : IsNever date_value
 never_date_time (scalar s) h = absurd h
 never_date_time (code_scope s ps) h = refl
 never_date_time (array vs) h = refl
@@ -135,7 +135,7 @@ typed_some {A} f w v same x y is e = subst (λ (o : Option A). IsTyped o 0 y) (i
 
 -- a boolean as a number, and the number of a subtype with the bytes
 abbrev pub boolean_bit : Value → Option ℕ
-boolean_bit v = option_map bit (boolean_of v)
+boolean_bit v = option_map bit (boolean_value v)
 
 pub never_bit : IsNever boolean_bit
 never_bit v nested = ap (option_map bit) (never_boolean v nested)

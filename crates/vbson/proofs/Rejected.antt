@@ -5,7 +5,7 @@ use Rattle.bson.specs.declared.extjson.options.Options.{Options}
 use Rattle.bson_convert.specs.declared.error.Error.{Error}
 use Rattle.bson_convert.specs.declared.error.Error.TheVariants.{CannotRead, NotJson, NotExtendedJson, NoBytes, OutOfMemory}
 use Rattle.bson_convert.specs.declared.error.Error.TheVariants.{CannotWrite, NotCanonical}
-use Rattle.bson_run.specs.Lines.{EndsAtIn, FailsAtIn, IsBadLineIn, IsStoppedAtIn, WritesBoth, left_of, lines, text_of}
+use Rattle.bson_run.specs.Lines.{EndsAtIn, FailsAtIn, IsBadLineIn, IsStoppedAtIn, WritesBoth, left_of, lines, line_text}
 use Rattle.bson_run.specs.declared.order.OnRefusal.TheVariants.{Stop}
 use Rattle.bson_run.specs.declared.order.Task.{Task}
 use Rattle.vbson.specs.Lines.{IsFirstRejected, is_rejection}
@@ -19,7 +19,7 @@ whole_block block bytes (Some rest) h = h
 -- there is a line after so many, and it is rejected
 rejected_next : (o : Options) (task : Task) (fault : Error) (held : List ℕ) (before : ℕ) (others : List (List ℕ))
     → is_rejection fault ≡ true → IsStoppedAtIn o task Stop fault held before others
-    → (line : List ℕ) × (rest : List (List ℕ)) × (others ≡ line ∷ rest) × IsBadLineIn o task fault (text_of before line)
+    → (line : List ℕ) × (rest : List (List ℕ)) × (others ≡ line ∷ rest) × IsBadLineIn o task fault (line_text before line)
 rejected_next o task CannotRead held before others is h = absurd cc
 rejected_next o task CannotWrite held before others is h = absurd cc
 rejected_next o task OutOfMemory held before others is h = absurd cc

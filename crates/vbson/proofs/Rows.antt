@@ -2,19 +2,19 @@
 -- together with its code is refused here.
 use Rattle.std.proofs.Common.{◌≡◌, ℕ, Some, None, true, false, refl}
 use Rattle.bson.specs.Doubles.TheVariants.{Special, Finite}
-use Rattle.bson_place.specs.declared.place.Reason.TheVariants.{BadObjectId, WrongShape}
-use Rattle.bson_convert.specs.Convert.{default_options}
+use Rattle.bson_tree.specs.declared.place.Reason.TheVariants.{BadObjectId, WrongShape}
+use Rattle.bson.specs.Options.{default_options, mongodb_options}
 use Rattle.bson_convert.specs.declared.mode.Mode.TheVariants as mode
 use Rattle.bson_convert.specs.declared.error.Error.TheVariants as error
 use Rattle.bson_convert.specs.declared.no_bytes.NoBytes.TheVariants as without
-use Rattle.vbson.specs.Convert.{mode_at, options_of, order_of, status_for, status_of}
+use Rattle.vbson.specs.Convert.{mode_at, options_of_flags, order_of, status_for, status_of}
 use Rattle.bson_bytes.specs.declared.keys.DuplicateKeys.TheVariants.{Replace, Refuse}
 use Rattle.bson_run.specs.declared.order.Taking.TheVariants.{Distinct, Legacy, DistinctLegacy}
 use Rattle.vbson.specs.Documents.{depth}
 use Rattle.vbson.specs.Reading.{duplicate_keys_of, preprocessing_of}
 use Rattle.vbson.specs.Values.{verdict}
 use Rattle.vbson.specs.declared.options.CallOptions.{CallOptions}
-use Rattle.vbson.specs.declared.options.KeyOrder.TheVariants.{Ascending, AsGiven}
+use Rattle.bson.specs.declared.extjson.key_order.KeyOrder.TheVariants.{Ascending, AsGiven}
 
 -- ---- modes
 
@@ -36,13 +36,14 @@ options_with doubles key_order duplicate_keys v1 = record {
   v1 = v1;
 }
 
-conversion_numbered : (options_of (options_with 0 0 0 0) ≡ default_options)
-    × ((options_of (options_with 0 1 1 1)).doubles ≡ Special)
-    × ((options_of (options_with 1 0 0 0)).doubles ≡ Finite)
+conversion_numbered : (options_of_flags (options_with 0 0 0 0) ≡ default_options)
+    × (options_of_flags (options_with 1 1 0 0) ≡ mongodb_options)
+    × ((options_of_flags (options_with 0 1 1 1)).doubles ≡ Special)
+    × ((options_of_flags (options_with 1 0 0 0)).doubles ≡ Finite)
     × (order_of (options_with 0 0 0 0) ≡ Ascending)
     × (order_of (options_with 1 0 1 1) ≡ Ascending)
     × (order_of (options_with 0 1 0 0) ≡ AsGiven)
-conversion_numbered = (refl, refl, refl, refl, refl, refl)
+conversion_numbered = (refl, refl, refl, refl, refl, refl, refl)
 
 reading_numbered : (preprocessing_of (options_with 1 1 0 0) ≡ None)
     × (preprocessing_of (options_with 0 0 1 0) ≡ Some Distinct)

@@ -1,15 +1,15 @@
 -- What a conversion leaves, which number stands for which mode, and which options are in the struct of a call.
 use Rattle.std.specs.Prelude.{◌≡◌, ◌==◌, ℕ, List, ◌++◌, IsUtf8, Option, Some, None, if◌then◌else◌}
 use Rattle.serde_json.specs.Data.{Data}
-use Rattle.bson_place.specs.Faults.{Fault as TreeFault, wrong_shape, wrong_id}
+use Rattle.bson_tree.specs.Faults.{Fault as TreeFault, wrong_shape, wrong_id}
 use Rattle.bson_model.specs.Fault.{MeansNothingIn, fault_of_in}
-use Rattle.bson_place.specs.declared.place.Reason.{Reason}
-use Rattle.bson_place.specs.declared.place.Reason.TheVariants.{BadObjectId, WrongShape}
+use Rattle.bson_tree.specs.declared.place.Reason.{Reason}
+use Rattle.bson_tree.specs.declared.place.Reason.TheVariants.{BadObjectId, WrongShape}
 use Rattle.bson.specs.Doubles.TheVariants.{Special, Finite}
 use Rattle.bson.specs.TextMeaning.{IsNoText, IsTextOf}
 use Rattle.bson.specs.declared.extjson.options.Options.{Options}
-use Rattle.bson_convert.specs.Convert.{ConvertsIn, newline}
-use Rattle.bson_run.specs.InOrder.{ConvertsInOrder}
+use Rattle.bson_convert.specs.Convert.{newline}
+use Rattle.bson_run.specs.InOrder.{ConvertsBy}
 use Rattle.bson_convert.specs.declared.mode.Mode.{Mode}
 use Rattle.bson_convert.specs.declared.mode.Mode.TheVariants.{Canonical, Relaxed, Show}
 use Rattle.bson_convert.specs.declared.error.Error.{Error}
@@ -17,27 +17,25 @@ use Rattle.bson_convert.specs.declared.error.Error.TheVariants.{CannotRead, NotJ
 use Rattle.bson_convert.specs.declared.error.Error.TheVariants.{CannotWrite, NotCanonical}
 use Rattle.bson_convert.specs.declared.no_bytes.NoBytes as without
 use Rattle.bson_convert.specs.declared.no_bytes.NoBytes.TheVariants.{NoDocument, ZeroInKey, ZeroInRegex, TooLong}
-use Rattle.vbson.specs.Text.{IsText}
+use Rattle.vbson.specs.Text.{IsOwnedText}
 use Rattle.vbson.specs.declared.options.CallOptions.{CallOptions}
-use Rattle.vbson.specs.declared.options.KeyOrder.{KeyOrder}
-use Rattle.vbson.specs.declared.options.KeyOrder.TheVariants.{Ascending, AsGiven}
+use Rattle.bson.specs.declared.extjson.key_order.KeyOrder.{KeyOrder}
+use Rattle.bson.specs.declared.extjson.key_order.KeyOrder.TheVariants.{Ascending, AsGiven}
 use Rattle.vbson.specs.declared.text.Text.{Text}
 
 abbrev pub mode_at : ℕ → Option Mode
 mode_at n = if n == 0 then Some Canonical else (if n == 1 then Some Relaxed else (if n == 2 then Some Show else None))
 
--- the options of a conversion, of which 0 is the default
-abbrev pub options_of : CallOptions → Options
-options_of options = record { doubles = if options.doubles == 1 then Finite else Special }
-
--- its order of keys
+-- the order of keys
 abbrev pub order_of : CallOptions → KeyOrder
 order_of options = if options.key_order == 1 then AsGiven else Ascending
 
--- the input is converted to the output, its keys in the order
-abbrev pub ConvertsBy : KeyOrder → Options → Mode → List ℕ → List ℕ → Type 0
-ConvertsBy Ascending o mode input output = ConvertsIn o mode input output
-ConvertsBy AsGiven o mode input output = ConvertsInOrder o mode input output
+-- the options of a conversion, of which 0 is the default
+abbrev pub options_of_flags : CallOptions → Options
+options_of_flags options = record {
+  doubles = if options.doubles == 1 then Finite else Special;
+  key_order = order_of options;
+}
 
 -- the line that the input is converted to in the mode of the number, which is UTF-8, with a NUL in its newline's place
 pub record IsConvertedBy (k : KeyOrder) (o : Options) (number : ℕ) (input : List ℕ) (out : Text) : Type 0 where
@@ -46,7 +44,7 @@ pub record IsConvertedBy (k : KeyOrder) (o : Options) (number : ℕ) (input : Li
   pub text : List ℕ
   pub converts : ConvertsBy k o mode input (text ++ newline)
   pub utf8 : IsUtf8 (text ++ newline)
-  pub is_text : IsText text out
+  pub is_text : IsOwnedText text out
 
 -- the text of an object id alone is wrong
 abbrev pub IsBadId : TreeFault → Type 0
@@ -72,10 +70,10 @@ pub record IsCauseIn (o : Options) (status : ℕ) (bytes : List ℕ) : Type 0 wh
   pub not_extended_json : status ≡ 4 → HasNoMeaningIn o IsBad bytes
 
 -- a text is neither read from a reader nor written to a writer
-abbrev pub IsOfText : Error → Type 0
-IsOfText CannotRead = ⊥
-IsOfText CannotWrite = ⊥
-IsOfText _ = Unit {0}
+abbrev pub IsTextError : Error → Type 0
+IsTextError CannotRead = ⊥
+IsTextError CannotWrite = ⊥
+IsTextError _ = Unit {0}
 
 abbrev pub status_for : Reason → ℕ
 status_for (BadObjectId e) = 3

@@ -5,17 +5,17 @@ use Rattle.bson.specs.declared.extjson.options.Options.{Options}
 use Rattle.bson_bytes.specs.Laws.{IsReadIn}
 use Rattle.bson_bytes.specs.Writing.{document_bytes}
 use Rattle.bson_bytes.specs.declared.fault.FaultKind.{FaultKind}
-use Rattle.bson_codec.specs.Bytes.{reads_in}
+use Rattle.bson_codec.specs.Bytes.{reads_bytes_in}
 use Rattle.bson_codec.specs.Errors.{IsPlacedFault}
-use Rattle.bson_codec.specs.Told.{words_for}
+use Rattle.bson_codec.specs.Told.{fault_kind_message}
 use Rattle.bson_convert.specs.Convert.{newline}
 use Rattle.bson_model.specs.Normal.{writable_in}
 use Rattle.bson_model.specs.Value.{Pairs, document}
-use Rattle.vbson.specs.Convert.{options_of}
+use Rattle.vbson.specs.Convert.{options_of_flags}
 use Rattle.vbson.specs.Documents.{depth}
 use Rattle.vbson.specs.Path.{path_pairs}
 use Rattle.vbson.specs.Reading.{duplicate_keys_of}
-use Rattle.vbson.specs.Text.{IsText}
+use Rattle.vbson.specs.Text.{IsOwnedText}
 use Rattle.vbson.specs.declared.document_error.Finding.{Finding}
 use Rattle.vbson.specs.declared.document_error.Finding.TheVariants.{Nothing, Malformed, FiniteDouble}
 use Rattle.vbson.specs.declared.explain.Parts.{Parts}
@@ -28,17 +28,17 @@ use Rattle.vbson.specs.declared.options.CallOptions.{CallOptions}
 pub record HasDocumentText (options : CallOptions) (bytes : List ℕ) : Type 0 where
   pub pairs : Pairs
   pub read : IsReadIn (duplicate_keys_of options) depth bytes pairs
-  pub writable : writable_in (options_of options).doubles (document pairs) ≡ true
+  pub writable : writable_in (options_of_flags options).doubles (document pairs) ≡ true
 
 -- they are a document, and it has none
 pub record HasNoDocumentText (options : CallOptions) (bytes : List ℕ) : Type 0 where
   pub pairs : Pairs
   pub read : IsReadIn (duplicate_keys_of options) depth bytes pairs
-  pub unwritable : writable_in (options_of options).doubles (document pairs) ≡ false
+  pub unwritable : writable_in (options_of_flags options).doubles (document pairs) ≡ false
 
 abbrev pub IsFinding : CallOptions → List ℕ → Finding → Type 0
 IsFinding options bytes Nothing = HasDocumentText options bytes
-IsFinding options bytes (Malformed k n) = IsPlacedFault k n bytes (reads_in (duplicate_keys_of options) depth bytes)
+IsFinding options bytes (Malformed k n) = IsPlacedFault k n bytes (reads_bytes_in (duplicate_keys_of options) depth bytes)
 IsFinding options bytes FiniteDouble = HasNoDocumentText options bytes
 
 -- ---- what the struct has of it
@@ -57,12 +57,12 @@ offset_for FiniteDouble = 0
 
 abbrev pub reason_for : Finding → List ℕ
 reason_for Nothing = []
-reason_for (Malformed k n) = words_for k
+reason_for (Malformed k n) = fault_kind_message k
 reason_for FiniteDouble = codes "a finite double"
 
 -- the number of bytes before the place of a fault, and words for what is wrong there
-abbrev pub words_at : ℕ → List ℕ → List ℕ
-words_at n words = codes "not a document at byte " ++ decimal n ++ codes " (" ++ words ++ codes ")"
+abbrev pub document_error_message : ℕ → List ℕ → List ℕ
+document_error_message n words = codes "not a document at byte " ++ decimal n ++ codes " (" ++ words ++ codes ")"
 
 -- words for why a document has no text
 abbrev pub unwritten : List ℕ → List ℕ
@@ -70,7 +70,7 @@ unwritten words = codes "not representable (" ++ words ++ codes ")"
 
 abbrev pub message_for : Finding → List ℕ
 message_for Nothing = []
-message_for (Malformed k n) = words_at n (words_for k)
+message_for (Malformed k n) = document_error_message n (fault_kind_message k)
 message_for FiniteDouble = unwritten (codes "a finite double")
 
 -- the struct has this of what is wrong; the path has no segment
@@ -79,9 +79,9 @@ pub record SaysOf (it : Finding) (out : Rejection) : Type 0 where
   pub line : out.line ≡ 0
   pub column : out.column ≡ 0
   pub offset : out.offset ≡ offset_for it
-  pub path : IsText (document_bytes (path_pairs [])) out.path
-  pub reason : IsText (reason_for it) out.reason
-  pub message : IsText (message_for it) out.message
+  pub path : IsOwnedText (document_bytes (path_pairs [])) out.path
+  pub reason : IsOwnedText (reason_for it) out.reason
+  pub message : IsOwnedText (message_for it) out.message
   pub utf8 : IsUtf8 (message_for it)
   pub reason_utf8 : IsUtf8 (reason_for it)
 

@@ -4,22 +4,20 @@ use Rattle.bson.specs.Doubles.{Doubles}
 use Rattle.bson.specs.Doubles.TheVariants.{Special, Finite}
 use Rattle.bson.specs.Form.{Form}
 use Rattle.bson.specs.Form.TheVariants as form
-use Rattle.bson.specs.TextMeaning.{HasTextMeaningIn}
-use Rattle.bson.specs.Texts.{IsTextUnder, IsTextInOrder}
+use Rattle.bson.specs.Texts.{IsTextBy}
 use Rattle.bson.specs.declared.extjson.options.Options.{Options}
 use Rattle.bson_codec.specs.Canonical.{Cause, zero_in_key, zero_in_regex, too_long}
 use Rattle.bson_codec.specs.Laws.{IsRead}
 use Rattle.bson_model.specs.Displayed.{display_text}
 use Rattle.bson_model.specs.Normal.{writable_in}
 use Rattle.bson_model.specs.Value.{Value, Pairs, document}
-use Rattle.bson_run.specs.Encode.{FailsFor, IsBytesOf, IsNoDocument, IsUnencodedIn, IsUnencodedInOrder, MeansKept}
-use Rattle.bson_convert.specs.declared.error.Error.{Error}
+use Rattle.bson_run.specs.Encode.{Encodes, FailsFor, HasMeaningBy, IsNoDocument}
 use Rattle.bson_convert.specs.declared.mode.Mode.{Mode}
 use Rattle.bson_convert.specs.declared.mode.Mode.TheVariants.{Canonical, Relaxed, Show}
 use Rattle.vbson.specs.Convert.{IsCauseIn, mode_at}
-use Rattle.vbson.specs.Text.{IsText}
-use Rattle.vbson.specs.declared.options.KeyOrder.{KeyOrder}
-use Rattle.vbson.specs.declared.options.KeyOrder.TheVariants.{Ascending, AsGiven}
+use Rattle.vbson.specs.Text.{IsOwnedText}
+use Rattle.bson.specs.declared.extjson.key_order.KeyOrder.{KeyOrder}
+use Rattle.bson.specs.declared.extjson.key_order.KeyOrder.TheVariants.{Ascending, AsGiven}
 use Rattle.vbson.specs.declared.text.Text.{Text}
 
 -- how deep documents, arrays and scopes may stand in each other
@@ -32,15 +30,10 @@ IsOneDocument bytes = (ps : Pairs) × IsRead depth bytes ps
 
 -- ---- from bytes to a text
 
--- the text of the document in the form, its keys in the order
-abbrev pub IsTextBy : KeyOrder → Options → Form → Pairs → List ℕ → Type 0
-IsTextBy Ascending o f ps text = IsTextUnder o.doubles f (document ps) text
-IsTextBy AsGiven o f ps text = IsTextInOrder o.doubles f (document ps) text
-
 -- the text of the document in the mode; what is shown has the document's own order in any case
 abbrev pub IsTextOfDocument : KeyOrder → Options → Mode → Pairs → List ℕ → Type 0
-IsTextOfDocument k o Canonical ps text = IsTextBy k o form.Canonical ps text
-IsTextOfDocument k o Relaxed ps text = IsTextBy k o form.Relaxed ps text
+IsTextOfDocument k o Canonical ps text = IsTextBy k o.doubles form.Canonical (document ps) text
+IsTextOfDocument k o Relaxed ps text = IsTextBy k o.doubles form.Relaxed (document ps) text
 IsTextOfDocument k o Show ps text = text ≡ display_text (document ps)
 
 -- the document has no text in the mode
@@ -62,7 +55,7 @@ pub record IsDecoded (k : KeyOrder) (o : Options) (number : ℕ) (bytes : List �
   pub text : List ℕ
   pub decodes : Decodes k o mode bytes text
   pub utf8 : IsUtf8 text
-  pub is_text : IsText text out
+  pub is_text : IsOwnedText text out
 
 -- the bytes are a document that has no text in the mode of the number
 pub record HasNoText (o : Options) (number : ℕ) (bytes : List ℕ) : Type 0 where
@@ -74,22 +67,13 @@ pub record HasNoText (o : Options) (number : ℕ) (bytes : List ℕ) : Type 0 wh
 
 -- ---- from a text to bytes
 
--- the text means the value, its keys in the order
-abbrev pub HasMeaningBy : KeyOrder → Options → List ℕ → Value → Type 0
-HasMeaningBy Ascending o text = HasTextMeaningIn o.doubles text
-HasMeaningBy AsGiven o text = MeansKept o text
-
--- the text means a document, whose canonical bytes these are; they are read back as it
-abbrev pub Encodes : KeyOrder → Options → (text bytes : List ℕ) → Type 0
-Encodes k o text bytes = IsBytesOf (HasMeaningBy k o text) bytes
-
 -- what is left are those bytes
 abbrev pub IsEncoded : KeyOrder → Options → List ℕ → Text → Type 0
-IsEncoded k o text out = (bytes : List ℕ) × Encodes k o text bytes × IsText bytes out
+IsEncoded k o text out = (bytes : List ℕ) × Encodes k o text bytes × IsOwnedText bytes out
 
 -- the text means a value that is no document
-abbrev pub MeansNoDocument : KeyOrder → Options → List ℕ → Type 0
-MeansNoDocument k o text = IsNoDocument (HasMeaningBy k o text)
+abbrev pub TextIsNotDocumentBy : KeyOrder → Options → List ℕ → Type 0
+TextIsNotDocumentBy k o text = IsNoDocument (HasMeaningBy k o text)
 
 -- the text means a document that has no bytes, for this cause
 abbrev pub HasNoBytes : KeyOrder → Options → Cause → List ℕ → Type 0
@@ -121,13 +105,8 @@ pub record IsUndecoded (o : Options) (mode : Mode) (status : ℕ) (bytes : List 
 -- what a status says of a text that gave no bytes
 pub record IsUnencoded (k : KeyOrder) (o : Options) (status : ℕ) (text : List ℕ) : Type 0 where
   pub cause : IsCauseIn o status text
-  pub no_document : status ≡ 10 → MeansNoDocument k o text
+  pub no_document : status ≡ 10 → TextIsNotDocumentBy k o text
   pub zero_key : status ≡ 11 → HasNoBytes k o zero_in_key text
   pub zero_regex : status ≡ 12 → HasNoBytes k o zero_in_regex text
   pub long : status ≡ 13 → HasNoBytes k o too_long text
   pub listed : ((2 ≤ status) × (status ≤ 5)) ⊎ ((10 ≤ status) × (status ≤ 13))
-
--- what each fault says of a text that gave no bytes, its keys in the order
-abbrev pub IsUnencodedBy : KeyOrder → Options → Error → List ℕ → Type 0
-IsUnencodedBy Ascending o fault text = IsUnencodedIn o fault text
-IsUnencodedBy AsGiven o fault text = IsUnencodedInOrder o fault text

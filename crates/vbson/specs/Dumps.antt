@@ -13,23 +13,23 @@ use Rattle.bson_convert.specs.declared.mode.Mode.TheVariants.{Canonical, Relaxed
 use Rattle.bson.specs.Form.TheVariants as form
 use Rattle.vbson.specs.Convert.{mode_at}
 use Rattle.vbson.specs.Documents.{depth}
-use Rattle.vbson.specs.Text.{IsText}
+use Rattle.vbson.specs.Text.{IsOwnedText}
 use Rattle.vbson.specs.declared.dump.Documents as given
-use Rattle.vbson.specs.declared.options.KeyOrder.{KeyOrder}
-use Rattle.vbson.specs.declared.options.KeyOrder.TheVariants.{Ascending, AsGiven}
+use Rattle.bson.specs.declared.extjson.key_order.KeyOrder.{KeyOrder}
+use Rattle.bson.specs.declared.extjson.key_order.KeyOrder.TheVariants.{Ascending, AsGiven}
 
 -- what is written of each document; what is shown has its own order in any case
-abbrev pub line_of : KeyOrder → Mode → Line
-line_of Ascending Canonical = Text form.Canonical
-line_of Ascending Relaxed = Text form.Relaxed
-line_of Ascending Show = Shown
-line_of AsGiven Canonical = TextInOrder form.Canonical
-line_of AsGiven Relaxed = TextInOrder form.Relaxed
-line_of AsGiven Show = Shown
+abbrev pub dump_line : KeyOrder → Mode → Line
+dump_line Ascending Canonical = Text form.Canonical
+dump_line Ascending Relaxed = Text form.Relaxed
+dump_line Ascending Show = Shown
+dump_line AsGiven Canonical = TextInOrder form.Canonical
+dump_line AsGiven Relaxed = TextInOrder form.Relaxed
+dump_line AsGiven Show = Shown
 
 -- a document that is refused is reported and passed over
 abbrev pub run_of : KeyOrder → Options → Mode → Run
-run_of k o mode = record { depth = depth; options = o; line = line_of k mode; keep_going = true }
+run_of k o mode = record { depth = depth; options = o; line = dump_line k mode; keep_going = true }
 
 -- the block is so many documents, which give this output and these verdicts
 pub record AreAll (run : Run) (block output verdicts : List ℕ) (count consumed : ℕ) : Type 0 where
@@ -60,8 +60,8 @@ pub record AreDecoded (k : KeyOrder) (o : Options) (number : ℕ) (block : List 
   pub gives : GivesDocuments (run_of k o mode) block text diagnostics out.documents out.consumed
   pub utf8 : IsUtf8 text
   pub told_utf8 : IsUtf8 diagnostics
-  pub is_text : IsText text out.text
-  pub are_diagnostics : IsText diagnostics out.diagnostics
+  pub is_text : IsOwnedText text out.text
+  pub are_diagnostics : IsOwnedText diagnostics out.diagnostics
 
 -- ---- for private clauses
 

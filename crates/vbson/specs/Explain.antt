@@ -10,16 +10,16 @@ use Rattle.bson_convert.specs.Convert.{IsRefusedIn, newline}
 use Rattle.bson_convert.specs.Words.{words_of}
 use Rattle.bson_convert.specs.declared.error.Error.{Error}
 use Rattle.bson_convert.specs.declared.error.Error.TheVariants.{NotExtendedJson, OutOfMemory}
-use Rattle.bson_place.specs.Place.{PathSegment, path_of}
+use Rattle.bson_tree.specs.Place.{PathSegment, path_of}
 use Rattle.bson_run.specs.Place.{IsExplanation, column_at, line_at, words_at}
 use Rattle.bson_run.specs.Words.{words_broken}
 use Rattle.bson_run.specs.declared.explain.Explanation.{Explanation}
 use Rattle.bson_run.specs.declared.explain.Explanation.TheVariants.{Difference, Syntax, Other}
 use Rattle.bson_run.specs.declared.explain.Explanation.TheVariants as explained
-use Rattle.vbson.specs.Convert.{options_of, status_for}
+use Rattle.vbson.specs.Convert.{options_of_flags, status_for}
 use Rattle.vbson.specs.Path.{path_pairs}
-use Rattle.vbson.specs.Reading.{IsReadAs, IsUnread, MeansUnder, preprocessing_of}
-use Rattle.vbson.specs.Text.{IsText}
+use Rattle.vbson.specs.Reading.{IsReadAs, IsPreprocessingFault, MeansUnder, preprocessing_of}
+use Rattle.vbson.specs.Text.{IsOwnedText}
 use Rattle.vbson.specs.declared.explain.Parts.{Parts}
 use Rattle.vbson.specs.declared.explain.Rejection.{Rejection}
 use Rattle.vbson.specs.declared.options.CallOptions.{CallOptions}
@@ -71,9 +71,9 @@ pub record Says (text : List ℕ) (it : Explanation) (words : List ℕ) (out : R
   pub line : out.line ≡ line_in text it
   pub column : out.column ≡ column_in text it
   pub offset : out.offset ≡ offset_in text it
-  pub path : IsText (document_bytes (path_pairs (path_in it))) out.path
-  pub reason : IsText (reason_in it) out.reason
-  pub message : IsText words out.message
+  pub path : IsOwnedText (document_bytes (path_pairs (path_in it))) out.path
+  pub reason : IsOwnedText (reason_in it) out.reason
+  pub message : IsOwnedText words out.message
 
 -- the struct explains the error of the text, with the words for the error and behind them those for its place
 pub record IsError (text : List ℕ) (fault : Error) (out : Rejection) : Type 0 where
@@ -88,11 +88,11 @@ pub record IsError (text : List ℕ) (fault : Error) (out : Rejection) : Type 0 
 -- the text that the options read in the place of this one is rejected for the error, or preprocessing rejects this one
 abbrev pub IsRejectedFor : (options : CallOptions) (text read : List ℕ) → Error → Type 0
 IsRejectedFor options text read fault =
-    (IsReadAs (preprocessing_of options) text read × IsRefusedIn (options_of options) fault read)
-    ⊎ ((read ≡ text) × IsUnread (preprocessing_of options) fault text)
+    (IsReadAs (preprocessing_of options) text read × IsRefusedIn (options_of_flags options) fault read)
+    ⊎ ((read ≡ text) × IsPreprocessingFault (preprocessing_of options) fault text)
 
 -- it is rejected, and the struct explains why
-pub record Refuses (options : CallOptions) (text : List ℕ) (out : Rejection) : Type 0 where
+pub record ExplainsRejection (options : CallOptions) (text : List ℕ) (out : Rejection) : Type 0 where
   pub fault : Error
   pub read : List ℕ
   pub refused : IsRejectedFor options text read fault
@@ -102,7 +102,7 @@ pub record Refuses (options : CallOptions) (text : List ℕ) (out : Rejection) :
 -- the text means a value, and the struct has the code 0 and no words; or it is rejected
 abbrev pub Explains : CallOptions → List ℕ → Rejection → Type 0
 Explains options text out =
-    (((value : Value) × MeansUnder options text value) × Says [] Other [] out) ⊎ Refuses options text out
+    (((value : Value) × MeansUnder options text value) × Says [] Other [] out) ⊎ ExplainsRejection options text out
 
 -- the path to the error is too long for BSON
 abbrev pub IsLongPath : Error → Type 0
@@ -127,8 +127,8 @@ ExplainsRead o text out =
 abbrev pub IsUnexplained : PathError → (Error → Type 0) → Type 0
 IsUnexplained e refused = e ≢ sizes.OutOfMemory → (fault : Error) × refused fault × IsLongPath fault
 
-abbrev pub IsLong : Explanation → Type 0
-IsLong it = FitsDocument (path_pairs (path_in it)) → ⊥
+abbrev pub PathIsTooLong : Explanation → Type 0
+PathIsTooLong it = FitsDocument (path_pairs (path_in it)) → ⊥
 
 -- the parts are those of an explanation of an error of the text
 pub record ArePartsOf (text : List ℕ) (it : Explanation) (parts : Parts) : Type 0 where
@@ -149,6 +149,6 @@ pub record IsMadeOf (parts : Parts) (words : List ℕ) (out : Rejection) : Type 
   pub line : out.line ≡ parts.line
   pub column : out.column ≡ parts.column
   pub offset : out.offset ≡ parts.offset
-  pub path : IsText (front parts.path.items) out.path
-  pub reason : IsText (front parts.reason.items) out.reason
-  pub message : IsText (front words) out.message
+  pub path : IsOwnedText (front parts.path.items) out.path
+  pub reason : IsOwnedText (front parts.reason.items) out.reason
+  pub message : IsOwnedText (front words) out.message

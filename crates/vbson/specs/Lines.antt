@@ -3,21 +3,21 @@ use Rattle.std.specs.Prelude.{◌≡◌, ◌+◌, ℕ, List, ◌∷◌, ◌++◌
 use Rattle.bson.specs.declared.extjson.options.Options.{Options}
 use Rattle.bson_convert.specs.declared.error.Error.{Error}
 use Rattle.bson_convert.specs.declared.error.Error.TheVariants.{CannotRead, CannotWrite, OutOfMemory}
-use Rattle.bson_run.specs.Lines.{GivesIn, IsBadLineIn, lines as lines_of, text_of}
+use Rattle.bson_run.specs.Lines.{GivesIn, IsBadLineIn, lines as lines_of, line_text}
 use Rattle.bson_convert.specs.declared.mode.Mode.{Mode}
 use Rattle.bson_run.specs.declared.order.OnRefusal.TheVariants.{KeepGoing, Stop}
 use Rattle.bson_run.specs.declared.order.Task.{Task}
 use Rattle.bson_run.specs.declared.order.Task.TheVariants.{Write, WriteInOrder, Encode, EncodeInOrder}
 use Rattle.vbson.specs.Convert.{mode_at}
-use Rattle.vbson.specs.Text.{IsText}
-use Rattle.vbson.specs.declared.options.KeyOrder.{KeyOrder}
-use Rattle.vbson.specs.declared.options.KeyOrder.TheVariants.{Ascending, AsGiven}
+use Rattle.vbson.specs.Text.{IsOwnedText}
+use Rattle.bson.specs.declared.extjson.key_order.KeyOrder.{KeyOrder}
+use Rattle.bson.specs.declared.extjson.key_order.KeyOrder.TheVariants.{Ascending, AsGiven}
 use Rattle.vbson.specs.declared.lines.Lines.{Lines}
 
 -- what is done with each line, its keys in the order
-abbrev pub task_of : KeyOrder → Mode → Task
-task_of Ascending mode = Write mode
-task_of AsGiven mode = WriteInOrder mode
+abbrev pub line_task : KeyOrder → Mode → Task
+line_task Ascending mode = Write mode
+line_task AsGiven mode = WriteInOrder mode
 
 -- and where each becomes the bytes of its document
 abbrev pub encoding_of : KeyOrder → Task
@@ -31,22 +31,22 @@ pub record GivesLines (o : Options) (task : Task) (block output verdicts : List 
   pub counted : count ≡ length (lines_of block)
 
 -- what is left is the output and the verdicts of the lines by the task, and these counts
-pub record AreGiven (o : Options) (task : Task) (block : List ℕ) (out : Lines) : Type 0 where
+pub record AreReturned (o : Options) (task : Task) (block : List ℕ) (out : Lines) : Type 0 where
   pub text : List ℕ
   pub diagnostics : List ℕ
   pub gives : GivesLines o task block text diagnostics out.lines out.refused
-  pub is_text : IsText text out.text
-  pub are_diagnostics : IsText diagnostics out.diagnostics
+  pub is_text : IsOwnedText text out.text
+  pub are_diagnostics : IsOwnedText diagnostics out.diagnostics
 
 -- the same where each line is converted in the mode of the number
 pub record AreConverted (k : KeyOrder) (o : Options) (number : ℕ) (block : List ℕ) (out : Lines) : Type 0 where
   pub mode : Mode
   pub named : mode_at number ≡ Some mode
-  pub given : AreGiven o (task_of k mode) block out
+  pub given : AreReturned o (line_task k mode) block out
 
 -- and where each becomes the bytes of its document
 abbrev pub AreEncoded : KeyOrder → Options → (block : List ℕ) → Lines → Type 0
-AreEncoded k o block out = AreGiven o (encoding_of k) block out
+AreEncoded k o block out = AreReturned o (encoding_of k) block out
 
 -- ---- the first line that is rejected
 
@@ -70,7 +70,7 @@ pub record IsFirstRejected (o : Options) (task : Task) (block : List ℕ) (numbe
   pub whole : lines_of block ≡ before ++ line ∷ others
   pub counted : number ≡ length before + 1
   pub accepted : AreAccepted o task before
-  pub rejected : IsBadLineIn o task fault (text_of (length before) line)
+  pub rejected : IsBadLineIn o task fault (line_text (length before) line)
 
 -- for private clauses: the fault is that of a rejected line
 abbrev pub is_rejection : Error → Bool

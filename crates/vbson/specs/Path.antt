@@ -3,7 +3,7 @@ use Rattle.std.specs.Prelude.{ℕ, List, [], ◌∷◌, length, decimal}
 use Rattle.std.specs.Int.{w64, cast_signed}
 use Rattle.bson_scalar.specs.Scalar.{int64, text}
 use Rattle.bson_model.specs.Value.{Value, scalar, Pairs, no_pairs, pair}
-use Rattle.bson_place.specs.Place.{PathSegment, key, element}
+use Rattle.bson_tree.specs.Place.{PathSegment, key, element}
 
 -- pairs, and behind them others
 abbrev pub with_pairs : Pairs → Pairs → Pairs
@@ -18,12 +18,12 @@ abbrev pub index_value : ℕ → Value
 index_value n = scalar (int64 (cast_signed w64 n))
 
 -- a key is a string, and an index an integer of 64 bits
-abbrev pub value_of : PathSegment → Value
-value_of (key k) = name_value k
-value_of (element n) = index_value n
+abbrev pub segment_value : PathSegment → Value
+segment_value (key k) = name_value k
+segment_value (element n) = index_value n
 
 -- the elements of a path, whose segments lead from the value outward: the outermost comes first, and the keys are the
 -- numbers from 0
 abbrev pub path_pairs : List PathSegment → Pairs
 path_pairs [] = no_pairs
-path_pairs (segment ∷ outer) = with_pairs (path_pairs outer) (pair (decimal (length outer)) (value_of segment) no_pairs)
+path_pairs (segment ∷ outer) = with_pairs (path_pairs outer) (pair (decimal (length outer)) (segment_value segment) no_pairs)

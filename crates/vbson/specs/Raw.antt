@@ -3,9 +3,9 @@ use Rattle.std.specs.Prelude.{◌≡◌, ◌≤◌, ℕ, Bool, true, false, List
 use Rattle.bson_bytes.specs.Reading.{value_with, document_in}
 use Rattle.bson_bytes.specs.declared.keys.DuplicateKeys.TheVariants.{Replace}
 use Rattle.bson_model.specs.Value.{Value, Pairs, no_pairs, pair}
-use Rattle.bson_raw.specs.Elements.{value_length}
-use Rattle.bson_raw.specs.Raw.{BeginsWithElements}
-use Rattle.bson_raw.specs.declared.element.RawElement.{RawElement}
+use Rattle.bson_bytes.specs.Elements.{value_length}
+use Rattle.bson_bytes.specs.Raw.{BeginsWithElements}
+use Rattle.bson_bytes.specs.declared.element.RawElement.{RawElement}
 use Rattle.bson_types.specs.Subtype.{subtype_byte}
 use Rattle.bson_types.specs.Tags.{tag_of}
 use Rattle.bson_types.specs.declared.spec.BinarySubtype.{BinarySubtype}
@@ -26,9 +26,9 @@ IsGot d None status out = status ≡ 14
 IsGot d (Some v) status out = (status ≡ 0) × IsValueAt d v out
 
 -- no element is left, or the key and the value of the first, and the others are left
-abbrev pub IsNext : ℕ → Pairs → ℕ → Slice → Slice → RawValue → Type 0
-IsNext d no_pairs status cursor key value = status ≡ 14
-IsNext d (pair k v ps) status cursor key value =
+abbrev pub IsNextElement : ℕ → Pairs → ℕ → Slice → Slice → RawValue → Type 0
+IsNextElement d no_pairs status cursor key value = status ≡ 14
+IsNextElement d (pair k v ps) status cursor key value =
     (status ≡ 0) × (key.bytes.now ≡ k) × IsValueAt d v value × BeginsWithElements d cursor.bytes.now ps
 
 -- the value has another type, or this is what it contains

@@ -5,13 +5,13 @@ use Rattle.bson_bytes.specs.Laws.{IsReadIn}
 use Rattle.bson_bytes.specs.declared.keys.DuplicateKeys.{DuplicateKeys}
 use Rattle.bson_bytes.specs.declared.keys.DuplicateKeys.TheVariants.{Replace, Refuse}
 use Rattle.bson_model.specs.Value.{Value, Pairs, document}
-use Rattle.bson_place.specs.declared.place.Place.{Place}
+use Rattle.bson_tree.specs.declared.place.Place.{Place}
 use Rattle.bson.specs.declared.extjson.options.Options.{Options}
 use Rattle.bson_convert.specs.declared.error.Error.{Error}
 use Rattle.bson_run.specs.Taken.{IsTakenAs, IsTurnedAway, IsUntaken}
 use Rattle.bson_run.specs.declared.order.Taking.{Taking}
 use Rattle.bson_run.specs.declared.order.Taking.TheVariants.{Distinct, Legacy, DistinctLegacy}
-use Rattle.vbson.specs.Convert.{HasNoMeaningIn, IsBad, IsBadId, IsCauseIn, options_of}
+use Rattle.vbson.specs.Convert.{HasNoMeaningIn, IsBad, IsBadId, IsCauseIn, options_of_flags}
 use Rattle.vbson.specs.Documents.{depth}
 use Rattle.vbson.specs.declared.options.CallOptions.{CallOptions}
 
@@ -38,7 +38,7 @@ HasRejectedKey (Some preprocessing) text = (place : Place) × IsTurnedAway prepr
 pub record MeansUnder (options : CallOptions) (text : List ℕ) (value : Value) : Type 0 where
   pub read : List ℕ
   pub read_as : IsReadAs (preprocessing_of options) text read
-  pub meaning : HasTextMeaningIn (options_of options).doubles read value
+  pub meaning : HasTextMeaningIn (options_of_flags options).doubles read value
 
 -- what is read in the place of the text is rejected for the cause
 pub record IsReadAndRejected (options : CallOptions) (cause : List ℕ → Type 0) (text : List ℕ) : Type 0 where
@@ -50,12 +50,12 @@ abbrev pub IsNoTextUnder : CallOptions → List ℕ → Type 0
 IsNoTextUnder options = IsReadAndRejected options IsNoText
 
 abbrev pub HasBadIdUnder : CallOptions → List ℕ → Type 0
-HasBadIdUnder options = IsReadAndRejected options (HasNoMeaningIn (options_of options) IsBadId)
+HasBadIdUnder options = IsReadAndRejected options (HasNoMeaningIn (options_of_flags options) IsBadId)
 
 abbrev pub IsBadUnder : CallOptions → List ℕ → Type 0
 IsBadUnder options text =
     HasRejectedKey (preprocessing_of options) text
-    ⊎ IsReadAndRejected options (HasNoMeaningIn (options_of options) IsBad) text
+    ⊎ IsReadAndRejected options (HasNoMeaningIn (options_of_flags options) IsBad) text
 
 -- ---- documents
 
@@ -75,9 +75,9 @@ IsNoDocumentUnder options bytes = (value : Value) → IsDocumentUnder options by
 -- ---- for private clauses
 
 -- what a fault says of a text that preprocessing does not accept
-abbrev pub IsUnread : Option Taking → Error → List ℕ → Type 0
-IsUnread None fault text = ⊥
-IsUnread (Some preprocessing) fault text = IsUntaken preprocessing fault text
+abbrev pub IsPreprocessingFault : Option Taking → Error → List ℕ → Type 0
+IsPreprocessingFault None fault text = ⊥
+IsPreprocessingFault (Some preprocessing) fault text = IsUntaken preprocessing fault text
 
 -- what a status says of bytes that mean nothing, with no preprocessing
 pub record IsRejectedWith (o : Options) (status : ℕ) (bytes : List ℕ) : Type 0 where

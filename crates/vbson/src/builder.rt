@@ -198,7 +198,7 @@ fn put_length(builder: &mut Builder<'_>, start: usize)
     bytes[start..start + 4].copy_from_slice(&length);
 }
 
-/// What is appended after the beginning of a document or an array are its elements.
+/// Proves that what is appended after the beginning of a document or an array are its elements.
 pub fn appended_elements_are_values()
     ensures begun { (front name : List ℕ) (a b : Builder) → built a ≡ front → IsBuilt (name ++ no_length) a b
         → IsOpenDocument (front ++ name) no_pairs b × IsOpenArray (front ++ name) no_values b }

@@ -1,5 +1,5 @@
 //! One text to another.
-ghost use Rattle.std.specs.Prelude.{◌≡◌, ◌↔◌, ◌⊎◌, ◌<◌, ◌≤◌, ◌++◌, List, ℕ, Some, IfOk, IfErr, IsUtf8};
+ghost use Rattle.std.specs.Prelude.{◌≡◌, ◌↔◌, ◌⊎◌, ◌<◌, ◌≤◌, ◌++◌, List, ℕ, Some};
 ghost use Rattle.serde_json.specs.Data.{Data};
 ghost use Rattle.bson.specs.declared.extjson.options.Options.{Options};
 ghost use Rattle.bson_model.specs.Means.{MeansIn};
@@ -8,21 +8,20 @@ ghost use Rattle.bson_convert.specs.Convert.{IsRefusedIn, newline};
 ghost use Rattle.bson.specs.TextMeaning.{IsNoText, IsTextOf};
 ghost use Rattle.bson_convert.specs.declared.mode.Mode.{Mode};
 ghost use Rattle.vbson.specs.Convert.{HasNoMeaningIn, IsBad, IsBadId, IsCauseIn};
-ghost use Rattle.vbson.specs.Convert.{ConvertsBy, IsConvertedBy, IsOfText};
-ghost use Rattle.vbson.specs.Convert.{mode_at, options_of, order_of, status_of};
+ghost use Rattle.bson_run.specs.InOrder.{ConvertsBy};
+ghost use Rattle.vbson.specs.Convert.{IsConvertedBy, IsTextError};
+ghost use Rattle.vbson.specs.Convert.{mode_at, options_of_flags, order_of, status_of};
 ghost use Rattle.vbson.specs.Options.{AreNotForConversion};
 ghost use Rattle.vbson.specs.Text.{nul};
 
-use crate::options::{CallOptions, KeyOrder, are_not_for_conversion, options_of, order_of};
+use crate::options::{CallOptions, are_not_for_conversion, options_of};
 use crate::status;
 use crate::text::{Text, text_of_line};
-use bson::extjson::Options;
-use bson_convert::convert::convert_with;
 use bson_convert::error::Error;
 use bson_convert::mode::Mode;
 use bson_convert::no_bytes::NoBytes;
-use bson_place::place::Reason;
-use bson_run::in_order::convert_in_order;
+use bson_run::convert::convert_text;
+use bson_tree::place::Reason;
 use std::alloc::Global;
 
 /// Reads the text as one text of Extended JSON, and leaves the text of its value in a mode: 0 the
@@ -38,18 +37,18 @@ pub extern "C" fn vbson_convert_nonnull(
     text: &[u8],
     out: &mut Text<'static>,
 ) -> u32
-    ensures done { result ≡ 0 → IsConvertedBy (order_of options.now) (options_of options.now) mode text.now out.new }
+    ensures done { result ≡ 0 → IsConvertedBy (order_of options.now) (options_of_flags options.now) mode text.now out.new }
     ensures one { result ≡ 0 → (m : Mode) (other : List ℕ) → mode_at mode ≡ Some m
-        → ConvertsBy (order_of options.now) (options_of options.now) m text.now (other ++ newline)
+        → ConvertsBy (order_of options.now) (options_of_flags options.now) m text.now (other ++ newline)
         → out.new.bytes.now ≡ other ++ nul }
     ensures accepts { (tree : Data) (value : model.Value) → IsTextOf text.now tree
-        → MeansIn (options_of options.now).doubles tree value → 1 < result → result ≡ 5 }
+        → MeansIn (options_of_flags options.now).doubles tree value → 1 < result → result ≡ 5 }
 
     // When each other status comes, and that nothing is left then.
     ensures no_mode { result ≡ 1 ↔ (2 < mode) ⊎ AreNotForConversion options.now }
     ensures not_json { result ≡ 2 → IsNoText text.now }
-    ensures bad_object_id { result ≡ 3 → HasNoMeaningIn (options_of options.now) IsBadId text.now }
-    ensures not_extended_json { result ≡ 4 → HasNoMeaningIn (options_of options.now) IsBad text.now }
+    ensures bad_object_id { result ≡ 3 → HasNoMeaningIn (options_of_flags options.now) IsBadId text.now }
+    ensures not_extended_json { result ≡ 4 → HasNoMeaningIn (options_of_flags options.now) IsBad text.now }
     ensures listed { result ≤ 5 }
     ensures kept { 0 < result → out.new ≡ out.old }
 {
@@ -59,33 +58,11 @@ pub extern "C" fn vbson_convert_nonnull(
     let Some(mode) = mode_of(mode) else {
         return status::INVALID_ARGUMENT;
     };
-    match convert_text(alloc, order_of(*options), options_of(*options), mode, text) {
+    match convert_text(alloc, options_of(*options), mode, text) {
         Ok(line) => *out = text_of_line(line),
         Err(fault) => return status_of(fault),
     }
     status::OK
-}
-
-// The text in the mode, with keys in the order, and a newline.
-fn convert_text(
-    alloc: Global,
-    order: KeyOrder,
-    options: Options,
-    mode: Mode,
-    text: &[u8],
-) -> Result<Vec<u8>, Error>
-    ensures ok { IfOk result (λ line. ConvertsBy order options mode text.now line.items) }
-    ensures utf8 { IfOk result (λ line. IsUtf8 line.items) }
-    ensures one { IfOk result (λ line. (other : List ℕ) → ConvertsBy order options mode text.now other
-        → other ≡ line.items) }
-    ensures accepts { (tree : Data) (value : model.Value) → IsTextOf text.now tree → MeansIn options.doubles tree value
-        → IfErr result (λ fault. fault ≡ Error.OutOfMemory) }
-    ensures fault { IfErr result (λ fault. IsRefusedIn options fault text.now) }
-{
-    match order {
-        KeyOrder::Ascending => convert_with(alloc, options, mode, text),
-        KeyOrder::AsGiven => convert_in_order(alloc, options, mode, text),
-    }
 }
 
 /// The mode of a number.
@@ -100,9 +77,9 @@ pub(crate) fn mode_of(number: u32) -> Option<Mode>
     }
 }
 
-/// The status of a fault that a text can have.
+/// Returns the status of a fault that a text can have.
 pub fn status_of(fault: Error) -> u32
-    requires { IsOfText fault }
+    requires { IsTextError fault }
     ensures number { result ≡ status_of fault }
     ensures cause { (o : Options) (bytes : List ℕ) → IsRefusedIn o fault bytes → IsCauseIn o result bytes }
     ensures listed { (o : Options) (bytes : List ℕ) → IsRefusedIn o fault bytes → result ≤ 5 }

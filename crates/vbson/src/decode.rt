@@ -7,17 +7,17 @@ ghost use Rattle.bson_model.specs.Normal.{writable_in};
 ghost use Rattle.bson_model.specs.Value as model;
 ghost use Rattle.bson_model.specs.Value.{Pairs};
 ghost use Rattle.bson_convert.specs.Convert.{newline};
-ghost use Rattle.vbson.specs.Convert.{options_of, order_of};
+ghost use Rattle.vbson.specs.Convert.{options_of_flags, order_of};
 ghost use Rattle.vbson.specs.Documents.{Decodes, HasNoText, IsDecoded, IsOneDocument, IsTextOfDocument, IsUndecoded};
 ghost use Rattle.vbson.specs.Documents.{HasNoTextIn, depth};
 ghost use Rattle.vbson.specs.Options.{AreNotForConversion};
 
 use crate::convert::mode_of;
 use crate::direct::{decode_directly, direct_form};
-use crate::options::{CallOptions, KeyOrder, are_not_for_conversion, options_of, order_of};
+use crate::options::{CallOptions, are_not_for_conversion, options_of, order_of};
 use crate::status;
 use crate::text::{Text, as_line, text_of_line};
-use bson::extjson::{Form, Options, WriteError};
+use bson::extjson::{Form, KeyOrder, Options, WriteError};
 use bson::{Bson, Document};
 use bson_codec::de::{DEPTH, Error, from_slice};
 use bson_convert::mode::Mode;
@@ -33,14 +33,14 @@ pub extern "C" fn vbson_decode_nonnull(
     bytes: &[u8],
     out: &mut Text<'static>,
 ) -> u32
-    ensures done { result ≡ 0 → IsDecoded (order_of options.now) (options_of options.now) mode bytes.now out.new }
+    ensures done { result ≡ 0 → IsDecoded (order_of options.now) (options_of_flags options.now) mode bytes.now out.new }
     ensures accepts { (ps : Pairs) → IsRead depth bytes.now ps
-        → writable_in (options_of options.now).doubles (model.document ps) ≡ true → 1 < result → result ≡ 5 }
+        → writable_in (options_of_flags options.now).doubles (model.document ps) ≡ true → 1 < result → result ≡ 5 }
 
     // When each other status comes, and that nothing is left then.
     ensures no_mode { result ≡ 1 ↔ (2 < mode) ⊎ AreNotForConversion options.now }
     ensures no_document { result ≡ 10 → IsOneDocument bytes.now → ⊥ }
-    ensures no_text { result ≡ 7 → HasNoText (options_of options.now) mode bytes.now }
+    ensures no_text { result ≡ 7 → HasNoText (options_of_flags options.now) mode bytes.now }
     ensures listed { (result ≡ 0) ⊎ (result ≡ 1) ⊎ (result ≡ 5) ⊎ (result ≡ 7) ⊎ (result ≡ 10) }
     ensures kept { 0 < result → out.new ≡ out.old }
 {
@@ -113,12 +113,11 @@ fn write_document(
         Mode::Relaxed => Form::Relaxed,
         Mode::Show => return show_document(alloc, &document),
     };
-    let value = Bson::Document(document);
-    let text = match order {
-        KeyOrder::Ascending => value.into_text_with(alloc, options, form),
-        KeyOrder::AsGiven => value.into_text_in_order(alloc, options, form),
+    let options = Options {
+        key_order: order,
+        ..options
     };
-    match text {
+    match Bson::Document(document).into_text(alloc, options, form) {
         Ok(text) => end_line(text),
         Err(WriteError::FiniteDouble) => Err(status::NOT_REPRESENTABLE),
         Err(WriteError::OutOfMemory) => Err(status::OUT_OF_MEMORY),

@@ -1,13 +1,12 @@
 //! The text of a document's bytes, written while they are read.
 ghost use Rattle.std.specs.Prelude.{◌≡◌, ◌⊎◌, ◌++◌, List, ℕ, IfOk, IfErr, IsUtf8};
-ghost use Rattle.bson_codec.specs.Texts.{IsTextOf};
+ghost use Rattle.bson_codec.specs.Texts.{IsDocumentTextOf};
 ghost use Rattle.bson_convert.specs.Convert.{newline};
 ghost use Rattle.vbson.specs.Documents.{IsOneDocument, depth, direct_form};
 
 use crate::decode::end_line;
-use crate::options::KeyOrder;
 use crate::status;
-use bson::extjson::{Doubles, Form, Options};
+use bson::extjson::{Doubles, Form, KeyOrder, Options};
 use bson_codec::de::{DEPTH, Error};
 use bson_codec::text::decode_text;
 use bson_convert::mode::Mode;
@@ -39,7 +38,7 @@ pub fn direct_form(order: KeyOrder, options: Options, mode: Mode) -> Option<Form
 /// - `NOT_A_DOCUMENT`: the bytes are not a document.
 /// - `OUT_OF_MEMORY`: an allocation failed.
 pub fn decode_directly(alloc: Global, form: Form, bytes: &[u8]) -> Result<Vec<u8>, u32>
-    ensures ok { IfOk result (λ line. (text : List ℕ) × IsTextOf form depth bytes.now text × IsUtf8 text
+    ensures ok { IfOk result (λ line. (text : List ℕ) × IsDocumentTextOf form depth bytes.now text × IsUtf8 text
         × (line.items ≡ text ++ newline)) }
     ensures refused { IfErr result
         (λ status. (status ≡ 5) ⊎ ((status ≡ 10) × (IsOneDocument bytes.now → ⊥))) }

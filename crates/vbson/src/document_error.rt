@@ -3,7 +3,7 @@ ghost use Rattle.std.specs.Prelude.{◌≡◌, ◌⊎◌, ◌↔◌, ◌<◌, �
 ghost use Rattle.bson.specs.View.{document_view};
 ghost use Rattle.bson_convert.specs.Convert.{newline};
 ghost use Rattle.vbson.specs.DocumentError.{ArePartsFor, ExplainsDocument, HasDocumentText, IsFinding, IsOfDocument};
-ghost use Rattle.vbson.specs.DocumentError.{SaysOf, code_for, message_for, offset_for, reason_for, unwritten, words_at};
+ghost use Rattle.vbson.specs.DocumentError.{SaysOf, code_for, message_for, offset_for, reason_for, unwritten, document_error_message};
 ghost use Rattle.vbson.specs.Options.{AreInvalid};
 ghost use Rattle.vbson.specs.declared.document_error.Finding.TheVariants.{Nothing};
 
@@ -14,7 +14,7 @@ use crate::status;
 use bson::extjson::{Form, Options, WriteError};
 use bson::{Bson, Document};
 use bson_bytes::error::Error as PathError;
-use bson_codec::de::{DEPTH, Error, FaultKind, ReadOptions, from_slice_with};
+use bson_codec::de::{DEPTH, Error, FaultKind, ReadOptions, from_bytes};
 use bson_codec::run_end::RunFault;
 use std::alloc::{AllocError, Global};
 
@@ -86,7 +86,7 @@ fn find(alloc: Global, options: CallOptions, bytes: &[u8]) -> Result<Finding, Al
         depth: DEPTH,
         duplicate_keys: duplicate_keys_of(options),
     };
-    match from_slice_with(alloc, reading, bytes) {
+    match from_bytes(alloc, reading, bytes) {
         Ok(document) => find_double(alloc, options_of(options), document),
         Err(Error::Malformed { kind, offset }) => Ok(Finding::Malformed { kind, offset }),
         Err(Error::OutOfMemory) => Err(AllocError),
@@ -97,7 +97,7 @@ fn find(alloc: Global, options: CallOptions, bytes: &[u8]) -> Result<Finding, Al
 fn find_double(alloc: Global, options: Options, document: Document) -> Result<Finding, AllocError>
     ensures found { IfOk result (λ it. IsOfDocument options (document_view document) it) }
 {
-    match Bson::Document(document).into_text_with(alloc, options, Form::Canonical) {
+    match Bson::Document(document).into_text(alloc, options, Form::Canonical) {
         Ok(_) => Ok(Finding::Nothing),
         Err(WriteError::FiniteDouble) => Ok(Finding::FiniteDouble),
         Err(WriteError::OutOfMemory) => Err(AllocError),
@@ -175,8 +175,8 @@ fn message_of(alloc: Global, finding: Finding) -> Result<Vec<u8>, AllocError>
 
 // The words for a fault after so many bytes, and a newline.
 fn line_at(alloc: Global, offset: usize, words: &str) -> Result<Vec<u8>, AllocError>
-    ensures { IfOk result (λ line. IsUtf8 (words_at offset words.now)
-        × (line.items ≡ words_at offset words.now ++ newline)) }
+    ensures { IfOk result (λ line. IsUtf8 (document_error_message offset words.now)
+        × (line.items ≡ document_error_message offset words.now ++ newline)) }
 {
     let line = format!(in alloc; "not a document at byte {offset} ({words})\n")?;
     Ok(line.into_bytes())

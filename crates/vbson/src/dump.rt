@@ -3,15 +3,15 @@ ghost use Rattle.std.specs.Prelude.{◌≡◌, ◌⊎◌, ◌↔◌, ◌<◌, �
 ghost use Rattle.bson_codec.specs.Documents.{Dump};
 ghost use Rattle.bson_codec.specs.declared.documents.Run.{Run};
 ghost use Rattle.bson_convert.specs.Convert.{newline};
-ghost use Rattle.vbson.specs.Convert.{options_of, order_of};
-ghost use Rattle.vbson.specs.Dumps.{AreDecoded, EndsAs, GivesDocuments, line_of, run_of};
+ghost use Rattle.vbson.specs.Convert.{options_of_flags, order_of};
+ghost use Rattle.vbson.specs.Dumps.{AreDecoded, EndsAs, GivesDocuments, dump_line, run_of};
 ghost use Rattle.vbson.specs.Options.{AreNotForConversion};
 
 use crate::convert::mode_of;
-use crate::options::{CallOptions, KeyOrder, are_not_for_conversion, options_of, order_of};
+use crate::options::{CallOptions, are_not_for_conversion, options_of, order_of};
 use crate::status;
 use crate::text::{Text, as_line, text_of_line};
-use bson::extjson::{Form, Options};
+use bson::extjson::{Form, KeyOrder, Options};
 use bson_codec::de::DEPTH;
 use bson_codec::documents::{Line, Run, run_documents};
 use bson_codec::run_end::{RunEnd, RunFault};
@@ -41,7 +41,7 @@ pub extern "C" fn vbson_decode_documents_nonnull(
     block: &[u8],
     out: &mut Documents<'static>,
 ) -> u32
-    ensures done { result ≡ 0 → AreDecoded (order_of options.now) (options_of options.now) mode block.now out.new }
+    ensures done { result ≡ 0 → AreDecoded (order_of options.now) (options_of_flags options.now) mode block.now out.new }
 
     // When each other status comes, and that nothing is left then.
     ensures no_mode { result ≡ 1 ↔ (2 < mode) ⊎ AreNotForConversion options.now }
@@ -81,7 +81,7 @@ fn run_of(order: KeyOrder, options: Options, mode: Mode) -> Run
 
 // What is written of each document.
 fn line_of(order: KeyOrder, mode: Mode) -> Line
-    ensures { result ≡ line_of order mode }
+    ensures { result ≡ dump_line order mode }
 {
     let form = match mode {
         Mode::Canonical => Form::Canonical,

@@ -8,19 +8,19 @@ ghost use Rattle.bson_model.specs.Means.{MeansIn};
 ghost use Rattle.bson_model.specs.Value as model;
 ghost use Rattle.bson_model.specs.Value.{Pairs};
 ghost use Rattle.bson_convert.specs.Convert.{newline};
-ghost use Rattle.vbson.specs.Convert.{HasNoMeaningIn, IsBad, IsBadId, options_of, order_of};
-ghost use Rattle.vbson.specs.Documents.{Encodes, HasNoBytes, IsEncoded, IsUnencoded, IsUnencodedBy};
-ghost use Rattle.vbson.specs.Documents.{MeansNoDocument};
+ghost use Rattle.vbson.specs.Convert.{HasNoMeaningIn, IsBad, IsBadId, options_of_flags, order_of};
+ghost use Rattle.bson_run.specs.Encode.{Encodes};
+ghost use Rattle.vbson.specs.Documents.{HasNoBytes, IsEncoded, IsUnencoded};
+ghost use Rattle.vbson.specs.Documents.{TextIsNotDocumentBy};
 ghost use Rattle.vbson.specs.Options.{AreNotForConversion};
-ghost use Rattle.vbson.specs.declared.options.KeyOrder.TheVariants as orders;
+ghost use Rattle.bson.specs.declared.extjson.key_order.KeyOrder.TheVariants as orders;
 
 use crate::convert::status_of;
-use crate::options::{CallOptions, KeyOrder, are_not_for_conversion, options_of, order_of};
+use crate::options::{CallOptions, are_not_for_conversion, options_of};
 use crate::status;
 use crate::text::{Text, as_line, text_of_line};
 use bson::extjson::Options;
-use bson_convert::error::Error;
-use bson_run::encode::{encode_in_order, encode_with};
+use bson_run::encode::encode;
 use std::alloc::Global;
 
 /// Leaves the canonical bytes of the document that a text of Extended JSON means, with the options of
@@ -33,29 +33,29 @@ pub extern "C" fn vbson_encode_nonnull(
     text: &[u8],
     out: &mut Text<'static>,
 ) -> u32
-    ensures done { result ≡ 0 → IsEncoded (order_of options.now) (options_of options.now) text.now out.new }
+    ensures done { result ≡ 0 → IsEncoded (order_of options.now) (options_of_flags options.now) text.now out.new }
     ensures accepts { (tree : Data) (ps : Pairs) → order_of options.now ≡ orders.Ascending → IsTextOf text.now tree
-        → MeansIn (options_of options.now).doubles tree (model.document ps) → FitsDocument ps → 1 < result → result ≡ 5 }
+        → MeansIn (options_of_flags options.now).doubles tree (model.document ps) → FitsDocument ps → 1 < result → result ≡ 5 }
     ensures accepts_in_order { (ps : Pairs) → order_of options.now ≡ orders.AsGiven → IsUtf8 text.now
-        → HasMeaningInOrder (options_of options.now).doubles text.now (model.document ps) → FitsDocument ps → 1 < result
+        → HasMeaningInOrder (options_of_flags options.now).doubles text.now (model.document ps) → FitsDocument ps → 1 < result
         → result ≡ 5 }
 
     // When each other status comes, and that nothing is left then.
     ensures no_mode { result ≡ 1 ↔ AreNotForConversion options.now }
     ensures not_json { result ≡ 2 → IsNoText text.now }
-    ensures bad_object_id { result ≡ 3 → HasNoMeaningIn (options_of options.now) IsBadId text.now }
-    ensures not_extended_json { result ≡ 4 → HasNoMeaningIn (options_of options.now) IsBad text.now }
-    ensures no_document { result ≡ 10 → MeansNoDocument (order_of options.now) (options_of options.now) text.now }
-    ensures zero_key { result ≡ 11 → HasNoBytes (order_of options.now) (options_of options.now) zero_in_key text.now }
-    ensures zero_regex { result ≡ 12 → HasNoBytes (order_of options.now) (options_of options.now) zero_in_regex text.now }
-    ensures long { result ≡ 13 → HasNoBytes (order_of options.now) (options_of options.now) too_long text.now }
+    ensures bad_object_id { result ≡ 3 → HasNoMeaningIn (options_of_flags options.now) IsBadId text.now }
+    ensures not_extended_json { result ≡ 4 → HasNoMeaningIn (options_of_flags options.now) IsBad text.now }
+    ensures no_document { result ≡ 10 → TextIsNotDocumentBy (order_of options.now) (options_of_flags options.now) text.now }
+    ensures zero_key { result ≡ 11 → HasNoBytes (order_of options.now) (options_of_flags options.now) zero_in_key text.now }
+    ensures zero_regex { result ≡ 12 → HasNoBytes (order_of options.now) (options_of_flags options.now) zero_in_regex text.now }
+    ensures long { result ≡ 13 → HasNoBytes (order_of options.now) (options_of_flags options.now) too_long text.now }
     ensures listed { (result ≤ 5) ⊎ ((10 ≤ result) × (result ≤ 13)) }
     ensures kept { 0 < result → out.new ≡ out.old }
 {
     if are_not_for_conversion(*options) {
         return status::INVALID_ARGUMENT;
     }
-    match encode_text(alloc, order_of(*options), options_of(*options), text) {
+    match encode_text(alloc, options_of(*options), text) {
         Ok(line) => *out = text_of_line(line),
         Err(status) => return status,
     }
@@ -63,40 +63,18 @@ pub extern "C" fn vbson_encode_nonnull(
 }
 
 // The bytes of the document that the text means, and a newline; or the status.
-fn encode_text(
-    alloc: Global,
-    order: KeyOrder,
-    options: Options,
-    text: &[u8],
-) -> Result<Vec<u8>, u32>
-    ensures ok { IfOk result (λ line. (bytes : List ℕ) × Encodes order options text.now bytes
+fn encode_text(alloc: Global, options: Options, text: &[u8]) -> Result<Vec<u8>, u32>
+    ensures ok { IfOk result (λ line. (bytes : List ℕ) × Encodes options.key_order options text.now bytes
         × (line.items ≡ bytes ++ newline)) }
-    ensures accepts { (tree : Data) (ps : Pairs) → order ≡ orders.Ascending → IsTextOf text.now tree
+    ensures accepts { (tree : Data) (ps : Pairs) → options.key_order ≡ orders.Ascending → IsTextOf text.now tree
         → MeansIn options.doubles tree (model.document ps) → FitsDocument ps → IfErr result (λ status. status ≡ 5) }
-    ensures accepts_in_order { (ps : Pairs) → order ≡ orders.AsGiven → IsUtf8 text.now
+    ensures accepts_in_order { (ps : Pairs) → options.key_order ≡ orders.AsGiven → IsUtf8 text.now
         → HasMeaningInOrder options.doubles text.now (model.document ps) → FitsDocument ps
         → IfErr result (λ status. status ≡ 5) }
-    ensures refused { IfErr result (λ status. IsUnencoded order options status text.now) }
+    ensures refused { IfErr result (λ status. IsUnencoded options.key_order options status text.now) }
 {
-    match bytes_by(alloc, order, options, text) {
+    match encode(alloc, options, text) {
         Ok(bytes) => as_line(bytes),
         Err(fault) => Err(status_of(fault)),
-    }
-}
-
-// The bytes of the document that the text means, its keys in the order.
-fn bytes_by(alloc: Global, order: KeyOrder, options: Options, text: &[u8]) -> Result<Vec<u8>, Error>
-    ensures ok { IfOk result (λ bytes. Encodes order options text.now bytes.items) }
-    ensures accepts { (tree : Data) (ps : Pairs) → order ≡ orders.Ascending → IsTextOf text.now tree
-        → MeansIn options.doubles tree (model.document ps) → FitsDocument ps
-        → IfErr result (λ fault. fault ≡ Error.OutOfMemory) }
-    ensures accepts_in_order { (ps : Pairs) → order ≡ orders.AsGiven → IsUtf8 text.now
-        → HasMeaningInOrder options.doubles text.now (model.document ps) → FitsDocument ps
-        → IfErr result (λ fault. fault ≡ Error.OutOfMemory) }
-    ensures refused { IfErr result (λ fault. IsUnencodedBy order options fault text.now) }
-{
-    match order {
-        KeyOrder::Ascending => encode_with(alloc, options, text),
-        KeyOrder::AsGiven => encode_in_order(alloc, options, text),
     }
 }

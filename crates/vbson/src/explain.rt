@@ -3,8 +3,8 @@ ghost use Rattle.std.specs.Prelude.{◌≡◌, ◌≢◌, ◌⊎◌, ◌↔◌, 
 ghost use Rattle.bson.specs.Value.{Value};
 ghost use Rattle.bson_convert.specs.Convert.{IsRefusedIn, newline};
 ghost use Rattle.bson_convert.specs.Words.{words_of};
-ghost use Rattle.bson_place.specs.Place.{segment_of};
-ghost use Rattle.vbson.specs.Explain.{ArePartsOf, Explains, ExplainsRead, IsError, IsLong, IsLongPath, IsMadeOf, IsTooLong, IsUnexplained, Says};
+ghost use Rattle.bson_tree.specs.Place.{segment_of};
+ghost use Rattle.vbson.specs.Explain.{ArePartsOf, Explains, ExplainsRead, IsError, PathIsTooLong, IsLongPath, IsMadeOf, IsTooLong, IsUnexplained, Says};
 ghost use Rattle.vbson.specs.Explain.{code_in, column_in, line_in, offset_in, path_in, reason_in};
 ghost use Rattle.vbson.specs.Options.{AreInvalid};
 ghost use Rattle.vbson.specs.Reading.{MeansUnder};
@@ -18,12 +18,12 @@ use crate::status;
 use crate::text::{Text, text_of_line};
 use bson::extjson::Options;
 use bson_bytes::error::Error as PathError;
-use bson_convert::convert::convert_with;
+use bson_convert::convert::convert_sorted;
 use bson_convert::error::Error;
 use bson_convert::mode::Mode;
-use bson_distinct::laws::one_double;
-use bson_place::place::{Reason, Segment};
 use bson_run::explain::Explanation;
+use bson_tokens::laws::one_double;
+use bson_tree::place::{Reason, Segment};
 use std::alloc::{AllocError, Global};
 
 /// Why a text or a document is rejected, and where. The caller frees each text by `free`.
@@ -110,7 +110,7 @@ fn explained_read(
     ensures said { IfOk result (λ out. ExplainsRead options text.now out) }
     ensures long { IfErr result (λ e. IsUnexplained e (λ fault. IsRefusedIn options fault text.now)) }
 {
-    match convert_with(alloc, options, Mode::Canonical, text) {
+    match convert_sorted(alloc, options, Mode::Canonical, text) {
         Ok(_) => accepted(alloc),
         Err(Error::OutOfMemory) => Err(PathError::OutOfMemory),
         Err(fault) => rejected(alloc, &fault, text),
@@ -179,7 +179,7 @@ pub(crate) fn filled(parts: Parts, message: Vec<u8>) -> Rejection<'static>
 // The parts for an explanation of an error of the text.
 fn parts_of(alloc: Global, found: &Explanation<'_>, text: &[u8]) -> Result<Parts, PathError>
     ensures said { IfOk result (λ parts. ArePartsOf text.now found.now parts) }
-    ensures long { IfErr result (λ e. e ≢ sizes.OutOfMemory → IsLong found.now) }
+    ensures long { IfErr result (λ e. e ≢ sizes.OutOfMemory → PathIsTooLong found.now) }
 {
     let path = path_line(alloc, segments_of(found))?;
     let reason = line_of(alloc, reason_of(found))?;

@@ -2,16 +2,16 @@
 ghost use Rattle.std.specs.Prelude.{◌≡◌, ◌⊎◌, ◌↔◌, ◌<◌, ◌++◌, List, ℕ, Some, IfSome};
 ghost use Rattle.bson_convert.specs.Convert.{newline};
 ghost use Rattle.bson_convert.specs.declared.mode.Mode.{Mode};
-ghost use Rattle.vbson.specs.Convert.{mode_at, options_of, order_of};
-ghost use Rattle.vbson.specs.Lines.{AreConverted, AreEncoded, AreGiven, GivesLines, encoding_of, task_of};
+ghost use Rattle.vbson.specs.Convert.{mode_at, options_of_flags, order_of};
+ghost use Rattle.vbson.specs.Lines.{AreConverted, AreEncoded, AreReturned, GivesLines, encoding_of, line_task};
 ghost use Rattle.vbson.specs.Lines.{EachLineIsAccepted, IsFirstRejected, is_rejection};
 ghost use Rattle.vbson.specs.Options.{AreNotForConversion};
 
 use crate::convert::mode_of;
-use crate::options::{CallOptions, KeyOrder, are_not_for_conversion, options_of, order_of};
+use crate::options::{CallOptions, are_not_for_conversion, options_of, order_of};
 use crate::status;
 use crate::text::{Text, as_line, text_of_line};
-use bson::extjson::Options;
+use bson::extjson::{KeyOrder, Options};
 use bson_convert::error::Error;
 use bson_convert::mode::Mode;
 use bson_run::lines::LineRun;
@@ -41,7 +41,7 @@ pub extern "C" fn vbson_convert_lines_nonnull(
     block: &[u8],
     out: &mut Lines<'static>,
 ) -> u32
-    ensures done { result ≡ 0 → AreConverted (order_of options.now) (options_of options.now) mode block.now out.new }
+    ensures done { result ≡ 0 → AreConverted (order_of options.now) (options_of_flags options.now) mode block.now out.new }
 
     // When each other status comes, and that nothing is left then.
     ensures no_mode { result ≡ 1 ↔ (2 < mode) ⊎ AreNotForConversion options.now }
@@ -73,7 +73,7 @@ pub extern "C" fn vbson_encode_lines_nonnull(
     block: &[u8],
     out: &mut Lines<'static>,
 ) -> u32
-    ensures done { result ≡ 0 → AreEncoded (order_of options.now) (options_of options.now) block.now out.new }
+    ensures done { result ≡ 0 → AreEncoded (order_of options.now) (options_of_flags options.now) block.now out.new }
 
     // When each other status comes, and that nothing is left then.
     ensures no_mode { result ≡ 1 ↔ AreNotForConversion options.now }
@@ -102,9 +102,9 @@ pub extern "C" fn vbson_first_rejected_line_nonnull(
     number: &mut u64,
 ) -> u32
     ensures rejected { result ≡ 0 → (m : Mode) → mode_at mode ≡ Some m
-        → IsFirstRejected (options_of options.now) (task_of (order_of options.now) m) block.now number.new }
+        → IsFirstRejected (options_of_flags options.now) (line_task (order_of options.now) m) block.now number.new }
     ensures accepted { result ≡ 14 → (m : Mode) → mode_at mode ≡ Some m
-        → EachLineIsAccepted (options_of options.now) (task_of (order_of options.now) m) block.now }
+        → EachLineIsAccepted (options_of_flags options.now) (line_task (order_of options.now) m) block.now }
 
     // When each other status comes, and that nothing is left then.
     ensures no_mode { result ≡ 1 ↔ (2 < mode) ⊎ AreNotForConversion options.now }
@@ -137,9 +137,9 @@ pub extern "C" fn vbson_first_unencoded_line_nonnull(
     number: &mut u64,
 ) -> u32
     ensures rejected { result ≡ 0 →
-        IsFirstRejected (options_of options.now) (encoding_of (order_of options.now)) block.now number.new }
+        IsFirstRejected (options_of_flags options.now) (encoding_of (order_of options.now)) block.now number.new }
     ensures accepted { result ≡ 14 →
-        EachLineIsAccepted (options_of options.now) (encoding_of (order_of options.now)) block.now }
+        EachLineIsAccepted (options_of_flags options.now) (encoding_of (order_of options.now)) block.now }
 
     // When each other status comes, and that nothing is left then.
     ensures no_mode { result ≡ 1 ↔ AreNotForConversion options.now }
@@ -161,7 +161,7 @@ pub extern "C" fn vbson_first_unencoded_line_nonnull(
 
 // What is done with each line.
 fn task_of(order: KeyOrder, mode: Mode) -> Task
-    ensures { result ≡ task_of order mode }
+    ensures { result ≡ line_task order mode }
 {
     match order {
         KeyOrder::Ascending => Task::Write(mode),
@@ -181,7 +181,7 @@ fn encoding_of(order: KeyOrder) -> Task
 
 // What the lines of the block give; none when out of memory.
 fn lines_of(alloc: Global, options: Options, task: Task, block: &[u8]) -> Option<Lines<'static>>
-    ensures { IfSome result (λ lines. AreGiven options task block.now lines) }
+    ensures { IfSome result (λ lines. AreReturned options task block.now lines) }
 {
     let given = run_block(alloc, options, task, block)?;
     Some(Lines {

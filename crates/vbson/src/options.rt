@@ -1,10 +1,10 @@
 //! The options of a call, in a struct of the caller.
 ghost use Rattle.std.specs.Prelude.{◌≡◌, ◌↔◌, IsTrue};
-ghost use Rattle.vbson.specs.Convert.{options_of, order_of};
+ghost use Rattle.vbson.specs.Convert.{options_of_flags, order_of};
 ghost use Rattle.vbson.specs.Options.{AreInvalid, AreNotForConversion, AreNotForReading};
 ghost use Rattle.vbson.specs.Reading.{duplicate_keys_of, preprocessing_of};
 
-use bson::extjson::{Doubles, Options};
+use bson::extjson::{Doubles, KeyOrder, Options};
 use bson_codec::de::DuplicateKeys;
 use bson_run::order::Taking;
 
@@ -39,15 +39,6 @@ pub struct CallOptions {
     pub v1: u32,
 }
 
-/// The order of the keys of documents.
-#[derive(Clone, Copy)]
-pub enum KeyOrder {
-    /// Ascending by their bytes.
-    Ascending,
-    /// As the text or the document has them.
-    AsGiven,
-}
-
 /// Returns whether the struct has another size, or a field that is not one of its two values.
 pub fn are_invalid(options: CallOptions) -> bool
     ensures { IsTrue result ↔ AreInvalid options }
@@ -79,14 +70,17 @@ pub fn are_not_for_reading(options: CallOptions) -> bool
 
 /// Returns the options of a conversion.
 pub fn options_of(options: CallOptions) -> Options
-    ensures { result ≡ options_of options }
+    ensures { result ≡ options_of_flags options }
 {
     let doubles = if options.doubles == DOUBLES_FINITE {
         Doubles::Finite
     } else {
         Doubles::Special
     };
-    Options { doubles }
+    Options {
+        doubles,
+        key_order: order_of(options),
+    }
 }
 
 /// Returns the order of keys.

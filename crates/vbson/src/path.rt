@@ -1,16 +1,16 @@
 //! The path to a wrong value, as bytes of BSON.
 ghost use Rattle.std.specs.Prelude.{◌≡◌, ◌≤◌, ◌++◌, decimal, length, map, IfOk, IfErr, OnOk};
 ghost use Rattle.bson_convert.specs.Convert.{newline};
-ghost use Rattle.bson_bytes.specs.Putting.{put_pairs, Puts};
+ghost use Rattle.bson_bytes.specs.Putting.{put_elements, PutsBytes};
 ghost use Rattle.bson_bytes.specs.Writing.{document_bytes, FitsDocument};
 ghost use Rattle.bson_bytes.specs.declared.error.Error.TheVariants as errors;
 ghost use Rattle.bson_model.specs.Value.{no_pairs, pair};
-ghost use Rattle.bson_place.specs.Place.{segment_of};
-ghost use Rattle.vbson.specs.Path.{index_value, name_value, path_pairs, value_of};
+ghost use Rattle.bson_tree.specs.Place.{segment_of};
+ghost use Rattle.vbson.specs.Path.{index_value, name_value, path_pairs, segment_value};
 
 use bson_bytes::error::Error;
 use bson_bytes::put::{put_end, put_key, put_room, put_text, put_u64};
-use bson_place::place::Segment;
+use bson_tree::place::Segment;
 use bson_types::spec::ElementType;
 use std::alloc::Global;
 
@@ -46,7 +46,7 @@ fn path_bytes(alloc: Global, segments: &[Segment]) -> Result<Vec<u8>, Error>
 
 // Appends the elements of a path, the outermost first.
 fn put_segments(alloc: Global, out: &mut Vec<u8>, segments: &[Segment]) -> Result<(), Error>
-    ensures put { Puts result out.new.items (put_pairs (path_pairs (map segment_of segments.now)) out.old.items) }
+    ensures put { PutsBytes result out.new.items (put_elements (path_pairs (map segment_of segments.now)) out.old.items) }
     ensures grows { OnOk result (length out.old.items ≤ length out.new.items) }
 {
     let Some((segment, outer)) = segments.split_first() else {
@@ -63,8 +63,8 @@ fn put_segment(
     number: usize,
     segment: &Segment,
 ) -> Result<(), Error>
-    ensures put { Puts result out.new.items
-        (put_pairs (pair (decimal number) (value_of (segment_of segment.now)) no_pairs) out.old.items) }
+    ensures put { PutsBytes result out.new.items
+        (put_elements (pair (decimal number) (segment_value (segment_of segment.now)) no_pairs) out.old.items) }
     ensures grows { OnOk result (length out.old.items ≤ length out.new.items) }
 {
     let key = format!(in alloc; "{number}")?;
@@ -77,7 +77,7 @@ fn put_segment(
 // Appends a string with its key.
 #[tactic(auto, unfolding(bson_bytes::specs::Putting::put_value))]
 fn put_name(out: &mut Vec<u8>, key: &str, name: &str) -> Result<(), Error>
-    ensures put { Puts result out.new.items (put_pairs (pair key.now (name_value name.now) no_pairs) out.old.items) }
+    ensures put { PutsBytes result out.new.items (put_elements (pair key.now (name_value name.now) no_pairs) out.old.items) }
     ensures grows { OnOk result (length out.old.items ≤ length out.new.items) }
 {
     put_key(out, ElementType::String, key)?;
@@ -87,7 +87,7 @@ fn put_name(out: &mut Vec<u8>, key: &str, name: &str) -> Result<(), Error>
 // Appends an integer of 64 bits with its key.
 #[tactic(auto, unfolding(bson_bytes::specs::Putting::put_value))]
 fn put_index(out: &mut Vec<u8>, key: &str, index: usize) -> Result<(), Error>
-    ensures put { Puts result out.new.items (put_pairs (pair key.now (index_value index) no_pairs) out.old.items) }
+    ensures put { PutsBytes result out.new.items (put_elements (pair key.now (index_value index) no_pairs) out.old.items) }
     ensures grows { OnOk result (length out.old.items ≤ length out.new.items) }
 {
     put_key(out, ElementType::Int64, key)?;

@@ -1,18 +1,18 @@
 //! Values of documents that remain bytes, which the caller has validated.
 ghost use Rattle.std.specs.Prelude.{◌≡◌, ◌⊎◌, ◌<◌, ◌≤◌, ◌-◌, ℕ, length, option_map, MatchOption};
 ghost use Rattle.bson_bytes.specs.Grammar.{one_each};
-ghost use Rattle.bson_model.specs.Value.{Pairs, Value, get};
-ghost use Rattle.bson_raw.specs.Held.{binary_of, boolean_of, date_of, double_of, int32_of, int64_of, object_id_of, string_of};
-ghost use Rattle.bson_raw.specs.Nested.{IsNested};
-ghost use Rattle.bson_raw.specs.Raw.{BeginsWithDocument, BeginsWithElements};
-ghost use Rattle.bson_raw.specs.View.{raw_view};
-ghost use Rattle.vbson.specs.Raw.{IsGot, IsNext, IsTyped, IsValueAt, IsValueOf, bit, subtype_and_bytes};
+ghost use Rattle.bson_model.specs.Value.{Pairs, Value, value_at_key};
+ghost use Rattle.bson_bytes.specs.Held.{binary_of, boolean_value, date_value, double_value, int32_value, int64_value, object_id_value, string_value};
+ghost use Rattle.bson_bytes.specs.Nested.{IsNested};
+ghost use Rattle.bson_bytes.specs.Raw.{BeginsWithDocument, BeginsWithElements};
+ghost use Rattle.bson_bytes.specs.View.{raw_view};
+ghost use Rattle.vbson.specs.Raw.{IsGot, IsNextElement, IsTyped, IsValueAt, IsValueOf, bit, subtype_and_bytes};
 
 use crate::status;
-use bson_raw::RawBsonRef;
-use bson_raw::element::{RawElement, elements_in, first_element};
-use bson_raw::find::find;
-use bson_raw::read::scalar_at;
+use bson_bytes::RawBsonRef;
+use bson_bytes::element::{RawElement, elements_in, first_element};
+use bson_bytes::find::find;
+use bson_bytes::read::scalar_at;
 use bson_types::spec::ElementType;
 
 /// A part of the caller's bytes.
@@ -37,7 +37,7 @@ pub struct RawValue<'a> {
 #[unsafe(no_mangle)]
 pub extern "C" fn vbson_raw_get<'a>(bytes: &'a [u8], key: &[u8], out: &mut RawValue<'a>) -> u32
     ensures found { (d : ℕ) (ps : Pairs) → BeginsWithDocument d bytes.now ps
-        → IsGot (d - 1) (get key.now (one_each ps)) result out.new }
+        → IsGot (d - 1) (value_at_key key.now (one_each ps)) result out.new }
     ensures listed { (result ≡ 0) ⊎ (result ≡ 14) }
     ensures kept { 0 < result → out.new ≡ out.old }
 {
@@ -75,7 +75,7 @@ pub extern "C" fn vbson_raw_next<'a>(
     value: &mut RawValue<'a>,
 ) -> u32
     ensures next { (d : ℕ) (ps : Pairs) → BeginsWithElements d cursor.old.bytes.now ps
-        → IsNext d ps result cursor.new key.new value.new }
+        → IsNextElement d ps result cursor.new key.new value.new }
     ensures listed { (result ≡ 0) ⊎ (result ≡ 14) }
     ensures kept { 0 < result → (cursor.new ≡ cursor.old) × (key.new ≡ key.old) × (value.new ≡ value.old) }
 {
@@ -95,7 +95,7 @@ pub extern "C" fn vbson_raw_next<'a>(
 /// Reads the integer of an Int32.
 #[unsafe(no_mangle)]
 pub extern "C" fn vbson_raw_int32(value: &RawValue<'_>, out: &mut i32) -> u32
-    ensures typed { (d : ℕ) (v : Value) → IsValueAt d v value.now → IsTyped (int32_of v) result out.new }
+    ensures typed { (d : ℕ) (v : Value) → IsValueAt d v value.now → IsTyped (int32_value v) result out.new }
     ensures listed { (result ≡ 0) ⊎ (result ≡ 15) }
     ensures kept { 0 < result → out.new ≡ out.old }
 {
@@ -114,7 +114,7 @@ pub extern "C" fn vbson_raw_int32(value: &RawValue<'_>, out: &mut i32) -> u32
 /// Reads the integer of an Int64.
 #[unsafe(no_mangle)]
 pub extern "C" fn vbson_raw_int64(value: &RawValue<'_>, out: &mut i64) -> u32
-    ensures typed { (d : ℕ) (v : Value) → IsValueAt d v value.now → IsTyped (int64_of v) result out.new }
+    ensures typed { (d : ℕ) (v : Value) → IsValueAt d v value.now → IsTyped (int64_value v) result out.new }
     ensures listed { (result ≡ 0) ⊎ (result ≡ 15) }
     ensures kept { 0 < result → out.new ≡ out.old }
 {
@@ -133,7 +133,7 @@ pub extern "C" fn vbson_raw_int64(value: &RawValue<'_>, out: &mut i64) -> u32
 /// Reads the bit pattern of a double.
 #[unsafe(no_mangle)]
 pub extern "C" fn vbson_raw_double(value: &RawValue<'_>, out: &mut u64) -> u32
-    ensures typed { (d : ℕ) (v : Value) → IsValueAt d v value.now → IsTyped (double_of v) result out.new }
+    ensures typed { (d : ℕ) (v : Value) → IsValueAt d v value.now → IsTyped (double_value v) result out.new }
     ensures listed { (result ≡ 0) ⊎ (result ≡ 15) }
     ensures kept { 0 < result → out.new ≡ out.old }
 {
@@ -152,7 +152,7 @@ pub extern "C" fn vbson_raw_double(value: &RawValue<'_>, out: &mut u64) -> u32
 /// Reads a boolean, as 0 or 1.
 #[unsafe(no_mangle)]
 pub extern "C" fn vbson_raw_boolean(value: &RawValue<'_>, out: &mut u32) -> u32
-    ensures typed { (d : ℕ) (v : Value) → IsValueAt d v value.now → IsTyped (option_map bit (boolean_of v)) result out.new }
+    ensures typed { (d : ℕ) (v : Value) → IsValueAt d v value.now → IsTyped (option_map bit (boolean_value v)) result out.new }
     ensures listed { (result ≡ 0) ⊎ (result ≡ 15) }
     ensures kept { 0 < result → out.new ≡ out.old }
 {
@@ -171,7 +171,7 @@ pub extern "C" fn vbson_raw_boolean(value: &RawValue<'_>, out: &mut u32) -> u32
 /// Reads the bytes of a string.
 #[unsafe(no_mangle)]
 pub extern "C" fn vbson_raw_string<'a>(value: &RawValue<'a>, out: &mut Slice<'a>) -> u32
-    ensures typed { (d : ℕ) (v : Value) → IsValueAt d v value.now → IsTyped (string_of v) result out.new.bytes.now }
+    ensures typed { (d : ℕ) (v : Value) → IsValueAt d v value.now → IsTyped (string_value v) result out.new.bytes.now }
     ensures listed { (result ≡ 0) ⊎ (result ≡ 15) }
     ensures kept { 0 < result → out.new ≡ out.old }
 {
@@ -192,7 +192,7 @@ pub extern "C" fn vbson_raw_string<'a>(value: &RawValue<'a>, out: &mut Slice<'a>
 /// Reads the 12 bytes of an object id.
 #[unsafe(no_mangle)]
 pub extern "C" fn vbson_raw_object_id(value: &RawValue<'_>, out: &mut [u8; 12]) -> u32
-    ensures typed { (d : ℕ) (v : Value) → IsValueAt d v value.now → IsTyped (object_id_of v) result out.new }
+    ensures typed { (d : ℕ) (v : Value) → IsValueAt d v value.now → IsTyped (object_id_value v) result out.new }
     ensures listed { (result ≡ 0) ⊎ (result ≡ 15) }
     ensures kept { 0 < result → out.new ≡ out.old }
 {
@@ -211,7 +211,7 @@ pub extern "C" fn vbson_raw_object_id(value: &RawValue<'_>, out: &mut [u8; 12]) 
 /// Reads a date-time, in milliseconds since 1970-01-01T00:00:00Z.
 #[unsafe(no_mangle)]
 pub extern "C" fn vbson_raw_date_time(value: &RawValue<'_>, out: &mut i64) -> u32
-    ensures typed { (d : ℕ) (v : Value) → IsValueAt d v value.now → IsTyped (date_of v) result out.new }
+    ensures typed { (d : ℕ) (v : Value) → IsValueAt d v value.now → IsTyped (date_value v) result out.new }
     ensures listed { (result ≡ 0) ⊎ (result ≡ 15) }
     ensures kept { 0 < result → out.new ≡ out.old }
 {

@@ -4,21 +4,21 @@ ghost use Rattle.bson.specs.TextMeaning.{HasTextMeaningIn};
 ghost use Rattle.bson.specs.View.{bson_view};
 ghost use Rattle.bson_model.specs.Value.{Value};
 ghost use Rattle.bson_run.specs.Taken.{taken_of};
-ghost use Rattle.vbson.specs.Reading.{IsDocumentUnder, IsReadAs, IsUnread, IsWithoutValue, IsRejectedWith};
+ghost use Rattle.vbson.specs.Reading.{IsDocumentUnder, IsReadAs, IsPreprocessingFault, IsWithoutValue, IsRejectedWith};
 ghost use Rattle.vbson.specs.Reading.{IsWithoutDocument, MeansUnder};
 
 use crate::convert::status_of;
 use crate::options::{CallOptions, duplicate_keys_of, options_of, preprocessing_of};
 use crate::status;
 use bson::Bson;
-use bson::extjson::Options;
+use bson::extjson::{KeyOrder, Options};
 use bson_codec::de;
-use bson_codec::de::{DEPTH, ReadOptions, from_slice_with};
+use bson_codec::de::{DEPTH, ReadOptions, from_bytes};
 use bson_convert::convert::error_of;
 use bson_convert::error::Error;
-use bson_distinct::laws::one_double;
 use bson_run::order::Taking;
 use bson_run::taken::take_as;
+use bson_tokens::laws::one_double;
 use std::alloc::Global;
 
 /// Returns the value of a text.
@@ -58,7 +58,7 @@ pub fn preprocess(
     text: &[u8],
 ) -> Result<Option<String>, Error>
     ensures ok { IfOk result (λ newer. IsReadAs preprocessing text.now (taken_of text.now newer)) }
-    ensures rejected { IfErr result (λ fault. IsUnread preprocessing fault text.now) }
+    ensures rejected { IfErr result (λ fault. IsPreprocessingFault preprocessing fault text.now) }
 {
     match preprocessing {
         Some(taking) => take_as(alloc, taking, text),
@@ -73,7 +73,11 @@ fn meaning_of(alloc: Global, options: Options, bytes: &[u8]) -> Result<Bson, u32
         → IfOk result (λ v. value ≡ bson_view v) }
     ensures rejected { IfErr result (λ status. IsRejectedWith options status bytes.now) }
 {
-    match Bson::try_from_text_with(alloc, options, bytes) {
+    let sorted = Options {
+        key_order: KeyOrder::Ascending,
+        ..options
+    };
+    match Bson::from_text(alloc, sorted, bytes) {
         Ok(value) => Ok(value),
         Err(error) => Err(status_of(error_of(error))),
     }
@@ -95,7 +99,7 @@ pub fn value_of_document(alloc: Global, options: CallOptions, bytes: &[u8]) -> R
         depth: DEPTH,
         duplicate_keys: duplicate_keys_of(options),
     };
-    match from_slice_with(alloc, reading, bytes) {
+    match from_bytes(alloc, reading, bytes) {
         Ok(document) => Ok(Bson::Document(document)),
         Err(de::Error::Malformed { .. }) => Err(status::NOT_A_DOCUMENT),
         Err(de::Error::OutOfMemory) => Err(status::OUT_OF_MEMORY),

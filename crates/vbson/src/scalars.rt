@@ -1,7 +1,7 @@
 //! Decimals, object ids and moments: from a text to plain bytes or a number, and back.
 ghost use Rattle.std.specs.Prelude.{◌≡◌, ◌≢◌, ◌⊎◌, ◌<◌, ◌≤◌, ℕ, ℤ, List, IsUtf8, length};
 ghost use Rattle.bson_decimal.specs.Text.{Parses};
-ghost use Rattle.bson_decimal.specs.Displayed.{display_text as decimal_text};
+ghost use Rattle.bson_decimal.specs.Displayed.{decimal128_text as decimal_text};
 ghost use Rattle.bson_types.specs.Oid.{IsOidText, encode_lower};
 ghost use Rattle.bson_datetime.specs.Grammar.{Names};
 ghost use Rattle.bson_datetime.specs.Moment.{IsRfcMillis};

@@ -1,7 +1,7 @@
 //! A text that the caller has.
 ghost use Rattle.std.specs.Prelude.{◌≡◌, ◌<◌, ◌-◌, ◌++◌, length, take, IfOk, IfErr};
 ghost use Rattle.bson_convert.specs.Convert.{newline};
-ghost use Rattle.vbson.specs.Text.{IsText};
+ghost use Rattle.vbson.specs.Text.{IsOwnedText};
 
 use crate::status;
 
@@ -14,10 +14,10 @@ pub struct Text<'a> {
     pub len: usize,
 }
 
-/// The line with a NUL in its newline's place.
+/// Returns the line with a NUL in place of its newline.
 pub fn text_of_line(mut line: Vec<u8>) -> Text<'static>
     requires { 0 < length line.items }
-    ensures { IsText (take (length line.items - 1) line.items) result }
+    ensures { IsOwnedText (take (length line.items - 1) line.items) result }
 {
     let len = line.len() - 1;
     line[len] = 0;

@@ -63,7 +63,7 @@ pub struct VacantEntry<'a> {
 impl Document {
     ghost use Rattle.std.specs.Prelude.{◌≡◌, ◌++◌, ◌∷◌, [], string_bytes, None, OnOk, OnErr};
     ghost use Rattle.bson_store.specs.Pairs.{get, position_of};
-    ghost use Rattle.bson.specs.Entry.{entry_document, entry_key, FitsValue};
+    ghost use Rattle.bson.specs.Entry.{entry_document, entry_key, MatchesValue};
     ghost use Rattle.bson.specs.View.{contents};
 
     // Puts a pair last, whose key is absent.
@@ -83,7 +83,7 @@ impl Document {
         ensures key { entry_key result ≡ string_bytes key }
         ensures same_document { (entry_document result).ghost_name ≡ self.entry.ghost_name }
         ensures unchanged { (entry_document result).now ≡ self.old }
-        ensures found { FitsValue result (get (string_bytes key) (contents self.old)) }
+        ensures found { MatchesValue result (get (string_bytes key) (contents self.old)) }
     {
         match self.pairs.find(key.as_str()) {
             Some(at) => Entry::Occupied(OccupiedEntry {

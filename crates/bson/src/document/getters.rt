@@ -51,7 +51,7 @@ impl Document {
     ghost use Rattle.bson.specs.Kinds.{double_of};
     ghost use Rattle.bson.specs.Kinds.{generic, generic_of, int32_of, int64_of, object_id_of};
     ghost use Rattle.bson.specs.Kinds.{string_of};
-    ghost use Rattle.bson.specs.Kinds.{bytes_of, timestamp_of};
+    ghost use Rattle.bson.specs.Kinds.{text_bytes_of, timestamp_of};
 
     /// Returns the pattern of the double at the key.
     ///
@@ -84,7 +84,7 @@ impl Document {
     /// - `NotPresent`: the key is absent.
     /// - `UnexpectedType`: the value of the key is of another kind.
     pub fn get_str(&self, key: &str) -> ValueAccessResult<&str>
-        ensures { ok_copied result ≡ held_at (bytes_of string_of) key.now self.now }
+        ensures { ok_copied result ≡ held_at (text_bytes_of string_of) key.now self.now }
     {
         let text = self.kind_at::<String>(key)?;
         Ok(text.as_str())

@@ -7,9 +7,9 @@ ghost use Rattle.bson.specs.View.{bson_view, document_view, pairs_view, values_v
 use crate::bson::{Bson, JavaScriptCodeWithScope};
 use crate::document::Document;
 use crate::extjson::scalars::of_scalar;
-use bson_place::builder::ValueBuilder;
 use bson_scalar::scalar::Scalar;
 use bson_store::{PairStore, SmallPairs};
+use bson_tree::builder::ValueBuilder;
 use std::alloc::{AllocError, Global};
 
 /// Builds the `Bson` that stands for each value.

@@ -15,7 +15,6 @@ ghost use Rattle.bson.specs.View.{bson_view, document_view};
 
 use crate::bson::Bson;
 use crate::document::Document;
-use crate::extjson::options::Options;
 use crate::extjson::read::{read, read_members};
 pub use crate::extjson::text_error::TextError;
 pub use bson_scalar::error::{Error, Result};
@@ -51,8 +50,7 @@ impl Bson {
         read(alloc, Doubles::Special, value)
     }
 
-    /// Returns the value that the tree means, read as the options say, otherwise as
-    /// `try_from_value`.
+    /// Returns the value that the tree means with these doubles, otherwise as `try_from_value`.
     ///
     /// With `Doubles::Finite` a number that is not an i64 is the double nearest to it.
     /// `$numberDouble` is then any decimal number whose nearest double is finite.
@@ -60,14 +58,14 @@ impl Bson {
     /// # Errors
     ///
     /// The errors of `try_from_value`.
-    pub fn try_from_value_with(alloc: Global, options: Options, value: Value) -> Result<Bson>
-        ensures ok { IfOk result (λ v. HasMeaningIn options.doubles (view value) (bson_view v)) }
-        ensures accepts { (v : model.Value) → MeansIn options.doubles (view value) v → Gives bson_view result (Ok v) }
-        ensures fault { IfErr result (λ e. IsFaultOfIn options.doubles (view value) e) }
+    pub fn from_tree(alloc: Global, doubles: Doubles, value: Value) -> Result<Bson>
+        ensures ok { IfOk result (λ v. HasMeaningIn doubles (view value) (bson_view v)) }
+        ensures accepts { (v : model.Value) → MeansIn doubles (view value) v → Gives bson_view result (Ok v) }
+        ensures fault { IfErr result (λ e. IsFaultOfIn doubles (view value) e) }
         ensures ranged { IfOk result (λ v. InRange (bson_view v)) }
-        ensures comes_back { IfOk result (λ v. ComesBackIn options.doubles (bson_view v)) }
+        ensures comes_back { IfOk result (λ v. ComesBackIn doubles (bson_view v)) }
     {
-        read(alloc, options.doubles, value)
+        read(alloc, doubles, value)
     }
 
     /// Returns the value that the map means, as `try_from_value` reads the object.
@@ -84,27 +82,6 @@ impl Bson {
         ensures comes_back { IfOk result (λ v. ComesBack (bson_view v)) }
     {
         Bson::try_from_value(alloc, Value::Object(map))
-    }
-
-    /// Returns the value that the map means, as `try_from_value_with` reads the object.
-    ///
-    /// # Errors
-    ///
-    /// The errors of `try_from_value`.
-    pub fn try_from_map_with(
-        alloc: Global,
-        options: Options,
-        map: Map<String, Value>,
-    ) -> Result<Bson>
-        ensures ok { IfOk result
-            (λ v. HasMeaningIn options.doubles (object (members_view map.entries)) (bson_view v)) }
-        ensures accepts { (v : model.Value) → MeansIn options.doubles (object (members_view map.entries)) v
-            → Gives bson_view result (Ok v) }
-        ensures fault { IfErr result (λ e. IsFaultOfIn options.doubles (object (members_view map.entries)) e) }
-        ensures ranged { IfOk result (λ v. InRange (bson_view v)) }
-        ensures comes_back { IfOk result (λ v. ComesBackIn options.doubles (bson_view v)) }
-    {
-        Bson::try_from_value_with(alloc, options, Value::Object(map))
     }
 }
 
@@ -132,26 +109,26 @@ impl Document {
         read_members(alloc, Doubles::Special, map)
     }
 
-    /// Returns the document of the map, read as the options say, otherwise as `try_from_map`.
+    /// Returns the document of the map with these doubles, otherwise as `try_from_map`.
     ///
     /// # Errors
     ///
     /// The errors of `try_from_map`.
-    pub fn try_from_map_with(
+    pub fn from_members(
         alloc: Global,
-        options: Options,
+        doubles: Doubles,
         map: Map<String, Value>,
     ) -> Result<Document>
         ensures ok { IfOk result
-            (λ v. HasDocumentMeaningIn options.doubles (members_view map.entries) (document_view v)) }
-        ensures accepts { (ps : Pairs) → MeansDocumentIn options.doubles (members_view map.entries) ps
+            (λ v. HasDocumentMeaningIn doubles (members_view map.entries) (document_view v)) }
+        ensures accepts { (ps : Pairs) → MeansDocumentIn doubles (members_view map.entries) ps
             → Gives document_view result (Ok ps) }
         ensures ascends { IfOk result (λ v. KeysAscend (document_view v)) }
-        ensures fault { IfErr result (λ e. IsDocumentFaultIn options.doubles (members_view map.entries) e) }
+        ensures fault { IfErr result (λ e. IsDocumentFaultIn doubles (members_view map.entries) e) }
         ensures ranged { IfOk result (λ v. PairsInRange (document_view v)) }
     {
         ascending(&map);
-        read_members(alloc, options.doubles, map)
+        read_members(alloc, doubles, map)
     }
 }
 

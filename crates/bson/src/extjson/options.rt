@@ -1,20 +1,18 @@
-//! What the calls `.._with` and `.._in_order` take beside the form.
+//! The options of reading and writing Extended JSON.
 ghost use Rattle.std.specs.Prelude.{◌≡◌};
-ghost use Rattle.bson_scalar.specs.declared.form.Doubles.TheVariants.{Special};
+ghost use Rattle.bson.specs.Options.{default_options, mongodb_options};
 
+use crate::extjson::key_order::KeyOrder;
 use bson_scalar::form::Doubles;
 
-/// How Extended JSON is read, written and converted by the calls whose names end in `_with` or
-/// `_in_order`. The default is what the calls without an options value do.
+/// How Extended JSON is read, written and converted. The default is what the calls without an options
+/// value do.
 ///
 /// ```
 /// let half = Bson::Double(0x3fe0_0000_0000_0000);
-/// let options = Options {
-///     doubles: Doubles::Finite,
-/// };
-/// println!(rt; "{}", half.into_text_with(alloc, options, Form::Canonical)?)?;
-/// // {"$numberDouble":"0.5"}
-/// if let Err(error) = Bson::Double(1).into_text_with(alloc, Options::default(), Form::Canonical) {
+/// let text = half.into_text(alloc, Options::mongodb(), Form::Canonical)?;
+/// println!(rt; "{text}")?; // {"$numberDouble":"0.5"}
+/// if let Err(error) = Bson::Double(1).into_text(alloc, Options::default(), Form::Canonical) {
 ///     println!(rt; "{error}")?; // a finite double has no text
 /// }
 /// ```
@@ -22,14 +20,29 @@ use bson_scalar::form::Doubles;
 pub struct Options {
     /// Which doubles have a text.
     pub doubles: Doubles,
+    /// The order of the keys of what is read or written.
+    pub key_order: KeyOrder,
+}
+
+impl Options {
+    /// Returns the options of MongoDB's own tools: finite doubles have a text, and keys are as given.
+    pub fn mongodb() -> Options
+        ensures { result ≡ mongodb_options }
+    {
+        Options {
+            doubles: Doubles::Finite,
+            key_order: KeyOrder::AsGiven,
+        }
+    }
 }
 
 impl Default for Options {
     fn default() -> Options
-        ensures { result.doubles ≡ Special }
+        ensures { result ≡ default_options }
     {
         Options {
             doubles: Doubles::Special,
+            key_order: KeyOrder::Ascending,
         }
     }
 }

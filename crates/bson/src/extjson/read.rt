@@ -13,12 +13,12 @@ use crate::bson::Bson;
 use crate::document::Document;
 use crate::extjson::builder::BsonBuilder;
 use crate::extjson::scalars::of_scalar;
-use bson_place::place::Reason;
-use bson_place::walk::{read_pairs, read_tree};
 use bson_scalar::doubles::read_number;
 use bson_scalar::error::Error;
 use bson_scalar::form::Doubles;
 use bson_scalar::read::read_single_in;
+use bson_tree::place::Reason;
+use bson_tree::walk::{read_pairs, read_tree};
 use serde_json::{Map, Number, Value};
 use std::alloc::Global;
 

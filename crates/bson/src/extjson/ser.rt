@@ -1,19 +1,20 @@
 //! Trees and texts from values.
-ghost use Rattle.std.specs.Prelude.{◌≡◌, IfOk, IfErr, OnOk, Err, true, false, string_bytes};
+ghost use Rattle.std.specs.Prelude.{◌≡◌, ◌-◌, ◌*◌, ◌<◌, ◌≤◌, ◌++◌, ℕ, List, length, IfOk, IfErr, OnOk, OnErr, Err, true, false};
+ghost use Rattle.std.specs.Prelude.{string_bytes, vec_capacity, vec_len};
 ghost use Rattle.serde_json.specs.View.{view};
-ghost use Rattle.bson_scalar.specs.declared.form.Doubles.TheVariants.{Finite};
 ghost use Rattle.bson_scalar.specs.declared.form.Form.TheVariants.{Canonical, Relaxed};
 ghost use Rattle.bson_scalar.specs.declared.write_error.WriteError.{WriteError};
 ghost use Rattle.bson_model.specs.Texts.{ReadsAgain, ReadsAgainIn};
 ghost use Rattle.bson_model.specs.Normal.{InRange, writable, writable_in};
 ghost use Rattle.bson_model.specs.Laws.{IsTreeOf, IsTreeOfIn, FormsAreIdempotent, FormsAreIdempotentIn};
-ghost use Rattle.bson.specs.Texts.{IsTextIn, IsTextUnder, MayStop};
+ghost use Rattle.bson_model.specs.Distinct.{AllDistinct};
+ghost use Rattle.bson.specs.Room.{IsDirect, value_room};
+ghost use Rattle.bson.specs.Texts.{IsTextBy, IsTextIn, IsTextInOrder, IsWriteErrorIn};
 ghost use Rattle.bson.specs.View.{bson_view};
 
 use crate::bson::Bson;
-use crate::extjson::key_order::KeyOrder;
 use crate::extjson::options::Options;
-use crate::extjson::text::text_of;
+use crate::extjson::text::{append_text, text_of};
 use crate::extjson::write::write;
 use bson_scalar::form::{Doubles, Form};
 use bson_scalar::write_error::WriteError;
@@ -61,8 +62,7 @@ impl Bson {
         self.into_extjson(alloc, Doubles::Special, Form::Relaxed)
     }
 
-    /// Makes the tree of the value in a form (MongoDB Extended JSON v2), with the doubles that the
-    /// options name.
+    /// Makes the tree of the value in a form (MongoDB Extended JSON v2), with these doubles.
     ///
     /// With `Doubles::Finite` every value has a tree. A finite double is its shortest decimal, for
     /// example `{"$numberDouble": "12.5"}`, and a number in the relaxed form. With
@@ -74,32 +74,19 @@ impl Bson {
     /// - `FiniteDouble`: the value contains a finite double other than zero, with
     ///   `Doubles::Special`.
     /// - `OutOfMemory`: a request for memory was refused.
-    pub fn into_extjson_with(
+    pub fn into_extjson(
         self,
         alloc: Global,
-        options: Options,
+        doubles: Doubles,
         form: Form,
     ) -> Result<Value, WriteError>
-        ensures tree { IfOk result (λ t. IsTreeOfIn options.doubles form (bson_view self) (view t)) }
-        ensures reads_again { IfOk result (λ t. ReadsAgainIn options.doubles form (bson_view self) (view t)) }
-        ensures idempotent { FormsAreIdempotentIn options.doubles (bson_view self) }
-        ensures ranged { OnOk result (InRange (bson_view self)) }
-        ensures writable { OnOk result (writable_in options.doubles (bson_view self) ≡ true) }
-        ensures finite { result ≡ Err WriteError.FiniteDouble → writable_in options.doubles (bson_view self) ≡ false }
-        ensures every { options.doubles ≡ Finite → result ≡ Err WriteError.FiniteDouble → ⊥ }
-    {
-        self.into_extjson(alloc, options.doubles, form)
-    }
-
-    // The tree of the value in a form.
-    fn into_extjson(self, alloc: Global, doubles: Doubles, form: Form) -> Result<Value, WriteError>
         ensures tree { IfOk result (λ t. IsTreeOfIn doubles form (bson_view self) (view t)) }
         ensures reads_again { IfOk result (λ t. ReadsAgainIn doubles form (bson_view self) (view t)) }
         ensures idempotent { FormsAreIdempotentIn doubles (bson_view self) }
         ensures ranged { OnOk result (InRange (bson_view self)) }
         ensures writable { OnOk result (writable_in doubles (bson_view self) ≡ true) }
         ensures finite { result ≡ Err WriteError.FiniteDouble → writable_in doubles (bson_view self) ≡ false }
-        ensures every { IfErr result (MayStop doubles) }
+        ensures every { IfErr result (IsWriteErrorIn doubles) }
     {
         write(alloc, doubles, form, self)
     }
@@ -117,7 +104,7 @@ impl Bson {
         ensures writable { OnOk result (writable (bson_view self.now) ≡ true) }
         ensures finite { result ≡ Err WriteError.FiniteDouble → writable (bson_view self.now) ≡ false }
     {
-        self.to_text(alloc, Doubles::Special, Form::Canonical)
+        self.to_text(alloc, Options::default(), Form::Canonical)
     }
 
     /// Writes the text of [`Bson::to_canonical_text`], and drops the value.
@@ -147,7 +134,7 @@ impl Bson {
         ensures writable { OnOk result (writable (bson_view self.now) ≡ true) }
         ensures finite { result ≡ Err WriteError.FiniteDouble → writable (bson_view self.now) ≡ false }
     {
-        self.to_text(alloc, Doubles::Special, Form::Relaxed)
+        self.to_text(alloc, Options::default(), Form::Relaxed)
     }
 
     /// Writes the text of [`Bson::to_relaxed_text`], and drops the value.
@@ -164,8 +151,12 @@ impl Bson {
         self.to_relaxed_text(alloc)
     }
 
-    /// Writes the compact text of the tree of the value in a form, as [`Bson::into_extjson_with`]
-    /// makes it. No tree is made.
+    /// Writes the compact text of the value in a form (MongoDB Extended JSON v2). No tree is made.
+    ///
+    /// With `KeyOrder::Ascending` it is the text of the tree that [`Bson::into_extjson`] makes. With
+    /// `KeyOrder::AsGiven` each document has its keys in its own order, at every depth. Apart from
+    /// the order of keys, its tree is the same. Inside a wrapper the order is the form's own, for
+    /// example `$code` before `$scope`. A scope is a document, and keeps its order.
     ///
     /// It is the text that `serde_json` writes, except that a number that is a double is its
     /// shortest decimal: `1e16`, and not `1e+16`. With `Doubles::Finite` every value has a text.
@@ -177,57 +168,98 @@ impl Bson {
     /// - `OutOfMemory`: a request for memory was refused.
     ///
     /// ```
-    /// let options = Options {
-    ///     doubles: Doubles::Finite,
-    /// };
-    /// let price = Bson::Double(0x4029_0000_0000_0000);
-    /// println!(rt; "{}", price.to_text_with(alloc, options, Form::Relaxed)?)?;
-    /// // 12.5
+    /// let orders = Bson::string(alloc, "orders")?;
+    /// let mut command = Document::new(alloc);
+    /// drop(command.insert(String::from_str(alloc, "find")?, orders)?);
+    /// drop(command.insert(String::from_str(alloc, "batchSize")?, Bson::Int32(10))?);
+    /// let command = Bson::Document(command);
+    /// let text = command.to_text(alloc, Options::mongodb(), Form::Relaxed)?;
+    /// println!(rt; "{text}")?; // {"find":"orders","batchSize":10}
+    /// println!(rt; "{}", command.to_relaxed_text(alloc)?)?; // {"batchSize":10,"find":"orders"}
     /// ```
-    pub fn to_text_with(
-        &self,
-        alloc: Global,
-        options: Options,
-        form: Form,
-    ) -> Result<String, WriteError>
-        ensures text { IfOk result (λ s. IsTextUnder options.doubles form (bson_view self.now) (string_bytes s)) }
+    pub fn to_text(&self, alloc: Global, options: Options, form: Form) -> Result<String, WriteError>
+        ensures text { IfOk result
+            (λ s. IsTextBy options.key_order options.doubles form (bson_view self.now) (string_bytes s)) }
         ensures ranged { OnOk result (InRange (bson_view self.now)) }
+        ensures distinct { OnOk result (AllDistinct (bson_view self.now)) }
         ensures writable { OnOk result (writable_in options.doubles (bson_view self.now) ≡ true) }
         ensures finite { result ≡ Err WriteError.FiniteDouble
             → writable_in options.doubles (bson_view self.now) ≡ false }
-        ensures every { options.doubles ≡ Finite → result ≡ Err WriteError.FiniteDouble → ⊥ }
+        ensures every { IfErr result (IsWriteErrorIn options.doubles) }
     {
-        self.to_text(alloc, options.doubles, form)
+        text_of(alloc, options, form, self)
     }
 
-    /// Writes the text of [`Bson::to_text_with`], and drops the value.
+    /// Writes the text of [`Bson::to_text`], and drops the value.
     ///
     /// # Errors
     ///
-    /// The errors of [`Bson::to_text_with`].
-    pub fn into_text_with(
+    /// The errors of [`Bson::to_text`].
+    pub fn into_text(
         self,
         alloc: Global,
         options: Options,
         form: Form,
     ) -> Result<String, WriteError>
-        ensures text { IfOk result (λ s. IsTextUnder options.doubles form (bson_view self) (string_bytes s)) }
+        ensures text { IfOk result
+            (λ s. IsTextBy options.key_order options.doubles form (bson_view self) (string_bytes s)) }
         ensures ranged { OnOk result (InRange (bson_view self)) }
+        ensures distinct { OnOk result (AllDistinct (bson_view self)) }
         ensures writable { OnOk result (writable_in options.doubles (bson_view self) ≡ true) }
         ensures finite { result ≡ Err WriteError.FiniteDouble → writable_in options.doubles (bson_view self) ≡ false }
-        ensures every { options.doubles ≡ Finite → result ≡ Err WriteError.FiniteDouble → ⊥ }
+        ensures every { IfErr result (IsWriteErrorIn options.doubles) }
     {
-        self.to_text_with(alloc, options, form)
+        self.to_text(alloc, options, form)
     }
 
-    // The text of the value in a form.
-    fn to_text(&self, alloc: Global, doubles: Doubles, form: Form) -> Result<String, WriteError>
-        ensures text { IfOk result (λ s. IsTextUnder doubles form (bson_view self.now) (string_bytes s)) }
+    /// Appends the text of [`Bson::to_text`] to `out`, whose keys are as given whatever the options say.
+    /// On an error `out` has the bytes that it had.
+    ///
+    /// If the value is direct, it runs out of memory only if `out` has too little room: twice the
+    /// length of the text is enough. The room of a vector is its capacity without its length. A value
+    /// is direct unless it contains one of these, whose texts are first made in memory of their own:
+    ///
+    /// - a binary;
+    /// - a decimal;
+    /// - a regular expression;
+    /// - in the relaxed form, a date.
+    ///
+    /// # Errors
+    ///
+    /// - `FiniteDouble`: the value contains a finite double other than zero, with
+    ///   `Doubles::Special`.
+    /// - `OutOfMemory`: a request for memory was refused.
+    ///
+    /// ```
+    /// let mut line = Vec::with_capacity(alloc, 64)?;
+    /// let count = Bson::Int32(5);
+    /// count.write_text_into(alloc, Options::default(), Form::Relaxed, &mut line)?;
+    /// line.push(b'\n')?;
+    /// println!(rt; "{line:?}")?; // [53, 10]
+    /// ```
+    pub fn write_text_into(
+        &self,
+        alloc: Global,
+        options: Options,
+        form: Form,
+        out: &mut Vec<u8>,
+    ) -> Result<(), WriteError>
+        ensures text { IfOk result (λ _. (s : List ℕ) × IsTextInOrder options.doubles form (bson_view self.now) s
+            × (out.new.items ≡ out.old.items ++ s)) }
+        ensures unchanged { OnErr result (out.new.items ≡ out.old.items) }
+
+        // With enough room memory is never wanting.
+        ensures room { IsDirect form (bson_view self.now) → result ≡ Err WriteError.OutOfMemory
+            → vec_capacity out.old - vec_len out.old < value_room options.doubles form (bson_view self.now) }
+        ensures twice { (s : List ℕ) → IsTextInOrder options.doubles form (bson_view self.now) s
+            → InRange (bson_view self.now) → value_room options.doubles form (bson_view self.now) ≤ 2 * length s }
         ensures ranged { OnOk result (InRange (bson_view self.now)) }
-        ensures writable { OnOk result (writable_in doubles (bson_view self.now) ≡ true) }
-        ensures finite { result ≡ Err WriteError.FiniteDouble → writable_in doubles (bson_view self.now) ≡ false }
-        ensures every { IfErr result (MayStop doubles) }
+        ensures distinct { OnOk result (AllDistinct (bson_view self.now)) }
+        ensures writable { OnOk result (writable_in options.doubles (bson_view self.now) ≡ true) }
+        ensures finite { result ≡ Err WriteError.FiniteDouble
+            → writable_in options.doubles (bson_view self.now) ≡ false }
+        ensures every { IfErr result (IsWriteErrorIn options.doubles) }
     {
-        text_of(alloc, doubles, KeyOrder::Ascending, form, self)
+        append_text(alloc, options.doubles, form, self, out)
     }
 }

@@ -8,10 +8,10 @@ ghost use Rattle.bson_scalar.specs.Tokens.{Puts};
 ghost use Rattle.bson_scalar.specs.View.{scalar_of};
 ghost use Rattle.bson_scalar.specs.Written.{writes_scalar_in};
 ghost use Rattle.bson_model.specs.Normal.{InRange, ItemsInRange, PairsInRange};
-ghost use Rattle.bson_order.specs.Distinct.{AllDistinct, ItemsDistinct, PairsDistinct};
+ghost use Rattle.bson_model.specs.Distinct.{AllDistinct, ItemsDistinct, PairsDistinct};
 ghost use Rattle.bson_store.specs.Pairs.{HasDistinctKeys};
 ghost use Rattle.bson.specs.KeyOrders.{ordered, writes_by, writes_items_by, writes_pairs_by};
-ghost use Rattle.bson.specs.Texts.{Prints, GivesText, AppendsText, MayStop};
+ghost use Rattle.bson.specs.Texts.{Prints, GivesText, AppendsText, IsWriteErrorIn};
 ghost use Rattle.bson.specs.IsScalar.{IsScalar};
 ghost use Rattle.bson.specs.Room.{is_direct as is_direct_scalar, IsDirect, ValuesDirect, PairsDirect};
 ghost use Rattle.bson.specs.Room.{written_room, value_room, values_room, pairs_room, SpendsOrStops};
@@ -24,6 +24,7 @@ use crate::bson::{Bson, JavaScriptCodeWithScope};
 use crate::document::Document;
 use crate::extjson::direct::{is_direct, print_direct, put_code};
 use crate::extjson::key_order::KeyOrder;
+use crate::extjson::options::Options;
 use crate::extjson::scalars::has_text;
 use crate::scalar::scalar_ref;
 use bson_scalar::form::{Doubles, Form};
@@ -40,18 +41,24 @@ use std::mem;
 
 pub(crate) fn text_of(
     alloc: Global,
-    doubles: Doubles,
-    order: KeyOrder,
+    options: Options,
     form: Form,
     value: &Bson,
 ) -> Result<String, WriteError>
-    ensures written { GivesText result (writes_by order doubles form (bson_view value.now)) }
+    ensures written { GivesText result (writes_by options.key_order options.doubles form (bson_view value.now)) }
     ensures ranged { OnOk result (InRange (bson_view value.now)) }
     ensures distinct { OnOk result (AllDistinct (bson_view value.now)) }
-    ensures every { IfErr result (MayStop doubles) }
+    ensures every { IfErr result (IsWriteErrorIn options.doubles) }
 {
     let mut out = Writer::new(Vec::with_capacity(alloc, 128)?);
-    print(alloc, doubles, order, form, value, &mut out)?;
+    print(
+        alloc,
+        options.doubles,
+        options.key_order,
+        form,
+        value,
+        &mut out,
+    )?;
     Ok(into_text(out))
 }
 
@@ -78,7 +85,7 @@ pub(crate) fn append_text(
     ensures written { AppendsText result (writes_by AsGiven doubles form (bson_view value.now)) out.old.items out.new.items }
     ensures ranged { OnOk result (InRange (bson_view value.now)) }
     ensures distinct { OnOk result (AllDistinct (bson_view value.now)) }
-    ensures every { IfErr result (MayStop doubles) }
+    ensures every { IfErr result (IsWriteErrorIn doubles) }
     ensures room { IsDirect form (bson_view value.now) → result ≡ Err OutOfMemory
         → vec_capacity out.old - vec_len out.old < value_room doubles form (bson_view value.now) }
 {
@@ -111,7 +118,7 @@ fn print(
     ensures before { out.new.before ≡ out.old.before }
     ensures ranged { OnOk result (InRange (bson_view value.now)) }
     ensures distinct { OnOk result (AllDistinct (bson_view value.now)) }
-    ensures every { IfErr result (MayStop doubles) }
+    ensures every { IfErr result (IsWriteErrorIn doubles) }
     ensures room { IsDirect form (bson_view value.now) → SpendsOrStops result out.old.spare out.new.spare
         (value_room doubles form (bson_view value.now)) }
 {
@@ -142,7 +149,7 @@ fn print_scalar(
     ensures before { out.new.before ≡ out.old.before }
     ensures ranged { OnOk result (InRange (bson_view value.now)) }
     ensures distinct { OnOk result (AllDistinct (bson_view value.now)) }
-    ensures every { IfErr result (MayStop doubles) }
+    ensures every { IfErr result (IsWriteErrorIn doubles) }
     ensures room { IsDirect form (bson_view value.now) → SpendsOrStops result out.old.spare out.new.spare
         (value_room doubles form (bson_view value.now)) }
 {
@@ -162,7 +169,7 @@ fn print_ref(
     ensures printed { Puts result (writes_scalar_in doubles form (scalar_of scalar.now)) out.old.tokens out.new.tokens }
     ensures before { out.new.before ≡ out.old.before }
     ensures ranged { OnOk result (ScalarInRange (scalar_of scalar.now)) }
-    ensures every { IfErr result (MayStop doubles) }
+    ensures every { IfErr result (IsWriteErrorIn doubles) }
     ensures room { is_direct_scalar form (scalar_of scalar.now) ≡ true → SpendsOrStops result out.old.spare
         out.new.spare (written_room (writes_scalar_in doubles form (scalar_of scalar.now))) }
 {
@@ -188,7 +195,7 @@ fn print_items(
     ensures before { out.new.before ≡ out.old.before }
     ensures ranged { OnOk result (ItemsInRange (values_view values.now.items)) }
     ensures distinct { OnOk result (ItemsDistinct (values_view values.now.items)) }
-    ensures every { IfErr result (MayStop doubles) }
+    ensures every { IfErr result (IsWriteErrorIn doubles) }
     ensures room { ValuesDirect form (values_view values.now.items) → SpendsOrStops result out.old.spare
         out.new.spare (2 + values_room doubles form (values_view values.now.items)) }
 {
@@ -213,7 +220,7 @@ fn print_scoped(
     ensures before { out.new.before ≡ out.old.before }
     ensures ranged { OnOk result (InRange (scoped_view scoped.now)) }
     ensures distinct { OnOk result (AllDistinct (scoped_view scoped.now)) }
-    ensures every { IfErr result (MayStop doubles) }
+    ensures every { IfErr result (IsWriteErrorIn doubles) }
     ensures room { IsDirect form (scoped_view scoped.now) → SpendsOrStops result out.old.spare out.new.spare
         (value_room doubles form (scoped_view scoped.now)) }
 {
@@ -236,7 +243,7 @@ fn print_document(
     ensures before { out.new.before ≡ out.old.before }
     ensures ranged { OnOk result (PairsInRange (pairs_view document.now.pairs)) }
     ensures distinct { OnOk result (PairsDistinct (pairs_view document.now.pairs)) }
-    ensures every { IfErr result (MayStop doubles) }
+    ensures every { IfErr result (IsWriteErrorIn doubles) }
     ensures room { PairsDirect form (pairs_view document.now.pairs) → SpendsOrStops result out.old.spare
         out.new.spare (2 + pairs_room doubles form (pairs_view document.now.pairs)) }
 {

@@ -1,5 +1,5 @@
 //! Why bytes give no value.
-use bson_place::place::Place;
+use bson_tree::place::Place;
 
 /// Why bytes give no value.
 ///

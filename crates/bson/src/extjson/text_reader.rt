@@ -2,19 +2,15 @@
 //!
 //! In reading order: `again` (what is read if a text is not read at once) and `members` (the members
 //! of an object in ascending order of keys).
-ghost use Rattle.std.specs.Prelude.{◌≡◌, Some, IfOk, IfErr, OnOk, IsUtf8};
+ghost use Rattle.std.specs.Prelude.{◌≡◌, IfOk, IfErr};
 ghost use Rattle.serde_json.specs.Data.{Data};
 ghost use Rattle.bson_model.specs.Means.{Means, MeansIn};
 ghost use Rattle.bson_model.specs.Normal.{InRange};
-ghost use Rattle.bson_model.specs.Texts.{ComesBack, ComesBackIn};
+ghost use Rattle.bson_model.specs.Texts.{ComesBack};
 ghost use Rattle.bson_model.specs.Value as model;
-ghost use Rattle.bson_order.specs.Distinct.{AllDistinct};
-ghost use Rattle.bson_order.specs.Kept.{read_kept};
-ghost use Rattle.bson_order.specs.Means.{MeansInOrder};
-ghost use Rattle.bson_order.specs.Texts.{HasMeaningInOrder, ComesBackInOrder};
 ghost use Rattle.bson.specs.View.{bson_view};
 ghost use Rattle.bson.specs.TextMeaning.{IsTextOf, HasTextMeaning, IsTextFault};
-ghost use Rattle.bson.specs.TextMeaning.{HasTextMeaningIn, HasTextMeaningBy, IsTextFaultIn};
+ghost use Rattle.bson.specs.TextMeaning.{ComesBackBy, HasTextMeaningBy, IsTextFaultIn, MeansBy};
 ghost use Rattle.bson.specs.declared.extjson.text_error.TextError.TheVariants.{OutOfMemory};
 
 mod again;
@@ -26,8 +22,8 @@ use crate::extjson::options::Options;
 use crate::extjson::text_error::TextError;
 use crate::extjson::text_reader::again::read_again;
 use crate::extjson::value_writer::read_once;
-use bson_filter::stop::Stop;
 use bson_scalar::form::Doubles;
+use bson_text::stop::Stop;
 use std::alloc::Global;
 
 impl Bson {
@@ -63,7 +59,7 @@ impl Bson {
         ensures ranged { IfOk result (λ v. InRange (bson_view v)) }
         ensures comes_back { IfOk result (λ v. ComesBack (bson_view v)) }
     {
-        read_bytes(alloc, Doubles::Special, bytes)
+        read_by(alloc, Doubles::Special, KeyOrder::Ascending, bytes)
     }
 
     /// Returns the value that the bytes mean, read as the options say, otherwise as
@@ -77,82 +73,42 @@ impl Bson {
     /// last bit is 0. A number too small for any other double is a zero of its sign, and `-0` is
     /// the double -0.0.
     ///
+    /// With `KeyOrder::AsGiven` the keys of each document are in the order of the text, at every
+    /// depth. If a key is duplicated in an object, its last value wins, at its first position. Inside
+    /// a wrapper of one key the order has no meaning. Code and its scope may be in either order, and
+    /// the scope keeps its order. The same texts have a meaning as by default: the same value except
+    /// for the order of keys.
+    ///
+    /// What is read reads back: it is written in the order in both forms. Each text is read as the
+    /// same value again, order included, unless it nests deeper than 127.
+    ///
+    /// If an object begins with `$scope` and keys are as given, the text is read once more for the
+    /// code that follows.
+    ///
     /// # Errors
     ///
     /// The errors of [`Bson::try_from_text`]. If the double nearest to a number is not finite, the
     /// error is `NotExtendedJson` in a `$numberDouble`, and else `NotJson`.
     ///
     /// ```
-    /// let options = Options {
-    ///     doubles: Doubles::Finite,
-    /// };
-    /// let value = Bson::try_from_text_with(alloc, options, br#"{"price": 12.5}"#)?;
-    /// println!(rt; "{value:?}")?; // Document({"price": Double(0x4029000000000000)})
+    /// let text = br#"{"price": 12.5, "count": 10}"#;
+    /// let value = Bson::from_text(alloc, Options::mongodb(), text)?;
+    /// println!(rt; "{value:?}")?;
+    /// // Document({"price": Double(0x4029000000000000), "count": Int32(10)})
     /// ```
-    pub fn try_from_text_with(
-        alloc: Global,
-        options: Options,
-        bytes: &[u8],
-    ) -> Result<Bson, TextError>
-        ensures ok { IfOk result (λ v. HasTextMeaningIn options.doubles bytes.now (bson_view v)) }
+    pub fn from_text(alloc: Global, options: Options, bytes: &[u8]) -> Result<Bson, TextError>
+        ensures ok { IfOk result
+            (λ v. HasTextMeaningBy options.key_order options.doubles bytes.now (bson_view v)) }
         ensures accepts { (t : Data) (v : model.Value) → IsTextOf bytes.now t → MeansIn options.doubles t v
+            → IfErr result (λ e. e ≡ OutOfMemory) }
+        ensures accepts_by { (v : model.Value) → MeansBy options.key_order options.doubles bytes.now v
             → IfErr result (λ e. e ≡ OutOfMemory) }
         ensures fault { IfErr result (λ e. IsTextFaultIn options.doubles bytes.now e) }
         ensures ranged { IfOk result (λ v. InRange (bson_view v)) }
-        ensures comes_back { IfOk result (λ v. ComesBackIn options.doubles (bson_view v)) }
+        ensures comes_back { IfOk result (λ v. ComesBackBy options.key_order options.doubles (bson_view v)) }
     {
-        read_bytes(alloc, options.doubles, bytes)
+        read_by(alloc, options.doubles, options.key_order, bytes)
     }
-
-    /// Returns the value that the bytes mean, with the keys of each document in the order of the
-    /// text, at every depth. It is read as the options say, otherwise as
-    /// [`Bson::try_from_text_with`].
-    ///
-    /// If a key is duplicated in an object, its last value wins, at its first position. Inside a
-    /// wrapper of one key the order has no meaning. Code and its scope may be in either order, and
-    /// the scope keeps its order. The same texts have a meaning as by default: the same value
-    /// except for the order of keys.
-    ///
-    /// What is read reads back: it is written in its order in both forms. Each text is read as the
-    /// same value again, order included, unless it nests deeper than 127.
-    ///
-    /// If an object begins with `$scope`, the text is read once more for the code that follows.
-    ///
-    /// # Errors
-    ///
-    /// The errors of [`Bson::try_from_text_with`].
-    ///
-    /// ```
-    /// let text = br#"{"find": "orders", "batchSize": 10}"#;
-    /// let value = Bson::try_from_text_in_order(alloc, Options::default(), text)?;
-    /// println!(rt; "{value}")?; // { "find": "orders", "batchSize": 10 }
-    /// ```
-    pub fn try_from_text_in_order(
-        alloc: Global,
-        options: Options,
-        bytes: &[u8],
-    ) -> Result<Bson, TextError>
-        ensures utf8 { OnOk result (IsUtf8 bytes.now) }
-        ensures ok { IfOk result (λ v. HasMeaningInOrder options.doubles bytes.now (bson_view v)) }
-        ensures accepts { (t : Data) (v : model.Value) → IsTextOf bytes.now t → MeansIn options.doubles t v
-            → IfErr result (λ e. e ≡ OutOfMemory) }
-        ensures accepts_in_order { (t : Data) (v : model.Value) → IsUtf8 bytes.now → read_kept bytes.now ≡ Some t
-            → MeansInOrder options.doubles t v → IfErr result (λ e. e ≡ OutOfMemory) }
-        ensures fault { IfErr result (λ e. IsTextFaultIn options.doubles bytes.now e) }
-        ensures ranged { IfOk result (λ v. InRange (bson_view v)) }
-        ensures distinct { IfOk result (λ v. AllDistinct (bson_view v)) }
-        ensures comes_back { IfOk result (λ v. ComesBackInOrder options.doubles (bson_view v)) }
-    {
-        read_by(alloc, options.doubles, KeyOrder::AsGiven, bytes)
-    }
-}
-
-// The value that the bytes mean.
-fn read_bytes(alloc: Global, doubles: Doubles, bytes: &[u8]) -> Result<Bson, TextError>
-    ensures ok { IfOk result (λ v. HasTextMeaningIn doubles bytes.now (bson_view v)) }
-    ensures fault { IfErr result (λ e. IsTextFaultIn doubles bytes.now e) }
-{
-    read_by(alloc, doubles, KeyOrder::Ascending, bytes)
 }
 
 // The value that the bytes mean in the order.

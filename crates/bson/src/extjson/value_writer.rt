@@ -1,8 +1,8 @@
 //! Values in memory that a text is read into.
 ghost use Rattle.std.specs.Prelude.{◌≡◌, ◌++◌, ◌∷◌, [], string_bytes, IfOk, OnOk, IfErr};
-ghost use Rattle.bson_filter.specs.Exact.{TextDenied};
-ghost use Rattle.bson_filter.specs.Stops.{MayStop};
-ghost use Rattle.bson.specs.Gathered.{gathered_pairs};
+ghost use Rattle.bson_text.specs.Exact.{TextDenied};
+ghost use Rattle.bson_text.specs.Stops.{MayStop};
+ghost use Rattle.bson.specs.Collected.{collected_pairs};
 ghost use Rattle.bson.specs.Pushed.{Pushed, key_in, document_by};
 ghost use Rattle.bson.specs.TextMeaning.{HasTextMeaningBy};
 ghost use Rattle.bson.specs.View.{bson_view, document_view};
@@ -13,12 +13,12 @@ use crate::extjson::builder::with_scope;
 use crate::extjson::key_order::KeyOrder;
 use crate::extjson::scalars::of_scalar;
 use crate::extjson::text_reader::members::of_members;
-use bson_filter::stop::Stop;
-use bson_filter::walk::write_text;
-use bson_filter::writer::ValueWriter;
 use bson_scalar::form::Doubles;
 use bson_scalar::scalar::Scalar;
 use bson_store::Pair;
+use bson_text::stop::Stop;
+use bson_text::traversal::write_text;
+use bson_text::writer::ValueWriter;
 use itoa::Buffer;
 use json::Scratch;
 use std::alloc::{AllocError, Global};
@@ -93,7 +93,7 @@ fn push_to<T: Drop>(list: &mut Vec<T>, value: T) -> Result<(), Stop>
 impl ValueWriter for BsonWriter {
     type Open = Begun;
 
-    ghost use Rattle.bson.specs.Pushed.{ValuePushed, DocumentPushed, ArrayBegun, DocumentBegun, CodeBegun};
+    ghost use Rattle.bson.specs.Pushed.{ValuePushed, DocumentPushed, ArrayOpened, DocumentOpened, CodeBegun};
 
     ghost leaves = { λ D. ⊥ };
 
@@ -105,9 +105,9 @@ impl ValueWriter for BsonWriter {
 
     ghost framed = { λ old ps new. DocumentPushed old ps new };
 
-    ghost listed = { λ old k begun new. ArrayBegun old k begun new };
+    ghost listed = { λ old k begun new. ArrayOpened old k begun new };
 
-    ghost opened = { λ old begun new. DocumentBegun old begun new };
+    ghost opened = { λ old begun new. DocumentOpened old begun new };
 
     ghost keyed = { λ old k new. new ≡ old };
 
@@ -205,7 +205,7 @@ fn document_of(
     order: KeyOrder,
     entries: Vec<Pair<Bson>>,
 ) -> Result<Document, AllocError>
-    ensures { IfOk result (λ document. document_view document ≡ document_by order (gathered_pairs entries.items)) }
+    ensures { IfOk result (λ document. document_view document ≡ document_by order (collected_pairs entries.items)) }
 {
     match order {
         KeyOrder::Ascending => of_members(alloc, entries),
@@ -223,16 +223,16 @@ pub(crate) fn read_once(
     ensures ok { IfOk result (λ v. HasTextMeaningBy order doubles text.now (bson_view v)) }
     ensures stops { IfErr result (λ e. TextDenied doubles ⊥ ⊥ e text.now) }
 {
-    let mut writer = BsonWriter {
+    let writer = BsonWriter {
         alloc,
         order,
         container: Container::Array(Vec::new(alloc)),
         key: String::new(alloc),
     };
     let mut scratch = Scratch::new(alloc);
-    write_text(alloc, doubles, text, &mut scratch, &mut writer)?;
+    let written = write_text(alloc, doubles, text, &mut scratch, writer)?;
     drop(scratch);
-    let BsonWriter { container, .. } = writer;
+    let BsonWriter { container, .. } = written;
     let Container::Array(mut items) = container else {
         unreachable!()
     };

@@ -4,7 +4,7 @@ ghost use Rattle.serde_json.specs.View.{view, items_view, members_view};
 ghost use Rattle.bson_scalar.specs.Written.{Writes};
 ghost use Rattle.bson_model.specs.Normal.{InRange, ItemsInRange, PairsInRange};
 ghost use Rattle.bson_model.specs.Writing.{writes_in, writes_items_in, writes_pairs_in};
-ghost use Rattle.bson.specs.Texts.{MayStop};
+ghost use Rattle.bson.specs.Texts.{IsWriteErrorIn};
 ghost use Rattle.bson.specs.View.{bson_view, scoped_view, document_view, values_view};
 
 use crate::bson::{Bson, JavaScriptCodeWithScope};
@@ -26,7 +26,7 @@ pub(crate) fn write(
 ) -> Result<Value, WriteError>
     ensures written { Writes view result (writes_in doubles form (bson_view value)) }
     ensures ranged { OnOk result (InRange (bson_view value)) }
-    ensures every { IfErr result (MayStop doubles) }
+    ensures every { IfErr result (IsWriteErrorIn doubles) }
 {
     match value {
         Bson::Array(values) => Ok(Value::Array(write_items(alloc, doubles, form, values)?)),
@@ -49,7 +49,7 @@ fn write_scoped(
 ) -> Result<Value, WriteError>
     ensures written { Writes view result (writes_in doubles form (scoped_view scoped)) }
     ensures ranged { OnOk result (InRange (scoped_view scoped)) }
-    ensures every { IfErr result (MayStop doubles) }
+    ensures every { IfErr result (IsWriteErrorIn doubles) }
 {
     let JavaScriptCodeWithScope { code, scope } = scoped;
     let scope = write_pairs(alloc, doubles, form, scope)?;
@@ -66,7 +66,7 @@ fn write_items(
     ensures written { Writes (λ v. items_view v.items) result
         (writes_items_in doubles form (values_view values.items)) }
     ensures ranged { OnOk result (ItemsInRange (values_view values.items)) }
-    ensures every { IfErr result (MayStop doubles) }
+    ensures every { IfErr result (IsWriteErrorIn doubles) }
 {
     let mut items = Vec::with_capacity(alloc, values.len())?;
     for value in values {
@@ -85,7 +85,7 @@ pub(crate) fn write_pairs(
     ensures written { Writes (λ m. members_view m.entries) result
         (writes_pairs_in doubles form (document_view document)) }
     ensures ranged { OnOk result (PairsInRange (document_view document)) }
-    ensures every { IfErr result (MayStop doubles) }
+    ensures every { IfErr result (IsWriteErrorIn doubles) }
 {
     let Document { pairs } = document;
     let mut members = Map::new(alloc);

@@ -1,7 +1,7 @@
 //! Equality of values with the order of their keys, which `==` ignores.
 ghost use Rattle.std.specs.Prelude.{◌≡◌, ◌↔◌, IsTrue};
 ghost use Rattle.bson.specs.View.{bson_view, document_view, scoped_view, values_view};
-ghost use Rattle.bson.specs.SameInOrder.{same_in_order, items_in_order, pairs_in_order};
+ghost use Rattle.bson.specs.SameInOrder.{same_in_order, same_items_in_order, same_pairs_in_order};
 
 use crate::bson::{Bson, JavaScriptCodeWithScope};
 use crate::document::Document;
@@ -12,7 +12,7 @@ impl Bson {
     ///
     /// Values that are equal in order are also `==`. The documents `{"$ref": "c", "$id": 1}` and
     /// `{"$id": 1, "$ref": "c"}` are `==`, and not equal in order.
-    pub fn eq_in_order(&self, other: &Bson) -> bool
+    pub fn eq_ordered(&self, other: &Bson) -> bool
         ensures { IsTrue result ↔ (bson_view self.now ≡ bson_view other.now) }
     {
         values_in_order(self, other)
@@ -22,7 +22,7 @@ impl Bson {
 impl Document {
     /// Returns true if and only if the documents are equal with the order of their keys, at every
     /// depth.
-    pub fn eq_in_order(&self, other: &Document) -> bool
+    pub fn eq_ordered(&self, other: &Document) -> bool
         ensures { IsTrue result ↔ (document_view self.now ≡ document_view other.now) }
     {
         documents_in_order(self, other)
@@ -54,7 +54,7 @@ fn scoped_in_order(left: &JavaScriptCodeWithScope, right: &JavaScriptCodeWithSco
 
 #[cycle(in_order)]
 fn lists_in_order(left: &Vec<Bson>, right: &Vec<Bson>) -> bool
-    ensures { result ≡ items_in_order (values_view left.now.items) (values_view right.now.items) }
+    ensures { result ≡ same_items_in_order (values_view left.now.items) (values_view right.now.items) }
 {
     if left.len() != right.len() {
         return false;
@@ -68,7 +68,7 @@ fn lists_in_order(left: &Vec<Bson>, right: &Vec<Bson>) -> bool
 
 #[cycle(in_order)]
 fn documents_in_order(left: &Document, right: &Document) -> bool
-    ensures { result ≡ pairs_in_order (document_view left.now) (document_view right.now) }
+    ensures { result ≡ same_pairs_in_order (document_view left.now) (document_view right.now) }
 {
     let mut lefts = left.iter();
     let mut rights = right.iter();

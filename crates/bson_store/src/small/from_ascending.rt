@@ -1,6 +1,6 @@
 //! Pairs that come in ascending order become a store as they stand.
 ghost use Rattle.std.specs.Prelude.{◌≡◌, IsOk, IfOk, IfErr};
-ghost use Rattle.bson_store.specs.Small.{stored_pairs, KeysAscend};
+ghost use Rattle.bson_store.specs.Small.{stored_pairs, HasAscendingKeys};
 
 use crate::small::{Pair, SmallPairs};
 
@@ -13,8 +13,8 @@ impl<V: Drop> SmallPairs<V> {
     /// bytes.
     pub fn try_from_ascending(mut pairs: Vec<Pair<V>>) -> Result<SmallPairs<V>, Vec<Pair<V>>>
         ensures ok { IfOk result (λ store. store ≡ stored_pairs pairs.items) }
-        ensures ascending { IfOk result (λ _. KeysAscend (stored_pairs pairs.items)) }
-        ensures taken { KeysAscend (stored_pairs pairs.items) → IsOk result }
+        ensures ascending { IfOk result (λ _. HasAscendingKeys (stored_pairs pairs.items)) }
+        ensures taken { HasAscendingKeys (stored_pairs pairs.items) → IsOk result }
         ensures refused { IfErr result (λ back. back ≡ pairs) }
     {
         if !pairs.is_sorted_by(|one, next| one.key < next.key) {

@@ -29,12 +29,12 @@ use std::slice;
 #[derive(Drop)]
 pub struct Iter<'a, V> {
     pairs: &'a SmallPairs<V>,
-    turn: Turn<'a>,
+    turn: Cursor<'a>,
 }
 
 // Which pairs are still to come.
 #[derive(Drop)]
-enum Turn<'a> {
+enum Cursor<'a> {
     // Those from the place on, as they stand.
     From(usize),
     // Those at the places.
@@ -63,7 +63,7 @@ impl<V: Drop> SmallPairs<V> {
         let _ = &self.pairs;
         Iter {
             pairs: self,
-            turn: Turn::From(0),
+            turn: Cursor::From(0),
         }
     }
 
@@ -80,17 +80,17 @@ impl<V: Drop> SmallPairs<V> {
     }
 }
 
-fn turn_by_key<'a, V>(pairs: &Vec<Pair<V>>, places: &'a Option<Box<Index>>) -> Turn<'a>
+fn turn_by_key<'a, V>(pairs: &Vec<Pair<V>>, places: &'a Option<Box<Index>>) -> Cursor<'a>
     requires { IsIndexed (stored_pairs pairs.now.items) places.now }
     ensures { GoesByKey result (stored_pairs pairs.now.items) }
 {
     match places {
         Some(index) => match &**index {
-            Index::Sorted(places) => Turn::Sorted(places.iter()),
-            Index::Map(map) => Turn::Mapped(map.values()),
+            Index::Sorted(places) => Cursor::Sorted(places.iter()),
+            Index::Map(map) => Cursor::Mapped(map.values()),
         },
-        None if pairs.len() > FEW || ascends(pairs) => Turn::From(0),
-        None => Turn::Above(None),
+        None if pairs.len() > FEW || ascends(pairs) => Cursor::From(0),
+        None => Cursor::Above(None),
     }
 }
 
@@ -108,21 +108,21 @@ impl<'a, V: Drop> Iterator for Iter<'a, V> {
 }
 
 // The place of the next pair.
-fn next_place<'a, V: Drop>(pairs: &'a SmallPairs<V>, turn: &mut Turn<'a>) -> Option<usize>
+fn next_place<'a, V: Drop>(pairs: &'a SmallPairs<V>, turn: &mut Cursor<'a>) -> Option<usize>
     requires { IsWithin turn.old pairs.now }
     ensures { TakesPlace pairs.now turn.old result turn.new }
 {
     match turn {
-        Turn::From(at) => {
+        Cursor::From(at) => {
             if *at == pairs.len() {
                 return None;
             }
             *at += 1;
             Some(*at - 1)
         }
-        Turn::Sorted(places) => places.next().copied(),
-        Turn::Mapped(places) => places.next().copied(),
-        Turn::Above(last) => {
+        Cursor::Sorted(places) => places.next().copied(),
+        Cursor::Mapped(places) => places.next().copied(),
+        Cursor::Above(last) => {
             let at = next_by_walk(pairs, *last)?;
             *last = Some(pairs.key_at(at));
             Some(at)

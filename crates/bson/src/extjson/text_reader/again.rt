@@ -1,8 +1,8 @@
 //! A text that was not read at once: its first fault, or its value.
 ghost use Rattle.std.specs.Prelude.{IfOk, IfErr, ℕ, List, string_bytes};
 ghost use Rattle.serde_json.specs.Read.{read as tree_of};
-ghost use Rattle.bson_distinct.specs.Arranged.{IsArrangedText};
-ghost use Rattle.bson_distinct.specs.declared.arrangement.Arrangement.TheVariants as arranged;
+ghost use Rattle.bson_tokens.specs.Normalized.{IsNormalizedText};
+ghost use Rattle.bson_tokens.specs.declared.arrangement.Arrangement.TheVariants as normalized;
 ghost use Rattle.bson_scalar.specs.declared.form.Doubles.{Doubles};
 ghost use Rattle.bson_model.specs.Value as model;
 ghost use Rattle.bson_tokens.specs.Parts.{IsBroken};
@@ -13,10 +13,10 @@ use crate::bson::Bson;
 use crate::extjson::key_order::KeyOrder;
 use crate::extjson::text_error::TextError;
 use crate::extjson::value_writer::read_once;
-use bson_distinct::arrange::arrange_text;
-use bson_distinct::arrangement::Arrangement;
-use bson_filter::fault::first_fault_of_arranged;
 use bson_scalar::form::Doubles;
+use bson_text::fault::first_fault_of_normalized;
+use bson_tokens::arrangement::Arrangement;
+use bson_tokens::normalize::normalize_text;
 use json::Error;
 use std::alloc::{AllocError, Global};
 
@@ -35,9 +35,9 @@ pub(crate) fn read_again(
     ensures ok { IfOk result (λ v. HasTextMeaningBy order doubles text.now (bson_view v)) }
     ensures fault { IfErr result (λ e. IsTextFaultIn doubles text.now e) }
 {
-    let ascending = arrange_faultless(alloc, doubles, text)?;
-    let arranged = arrange_by(alloc, order, text, ascending)?;
-    match read_once(alloc, doubles, order, arranged.as_str()) {
+    let ascending = normalize_faultless(alloc, doubles, text)?;
+    let normalized = normalize_by(alloc, order, text, ascending)?;
+    match read_once(alloc, doubles, order, normalized.as_str()) {
         Ok(value) => Ok(value),
         // Only memory: the text has no fault, and no key twice.
         Err(_) => Err(TextError::OutOfMemory),
@@ -45,15 +45,15 @@ pub(crate) fn read_again(
 }
 
 // The text by ascending keys of a text that has a meaning.
-fn arrange_faultless(alloc: Global, doubles: Doubles, text: &str) -> Result<String, TextError>
-    ensures ok { IfOk result (λ ascending. IsArrangedText arranged.Ascending text.now (string_bytes ascending)) }
+fn normalize_faultless(alloc: Global, doubles: Doubles, text: &str) -> Result<String, TextError>
+    ensures ok { IfOk result (λ ascending. IsNormalizedText normalized.Ascending text.now (string_bytes ascending)) }
     ensures fault { IfErr result (λ e. IsTextFaultIn doubles text.now e) }
 {
-    let ascending = match arrange_text(alloc, Arrangement::Ascending, text) {
+    let ascending = match normalize_text(alloc, Arrangement::Ascending, text) {
         Ok(ascending) => ascending,
         Err(error) => return Err(no_tree(error)),
     };
-    match first_fault_of_arranged(alloc, doubles, ascending.as_str()) {
+    match first_fault_of_normalized(alloc, doubles, ascending.as_str()) {
         Ok(None) => Ok(ascending),
         Ok(Some(place)) => Err(TextError::NotExtendedJson(place)),
         Err(AllocError) => Err(TextError::OutOfMemory),
@@ -61,13 +61,13 @@ fn arrange_faultless(alloc: Global, doubles: Doubles, text: &str) -> Result<Stri
 }
 
 // The text of the same tree in which each key occurs once, with its last value, in the order.
-fn arrange_by(
+fn normalize_by(
     alloc: Global,
     order: KeyOrder,
     text: &str,
     ascending: String,
 ) -> Result<String, TextError>
-    requires { IsArrangedText arranged.Ascending text.now (string_bytes ascending) }
+    requires { IsNormalizedText normalized.Ascending text.now (string_bytes ascending) }
     ensures same { (D : Doubles) (v : model.Value) → IfOk result
         (λ written. HasTextMeaningBy order D (string_bytes written) v → HasTextMeaningBy order D text.now v) }
     ensures fault { (D : Doubles) → IfErr result (λ e. IsTextFaultIn D text.now e) }
@@ -76,8 +76,8 @@ fn arrange_by(
         KeyOrder::Ascending => Ok(ascending),
         KeyOrder::AsGiven => {
             drop(ascending);
-            match arrange_text(alloc, Arrangement::FirstPlaces, text) {
-                Ok(arranged) => Ok(arranged),
+            match normalize_text(alloc, Arrangement::FirstPlaces, text) {
+                Ok(normalized) => Ok(normalized),
                 Err(error) => Err(no_tree(error)),
             }
         }

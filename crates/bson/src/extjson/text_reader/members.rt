@@ -3,7 +3,7 @@ ghost use Rattle.std.specs.Prelude.{◌≡◌, IfOk, OnOk, MatchResult, string_b
 ghost use Rattle.bson_model.specs.Sorted.{put_pair, KeysAscend};
 ghost use Rattle.bson_model.specs.Value.{no_pairs};
 ghost use Rattle.bson.specs.View.{bson_view, document_view};
-ghost use Rattle.bson.specs.Gathered.{gathered_pairs, put_all, StandsAt, FitsAt, SortsStably};
+ghost use Rattle.bson.specs.Collected.{collected_pairs, put_members, StandsAt, FitsAt, SortsStably};
 
 use crate::bson::Bson;
 use crate::document::Document;
@@ -15,7 +15,7 @@ use std::cmp::Ordering;
 // The place of the key, or the place where it would be inserted. The search goes from the end, since
 // most keys ascend.
 fn place_of(found: &Vec<Pair<Bson>>, key: &str) -> Result<usize, usize>
-    requires { KeysAscend (gathered_pairs found.now.items) }
+    requires { KeysAscend (collected_pairs found.now.items) }
     ensures { MatchResult result (λ at. StandsAt key.now found.now.items at) (λ at. FitsAt key.now found.now.items at) }
 {
     let mut at = found.len();
@@ -38,8 +38,8 @@ fn enter(
 ) -> Result<(), AllocError>
     requires { MatchResult place (λ at. StandsAt (string_bytes key) members.old.items at)
         (λ at. FitsAt (string_bytes key) members.old.items at) }
-    ensures { OnOk result (gathered_pairs members.new.items
-        ≡ put_pair (string_bytes key) (bson_view value) (gathered_pairs members.old.items)) }
+    ensures { OnOk result (collected_pairs members.new.items
+        ≡ put_pair (string_bytes key) (bson_view value) (collected_pairs members.old.items)) }
 {
     match place {
         Ok(at) => members[at] = Pair { key, value },
@@ -49,8 +49,8 @@ fn enter(
 }
 
 fn of_ascending(members: Vec<Pair<Bson>>) -> Document
-    requires { KeysAscend (gathered_pairs members.items) }
-    ensures { document_view result ≡ gathered_pairs members.items }
+    requires { KeysAscend (collected_pairs members.items) }
+    ensures { document_view result ≡ collected_pairs members.items }
 {
     match SmallPairs::try_from_ascending(members) {
         Ok(pairs) => Document { pairs },
@@ -63,7 +63,7 @@ const FEW: usize = 32;
 
 /// Returns the document of the members by ascending key. If a key is duplicated, its last value wins.
 pub(crate) fn of_members(alloc: Global, members: Vec<Pair<Bson>>) -> Result<Document, AllocError>
-    ensures { IfOk result (λ document. document_view document ≡ put_all members.items no_pairs) }
+    ensures { IfOk result (λ document. document_view document ≡ put_members members.items no_pairs) }
 {
     match SmallPairs::try_from_ascending(members) {
         Ok(pairs) => Ok(Document { pairs }),
@@ -73,7 +73,7 @@ pub(crate) fn of_members(alloc: Global, members: Vec<Pair<Bson>>) -> Result<Docu
 }
 
 fn of_few(alloc: Global, members: Vec<Pair<Bson>>) -> Result<Document, AllocError>
-    ensures { IfOk result (λ document. document_view document ≡ put_all members.items no_pairs) }
+    ensures { IfOk result (λ document. document_view document ≡ put_members members.items no_pairs) }
 {
     let found = last_of_each(alloc, members)?;
     Ok(of_ascending(found))
@@ -81,7 +81,7 @@ fn of_few(alloc: Global, members: Vec<Pair<Bson>>) -> Result<Document, AllocErro
 
 // The first bytes of the keys tell most of them apart.
 fn of_many(alloc: Global, mut members: Vec<Pair<Bson>>) -> Result<Document, AllocError>
-    ensures { IfOk result (λ document. document_view document ≡ put_all members.items no_pairs) }
+    ensures { IfOk result (λ document. document_view document ≡ put_members members.items no_pairs) }
 {
     sort_by_prefix(&mut members)?;
     match SmallPairs::try_from_ascending(members) {
@@ -92,7 +92,7 @@ fn of_many(alloc: Global, mut members: Vec<Pair<Bson>>) -> Result<Document, Allo
 
 // Of members whose first bytes are alike, or whose keys stand twice.
 fn of_unsorted(alloc: Global, mut members: Vec<Pair<Bson>>) -> Result<Document, AllocError>
-    ensures { IfOk result (λ document. document_view document ≡ put_all members.items no_pairs) }
+    ensures { IfOk result (λ document. document_view document ≡ put_members members.items no_pairs) }
 {
     sort_by_key(&mut members)?;
     of_few(alloc, members)
@@ -114,7 +114,7 @@ fn sort_by_key(members: &mut Vec<Pair<Bson>>) -> Result<(), AllocError>
 
 // The last member of each key, by ascending key. It is quick where the keys do not descend.
 fn last_of_each(alloc: Global, members: Vec<Pair<Bson>>) -> Result<Vec<Pair<Bson>>, AllocError>
-    ensures { IfOk result (λ found. gathered_pairs found.items ≡ put_all members.items no_pairs) }
+    ensures { IfOk result (λ found. collected_pairs found.items ≡ put_members members.items no_pairs) }
 {
     let mut found = Vec::with_capacity(alloc, members.len())?;
     'members: for Pair { key, value } in members {

@@ -1,6 +1,6 @@
 use Rattle.std.proofs.Common.{◌≡◌, Ok, Err, arith}
 use Rattle.bson_bytes.proofs.Offered.{grammar_from, is_read, fault_stands}
-use Rattle.bson_bytes.specs.Reading.{reads}
+use Rattle.bson_bytes.specs.Reading.{reads_bytes}
 use Rattle.bson_bytes.specs.declared.keys.DuplicateKeys.TheVariants.{Replace}
 use Rattle.bson_codec.proofs.Ends.{fault_alone}
 use Rattle.bson_codec.proofs.de.is_document.Goals as goal
@@ -15,11 +15,11 @@ locate-requires c = fault_stands Replace c.args.depth c.args.bytes.now c.in-Err.
 
 pub returns-in-Err-clause-only : goal.returns-in-Err-clause-only
 returns-in-Err-clause-only c = λ ps h.
-    let fails : reads c.args.depth c.args.bytes.now ≡ Err c.in-Err.fault = c.in-Err.ensures.fault in
-    let read : reads c.args.depth c.args.bytes.now ≡ Ok ps = is_read Replace c.args.depth c.args.bytes.now ps h in
+    let fails : reads_bytes c.args.depth c.args.bytes.now ≡ Err c.in-Err.fault = c.in-Err.ensures.fault in
+    let read : reads_bytes c.args.depth c.args.bytes.now ≡ Ok ps = is_read Replace c.args.depth c.args.bytes.now ps h in
     cc
 
 pub returns-in-Err-clause-fault : goal.returns-in-Err-clause-fault
 returns-in-Err-clause-fault c =
-    rw c.locate.ensures (fault_alone c.in-Err.fault c.args.bytes.now (reads c.args.depth c.args.bytes.now)
+    rw c.locate.ensures (fault_alone c.in-Err.fault c.args.bytes.now (reads_bytes c.args.depth c.args.bytes.now)
     (fault_stands Replace c.args.depth c.args.bytes.now c.in-Err.fault c.in-Err.ensures.fault) c.in-Err.ensures.fault)

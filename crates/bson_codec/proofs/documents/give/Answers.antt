@@ -1,5 +1,5 @@
 use Rattle.std.proofs.Common.{ℕ, Result, IfErr, refl, subst, sym}
-use Rattle.bson_codec.specs.Documents.{IsUngiven}
+use Rattle.bson_codec.specs.Documents.{IsUnhandled}
 use Rattle.bson_codec.specs.Streams.{WritesBeginning}
 use Rattle.bson_codec.specs.declared.run_end.RunFault.{RunFault}
 use Rattle.bson_codec.proofs.Runs.{bad_bytes, cut_line, judged_ends, untold}
@@ -22,10 +22,10 @@ returns-then-may_pass-clause-fault g c =
     let bytes = c.args.bytes.now in
     elim c.match-tell.branch [
       | in-Ok-tell w ↦ subst
-          (λ (r : Result ℕ RunFault). IfErr r (λ e. IsUngiven e c.args.run c.args.number c.args.start bytes had had told tells))
+          (λ (r : Result ℕ RunFault). IfErr r (λ e. IsUnhandled e c.args.run c.args.number c.args.start bytes had had told tells))
           (sym w.result-is) tt
       | in-Err-tell w ↦ subst
-          (λ (r : Result ℕ RunFault). IfErr r (λ e. IsUngiven e c.args.run c.args.number c.args.start bytes had had told tells))
+          (λ (r : Result ℕ RunFault). IfErr r (λ e. IsUnhandled e c.args.run c.args.number c.args.start bytes had had told tells))
           (sym w.result-is)
           (untold w.in-Err-tell.error c.args.run c.args.number c.args.start bytes c.in-Err.fault had told tells
           (bad_bytes c.in-Err.fault c.args.run bytes (c.if-may_pass.ensures.0 refl).0 c.in-Err.ensures.fault)

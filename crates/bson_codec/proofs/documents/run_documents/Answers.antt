@@ -1,5 +1,5 @@
 use Rattle.std.proofs.Common.{◌+◌, List, ℕ, arith, refl, subst}
-use Rattle.bson_codec.specs.Documents.{IsGiven, IsUngiven}
+use Rattle.bson_codec.specs.Documents.{IsHandled, IsUnhandled}
 use Rattle.bson_codec.proofs.Justified.{justified, unread_justified}
 use Rattle.bson_codec.proofs.Runs.{run_begins, run_goes_on, run_ends_at, run_ends_unread, run_stops_between, one_at_most}
 use Rattle.bson_codec.proofs.Runs.{some_taken}
@@ -20,7 +20,7 @@ loop-documents-preserved g c =
     let after = g.W.Write.contents c.give.new.writer in
     let tells = g.T.Write.contents c.loop-documents.report in
     let after_tells = g.T.Write.contents c.give.new.report in
-    let given = subst (λ (b : List ℕ). IsGiven c.in-Ok.passed c.args.run number c.loop-documents.start b before after tells after_tells)
+    let given = subst (λ (b : List ℕ). IsHandled c.in-Ok.passed c.args.run number c.loop-documents.start b before after tells after_tells)
     c.as_slice-bytes.ensures.value c.in-Ok.ensures.ok in (
       omega (arith, c.loop-documents.invariant.0, one_at_most c.in-Ok.passed c.args.run number c.loop-documents.start bytes before after tells after_tells given),
       run_goes_on c.args.run (g.R.Read.remaining c.args.reader.now)
@@ -58,7 +58,7 @@ returns-in-Err-give-clause-fails g c =
     (g.T.Write.contents c.args.report.now) tells after_tells c.loop-documents.documents c.loop-documents.refused
     c.loop-documents.start number c.in-Err-give.fault c.take_document.new.bytes.items c.loop-documents.invariant.1
     c.in_default.ensures.taken refl (some_taken c.take_document.new.bytes.items _ (omega (arith, c.take_document.new.bytes.ok)) c.if-is_empty.ensures) c.in_default.ensures.front
-    (subst (λ (b : List ℕ). IsUngiven c.in-Err-give.fault c.args.run number c.loop-documents.start b before after tells after_tells)
+    (subst (λ (b : List ℕ). IsUnhandled c.in-Err-give.fault c.args.run number c.loop-documents.start b before after tells after_tells)
     c.as_slice-bytes.ensures.value c.in-Err-give.ensures.fault)
 
 pub returns-in-Err-give-clause-justified : goal.returns-in-Err-give-clause-justified
@@ -73,7 +73,7 @@ returns-in-Err-give-clause-justified g c =
     (g.T.Write.contents c.args.report.now) tells after_tells c.loop-documents.documents c.loop-documents.refused
     c.loop-documents.start number c.in-Err-give.fault c.take_document.new.bytes.items c.loop-documents.invariant.1
     c.in_default.ensures.taken refl (some_taken c.take_document.new.bytes.items _ (omega (arith, c.take_document.new.bytes.ok)) c.if-is_empty.ensures) c.in_default.ensures.front
-    (subst (λ (b : List ℕ). IsUngiven c.in-Err-give.fault c.args.run number c.loop-documents.start b before after tells after_tells)
+    (subst (λ (b : List ℕ). IsUnhandled c.in-Err-give.fault c.args.run number c.loop-documents.start b before after tells after_tells)
     c.as_slice-bytes.ensures.value c.in-Err-give.ensures.fault))
 
 pub returns-clause-fails : goal.returns-clause-fails

@@ -5,7 +5,7 @@ use Rattle.bson_bytes.specs.Laws.{IsRead}
 use Rattle.bson_bytes.specs.Putting.{put_document, StopsFor}
 use Rattle.bson_bytes.specs.Writing.{as_written}
 use Rattle.bson.specs.View.{document_view}
-use Rattle.bson_codec.proofs.Elements.{refusal, only_memory}
+use Rattle.bson_codec.proofs.ElementLaws.{refusal, only_memory}
 use Rattle.bson_codec.proofs.ser.to_vec.Goals as goal
 
 pub returns-in_err-put_document-clause-cause : goal.returns-in_err-put_document-clause-cause

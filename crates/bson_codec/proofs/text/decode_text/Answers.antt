@@ -1,15 +1,15 @@
 use Rattle.std.proofs.Common.{◌≡◌, Ok, Err, arith}
-use Rattle.bson_bytes.specs.Reading.{reads}
+use Rattle.bson_bytes.specs.Reading.{reads_bytes}
 use Rattle.bson_bytes.specs.declared.keys.DuplicateKeys.TheVariants.{Replace}
 use Rattle.bson_bytes.proofs.Offered.{grammar_from, is_read, fault_stands}
-use Rattle.bson_source.proofs.Offered.{stopped_at}
+use Rattle.bson_bytes.proofs.OfferedSource.{stopped_at}
 use Rattle.bson_codec.proofs.Decoded.{printed_is}
 use Rattle.bson_codec.proofs.Ends.{fault_alone}
 use Rattle.bson_codec.proofs.text.decode_text.Goals as goal
 
 pub locate-requires : goal.locate-requires
 locate-requires c =
-    let fails = stopped_at (λ e. Unit {0}) c.in-Err-Fault.field-0 c.in-Err-Fault.fault (reads c.args.depth c.args.bytes.now)
+    let fails = stopped_at (λ e. Unit {0}) c.in-Err-Fault.field-0 c.in-Err-Fault.fault (reads_bytes c.args.depth c.args.bytes.now)
     c.in-Err-Fault.field-0-is c.in-Err-Fault.ensures in
     fault_stands Replace c.args.depth c.args.bytes.now c.in-Err-Fault.fault fails
 
@@ -24,15 +24,15 @@ returns-in-Ok-clause-ok c =
 
 pub returns-in-Err-Fault-clause-only : goal.returns-in-Err-Fault-clause-only
 returns-in-Err-Fault-clause-only c = λ ps h.
-    let fails : reads c.args.depth c.args.bytes.now ≡ Err c.in-Err-Fault.fault =
-    stopped_at (λ e. Unit {0}) c.in-Err-Fault.field-0 c.in-Err-Fault.fault (reads c.args.depth c.args.bytes.now)
+    let fails : reads_bytes c.args.depth c.args.bytes.now ≡ Err c.in-Err-Fault.fault =
+    stopped_at (λ e. Unit {0}) c.in-Err-Fault.field-0 c.in-Err-Fault.fault (reads_bytes c.args.depth c.args.bytes.now)
     c.in-Err-Fault.field-0-is c.in-Err-Fault.ensures in
-    let read : reads c.args.depth c.args.bytes.now ≡ Ok ps = is_read Replace c.args.depth c.args.bytes.now ps h in
+    let read : reads_bytes c.args.depth c.args.bytes.now ≡ Ok ps = is_read Replace c.args.depth c.args.bytes.now ps h in
     absurd cc
 
 pub returns-in-Err-Fault-clause-fault : goal.returns-in-Err-Fault-clause-fault
 returns-in-Err-Fault-clause-fault c =
-    let read = reads c.args.depth c.args.bytes.now in
+    let read = reads_bytes c.args.depth c.args.bytes.now in
     let fails = stopped_at (λ e. Unit {0}) c.in-Err-Fault.field-0 c.in-Err-Fault.fault read c.in-Err-Fault.field-0-is
     c.in-Err-Fault.ensures in
     let place = fault_stands Replace c.args.depth c.args.bytes.now c.in-Err-Fault.fault fails in

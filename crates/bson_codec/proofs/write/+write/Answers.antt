@@ -2,14 +2,14 @@ use Rattle.std.proofs.Common.{◌≡◌, ℕ, ◌+◌, ◌<◌, List, length, ar
 use Rattle.std.proofs.lemmas.List.{length-append}
 use Rattle.std.proofs.lemmas.Result.{err_from_is_err_and}
 use Rattle.bson_bytes.proofs.Offered.{string_utf8}
-use Rattle.bson_bytes.specs.Putting.{Put, Puts, put_end}
+use Rattle.bson_bytes.specs.Putting.{Put, PutsBytes, put_end}
 use Rattle.bson_bytes.specs.Writing.{name_bytes}
 use Rattle.bson.specs.Iter.{pairs_left}
 use Rattle.bson.specs.View.{bson_view, values_view, pairs_view, contents}
 use Rattle.bson.specs.declared.bson.Bson.{Bson}
-use Rattle.bson_codec.proofs.Elements.{array_bad, array_next, array_end, named, left_is, key_stops, key_put}
-use Rattle.bson_codec.proofs.Elements.{value_stops}
-use Rattle.bson_codec.proofs.Elements.{document_end, next_pair}
+use Rattle.bson_codec.proofs.ElementLaws.{array_bad, array_next, array_end, named, left_is, key_stops, key_put}
+use Rattle.bson_codec.proofs.ElementLaws.{value_stops}
+use Rattle.bson_codec.proofs.ElementLaws.{document_end, next_pair}
 use Rattle.bson_codec.proofs.Seen.{scoped_seen}
 use Rattle.bson_codec.proofs.Typed.{pairs_typed, document_typed, items_typed, on_ok, string_typed}
 use Rattle.bson_codec.proofs.Typed.{code_typed, symbol_typed, regex_typed, scope_typed}
@@ -69,8 +69,8 @@ put_array-returns-clause-put t c =
     let ended = array_end c.deref-value-items.result.now c.args.values.now.items c.loop-i.i old
     c.put_room.new.out.items c.loop-i.out.items (omega (arith, c.loop-i-test.false))
     c.deref-value-items.ensures.value c.in_ok-put_room.ensures c.loop-i.invariant.put in
-    subst (λ (r : Put). Puts c.put_end.result c.put_end.new.out.items r) (sym ended)
-    (subst (λ (n : ℕ). Puts c.put_end.result c.put_end.new.out.items (put_end n c.loop-i.out.items)) start
+    subst (λ (r : Put). PutsBytes c.put_end.result c.put_end.new.out.items r) (sym ended)
+    (subst (λ (n : ℕ). PutsBytes c.put_end.result c.put_end.new.out.items (put_end n c.loop-i.out.items)) start
     c.put_end.ensures.put)
 
 -- ---- documents
@@ -121,8 +121,8 @@ put_document-returns-clause-put t c =
     let start : c.len-start.result ≡ length old = omega (arith, c.len-start.ensures, c.args.out.now.ok) in
     let ended = document_end c.args.document.now (pairs_left c.elements.pairs) old c.make_room.new.out.items
     c.elements.out.items c.in_default.ensures.steps.0 c.in_ok-make_room.ensures.room c.elements.invariant.put in
-    subst (λ (r : Put). Puts c.put_end.result c.put_end.new.out.items r) (sym ended)
-    (subst (λ (n : ℕ). Puts c.put_end.result c.put_end.new.out.items (put_end n c.elements.out.items)) start
+    subst (λ (r : Put). PutsBytes c.put_end.result c.put_end.new.out.items r) (sym ended)
+    (subst (λ (n : ℕ). PutsBytes c.put_end.result c.put_end.new.out.items (put_end n c.elements.out.items)) start
     c.put_end.ensures.put)
 
 pub put_document-returns-clause-typed : goal.put_document-returns-clause-typed

@@ -1,5 +1,5 @@
 use Rattle.std.proofs.Common.{◌≡◌, ◌≤◌, ◌+◌, length, drop}
-use Rattle.bson_bytes.specs.Putting.{put_items, put_pairs}
+use Rattle.bson_bytes.specs.Putting.{put_items, put_elements}
 use Rattle.bson_bytes.specs.Writing.{TypedItems, TypedPairs}
 use Rattle.bson.specs.Iter.{pairs_left}
 use Rattle.bson.specs.View.{bson_view, scoped_view, document_view, values_view, pairs_view, contents}
@@ -21,7 +21,7 @@ decreases-put_array l = weight_items (values_view l.values.now.items)
 -- what is left, put behind what was written, is all that is put
 abbrev pub invariant-put_document-elements : goal.invariant-put_document-elements
 invariant-put_document-elements l = record {
-  put : put_pairs (pairs_view (pairs_left l.pairs)) l.out.items ≡ put_pairs (pairs_view (contents l.document)) l.initial.out.items;
+  put : put_elements (pairs_view (pairs_left l.pairs)) l.out.items ≡ put_elements (pairs_view (contents l.document)) l.initial.out.items;
   lighter : weight_pairs (pairs_view (pairs_left l.pairs)) ≤ weight_pairs (pairs_view (contents l.document));
   room : l.start + 4 ≤ length l.out.items;
   typed : TypedPairs (pairs_view (pairs_left l.pairs)) → TypedPairs (pairs_view (contents l.document));

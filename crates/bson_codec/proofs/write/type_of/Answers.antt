@@ -1,6 +1,6 @@
 use Rattle.std.proofs.Common.{◌∙◌}
 use Rattle.bson.specs.View.{bson_view}
-use Rattle.bson_codec.proofs.Elements.{same_type}
+use Rattle.bson_codec.proofs.ElementLaws.{same_type}
 use Rattle.bson_codec.proofs.write.type_of.Goals as goal
 
 pub returns : goal.returns

@@ -1,7 +1,7 @@
 use Rattle.std.proofs.Common.{subst, Result, Err}
 use Rattle.std.proofs.lemmas.Result.{err_from_is_err_and}
 use Rattle.bson_tokens.proofs.Offered.{if_ok}
-use Rattle.bson_convert.proofs.Arranged.{accepted}
+use Rattle.bson_convert.proofs.Normalized.{accepted}
 use Rattle.bson_convert.specs.Convert.{IsConvertedText, IsRefusedIn}
 use Rattle.bson_convert.proofs.Converting.{text_converts}
 use Rattle.bson_convert.proofs.Twice.{kept_ok}

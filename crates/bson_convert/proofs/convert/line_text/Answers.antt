@@ -1,4 +1,4 @@
-use Rattle.bson_convert.proofs.Arranged.{accepted}
+use Rattle.bson_convert.proofs.Normalized.{accepted}
 use Rattle.bson_convert.proofs.convert.line_text.Goals as goal
 
 pub returns-clause-accepts : goal.returns-clause-accepts

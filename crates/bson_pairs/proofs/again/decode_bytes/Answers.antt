@@ -11,11 +11,11 @@ use Rattle.bson_pairs.proofs.again.decode_bytes.Goals as goal
 pub returns-in-Err-clause-only : goal.returns-in-Err-clause-only
 returns-in-Err-clause-only c = λ ps read. (c.in-Err.ensures.only ps read).1
 
-pub returns-in-Ok-into_text_in_order-clause-ok : goal.returns-in-Ok-into_text_in_order-clause-ok
-returns-in-Ok-into_text_in_order-clause-ok c = λ ps read.
+pub returns-in-Ok-into_text-clause-ok : goal.returns-in-Ok-into_text-clause-ok
+returns-in-Ok-into_text-clause-ok c = λ ps read.
     let d = c.in-Ok.document in
-    let text = string_bytes c.in-Ok-into_text_in_order.text in
+    let text = string_bytes c.in-Ok-into_text.text in
     let is : bson_view (held d) ≡ document ps = document_seen d ∙ ap document (c.in-Ok.ensures.only ps read).0 in
     subst (λ v. IsTextInOrder Finite Canonical v text) is
     (subst (λ D. IsTextInOrder D Canonical (bson_view (held d)) text) c.options.ensures
-    c.in-Ok-into_text_in_order.ensures.text)
+    c.in-Ok-into_text.ensures.text)

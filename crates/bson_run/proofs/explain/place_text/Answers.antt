@@ -1,6 +1,6 @@
 use Rattle.std.proofs.Common.{◌≡◌, ◌<◌, ◌++◌, IfOk, length, codes, string_bytes, append_assoc, arith, ap, ◌∙◌}
 use Rattle.std.proofs.lemmas.Grind.{common_steps}
-use Rattle.bson_place.specs.Place.{dotted, path_of}
+use Rattle.bson_tree.specs.Place.{dotted, path_of}
 use Rattle.bson_run.specs.Place.{told_as}
 use Rattle.bson_run.proofs.Explaining.{placed_at, placed_bare}
 use Rattle.bson_run.proofs.LinesLaws.{oks_with}

@@ -1,10 +1,10 @@
-use Rattle.bson_run.specs.LinesSteps.{HasRoom, Running}
+use Rattle.bson_run.specs.LinesSteps.{CountsFit, Running}
 use Rattle.bson_run.proofs.lines.run_on.Given as goal
 
 abbrev pub invariant-loop : goal.invariant-loop
 invariant-loop g l = record {
-  room : HasRoom l.gathered;
+  room : CountsFit l.collected;
   running : Running l.asked.options l.asked.task l.asked.on_refusal (g.R.Read.remaining l.initial.reader)
       (g.R.Read.remaining l.reader) (g.W.Write.contents l.initial.writer) (g.W.Write.contents l.writer)
-      (g.T.Write.contents l.initial.report) (g.T.Write.contents l.report) l.gathered;
+      (g.T.Write.contents l.initial.report) (g.T.Write.contents l.report) l.collected;
 }

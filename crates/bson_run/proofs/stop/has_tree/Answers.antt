@@ -10,7 +10,7 @@ pub returns-clause-yes : goal.returns-clause-yes
 returns-clause-yes c =
     let text = c.args.text.now in
     let says = λ (r : Result Bool AllocError). IfOk r (λ has. IsTrue has → HasTree text) in
-    elim c.match-arrange_text.branch [
+    elim c.match-normalize_text.branch [
       | in-Ok w ↦ subst says (sym w.result-is) (λ yes.
           let (tree, read) = is_read text (string_bytes w.in-Ok.field-0) w.in-Ok.ensures.ok in
           (tree, record { utf8 = c.utf8.text; tree_read = read }))

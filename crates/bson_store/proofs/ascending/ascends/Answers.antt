@@ -1,5 +1,5 @@
 use Rattle.std.proofs.Common.{◌<◌, length, string_bytes, take, refl, sym, ap, subst, ◌∙◌, ◌++◌, ◌∷◌, [], arith}
-use Rattle.bson_store.specs.Small.{stored_pairs, KeysAscend}
+use Rattle.bson_store.specs.Small.{stored_pairs, HasAscendingKeys}
 use Rattle.bson_store.proofs.AscendingLaws.{ascend_none}
 use Rattle.bson_store.proofs.Distinct.{take-next}
 use Rattle.bson_store.proofs.Placed.{there, length-seen}
@@ -18,6 +18,6 @@ pairs-preserved g c =
     omega (arith, c.pairs-test.true, c.len.ensures, c.args.pairs.now.ok.0, length-seen xs) in
     let next = take-next ps count (string_bytes p.key, p.value) (there xs ps count p refl within c.index.ensures) in (
       omega (arith, within, length-seen xs),
-      subst KeysAscend (ap (λ k. take count ps ++ (k, p.value) ∷ []) c.as_str.ensures.value ∙ sym next)
+      subst HasAscendingKeys (ap (λ k. take count ps ++ (k, p.value) ∷ []) c.as_str.ensures.value ∙ sym next)
           (c.is_above_first.ensures c.if-is_above_first.true p.value),
     )

@@ -1,7 +1,7 @@
 use Rattle.std.proofs.Common.{◌≡◌, ◌-◌, ◌++◌, ◌∷◌, [], suc, Less, length-take-le, take, string_bytes, refl, sym, ap}
 use Rattle.std.proofs.Common.{subst, ◌∙◌, arith}
 use Rattle.bson_store.specs.Order.{key_cmp}
-use Rattle.bson_store.specs.Small.{stored_pairs, KeysAscend}
+use Rattle.bson_store.specs.Small.{stored_pairs, HasAscendingKeys}
 use Rattle.bson_store.proofs.AscendingLaws.{ascend-one, ascend-push, at-take, key-of}
 use Rattle.bson_store.proofs.Least.{less_of}
 use Rattle.bson_store.proofs.Placed.{there}
@@ -10,7 +10,7 @@ use Rattle.bson_store.proofs.ascending.is_above_first.Goals as goal
 pub returns-then-count-eq0 : goal.returns-then-count-eq0
 returns-then-count-eq0 g c = λ t v.
     let k = c.args.key.now in
-    subst (λ n. KeysAscend (take n (stored_pairs c.args.pairs.now.items) ++ (k, v) ∷ [])) (sym c.if-count-eq0.true)
+    subst (λ n. HasAscendingKeys (take n (stored_pairs c.args.pairs.now.items) ++ (k, v) ∷ [])) (sym c.if-count-eq0.true)
     (ascend-one k v)
 
 pub returns : goal.returns

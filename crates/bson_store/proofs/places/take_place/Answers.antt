@@ -2,7 +2,7 @@ use Rattle.std.proofs.Common.{◌<◌, length, subst, sym, ap, arith}
 use Rattle.std.proofs.lemmas.List.Edits.{length-remove}
 use Rattle.std.proofs.lemmas.Option.{slice_get_within}
 use Rattle.bson_store.specs.Pairs.{HasDistinctKeys}
-use Rattle.bson_store.specs.Small.{stored_pairs, Indexes, IsPlaced, KeysAscend}
+use Rattle.bson_store.specs.Small.{stored_pairs, Indexes, IsPlaced, HasAscendingKeys}
 use Rattle.bson_store.proofs.Placed.{length-seen, distinct-remove}
 use Rattle.bson_store.proofs.AscendingLaws.{ascend-remove}
 use Rattle.bson_store.proofs.places.take_place.Goals as goal
@@ -44,11 +44,11 @@ pub returns-in-None : goal.returns-in-None
 returns-in-None g c =
     let ps = c.requires.0 in
     let qs = stored_pairs c.args.pairs.now.items in
-    let was : 16 < length ps → KeysAscend ps = subst (IsPlaced ps) c.in-None.is c.requires.4.1 in
+    let was : 16 < length ps → HasAscendingKeys ps = subst (IsPlaced ps) c.in-None.is c.requires.4.1 in
     let shorter =
     length-remove ps c.args.at (slice_get_within ps c.args.at (c.args.key.now, c.requires.1) c.requires.2) in
-    let still : 16 < length qs → KeysAscend qs =
-    λ more. subst KeysAscend (sym c.requires.3)
+    let still : 16 < length qs → HasAscendingKeys qs =
+    λ more. subst HasAscendingKeys (sym c.requires.3)
     (ascend-remove ps c.args.at (was (omega (arith, more, shorter, ap length c.requires.3)))) in (
       subst HasDistinctKeys (sym c.requires.3) (distinct-remove ps c.args.at c.requires.4.0),
       subst (IsPlaced qs) (sym c.in-None.is) still,

@@ -4,7 +4,7 @@ use Rattle.std.specs.List.Sorted.{IsPermutation}
 use Rattle.std.proofs.lemmas.Bool.{MatchBool-at_true}
 use Rattle.std.proofs.lemmas.Fn.{always_returns_same}
 use Rattle.std.proofs.lemmas.List.Sorted.{IsPermutation-trans}
-use Rattle.bson_store.specs.Small.{stored_pairs, keyed, KeysAscend}
+use Rattle.bson_store.specs.Small.{stored_pairs, keyed, HasAscendingKeys}
 use Rattle.bson_store.proofs.Placed.{length-seen}
 use Rattle.bson_store.proofs.SortedPlaces.{below, ascend-keyed, sorted-from}
 use Rattle.bson_store.proofs.sorted.sorted_places.Goals as goal
@@ -20,7 +20,7 @@ returns-then-is_sorted_by g c =
     let tested = c.is_sorted_by.ensures.cases (below ps) (always_returns_same _ _ _ (λ a r f q. search rules)) in
     let next = MatchBool-at_true _ _ c.if-is_sorted_by.true tested in
     sorted-from is ps moved
-    (subst (λ xs. KeysAscend (keyed xs ps)) c.deref.ensures.value (ascend-keyed c.deref.result.now ps next))
+    (subst (λ xs. HasAscendingKeys (keyed xs ps)) c.deref.ensures.value (ascend-keyed c.deref.result.now ps next))
 
 pub returns-then-is_sorted_by-2 : goal.returns-then-is_sorted_by-2
 returns-then-is_sorted_by-2 g c =
@@ -34,4 +34,4 @@ returns-then-is_sorted_by-2 g c =
     let tested = c.is_sorted_by-2.ensures.cases (below ps) (always_returns_same _ _ _ (λ a r f q. search rules)) in
     let next = MatchBool-at_true _ _ c.if-is_sorted_by-2.true tested in
     sorted-from is ps moved
-    (subst (λ xs. KeysAscend (keyed xs ps)) c.deref-2.ensures.value (ascend-keyed c.deref-2.result.now ps next))
+    (subst (λ xs. HasAscendingKeys (keyed xs ps)) c.deref-2.ensures.value (ascend-keyed c.deref-2.result.now ps next))

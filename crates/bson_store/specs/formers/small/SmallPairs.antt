@@ -33,7 +33,7 @@ use Rattle.bson_store.specs.contracts.small.SmallPairs as C
 use Rattle.bson_store.specs.contracts.small.SmallPairs.TheInside as I
 use Rattle.bson_store.specs.Order.{key_cmp}
 use Rattle.bson_store.specs.Pairs.{keys, get, position_of}
-use Rattle.bson_store.specs.Small.{IndexOrNone, stored_pairs, keyed, KeysAscend, Indexes, IsPlaced, IsIndexed}
+use Rattle.bson_store.specs.Small.{IndexOrNone, stored_pairs, keyed, HasAscendingKeys, Indexes, IsPlaced, IsIndexed}
 use Rattle.bson_store.specs.formers.indexed.IndexedPairs as indexed
 
 abbrev pub on_value : {X Y : Type 0} → (X → Y) → List ℕ × X → List ℕ × Y
@@ -101,7 +101,7 @@ module _ {X Y : Type 0} (h : X → Y) where
 
   indexes-on : (x : Index) (ps : List (List ℕ × X)) → Indexes x (map (on_value h) ps) ≡ Indexes x ps
   indexes-on (Sorted v) ps =
-      λ i. KeysAscend (keyed-on v.items ps i) × ((k : List ℕ) → get k (keyed-on v.items ps i) ≡ place-on h k ps i)
+      λ i. HasAscendingKeys (keyed-on v.items ps i) × ((k : List ℕ) → get k (keyed-on v.items ps i) ≡ place-on h k ps i)
   indexes-on (Map m) ps = λ i. (k : List ℕ) → get_by_text m k ≡ place-on h k ps i
 
   placed-on : (ps : List (List ℕ × X)) (o : IndexOrNone) → IsPlaced ps o → IsPlaced (map (on_value h) ps) o

@@ -8,9 +8,9 @@ use Rattle.serde_json.specs.View.{items_view, members_view}
 use Rattle.serde_json.proofs.Views.{view-Array, view-Object}
 use Rattle.bson_tokens.specs.Held.{entered, or_empty, pruned}
 use Rattle.bson_tokens.proofs.Elements.{none_listed, one_listed, all_listed}
-use Rattle.bson_tokens.proofs.Gathering.{none_yet, one_gathered, all_gathered}
+use Rattle.bson_tokens.proofs.Collecting.{none_yet, one_collected, all_collected}
 use Rattle.bson_tokens.proofs.Pruned.{kept_put, pruned_object, pruned_primitive}
-use Rattle.bson_tokens.proofs.Rounds.{no_item, no_key, no_member}
+use Rattle.bson_tokens.proofs.HeldRounds.{no_item, no_key, no_member}
 use Rattle.bson_tokens.proofs.Starts.{primitive_read, array_read, object_read}
 use Rattle.bson_tokens.specs.Start.{primitive_tree}
 use Rattle.bson_tokens.proofs.held.+held.Goals as goal
@@ -81,7 +81,7 @@ held_members-members-preserved t c =
     let named : read_key l.reader ≡ Some (Some k, s) = grind arith in
     let d = c.in_ok-member.ensures.ok in (
       put k d.0 so_far,
-      one_gathered c.args.depth no_members k c.args.reader.now l.reader s r so_far d.0 l.invariant.1 named d.1
+      one_collected c.args.depth no_members k c.args.reader.now l.reader s r so_far d.0 l.invariant.1 named d.1
           c.in_ok-member.ensures.shorter,
       c.in_ok-found.ensures ∙ ap (λ x. entered k x (option_map (λ m. members_view m.entries) l.found)) d.2
           ∙ ap (λ n. entered k (pruned n d.0) (option_map (λ m. members_view m.entries) l.found)) (grind arith)
@@ -95,7 +95,7 @@ held_members-returns-clause-ok t c =
     let so_far = l.invariant.0 in
     let r = c.next_key.new.self in (
       so_far,
-      all_gathered c.args.depth no_members c.args.reader.now l.reader r so_far l.invariant.1 (grind arith)
+      all_collected c.args.depth no_members c.args.reader.now l.reader r so_far l.invariant.1 (grind arith)
           (length c.args.reader.now) (omega arith),
       c.or_empty.ensures ∙ ap or_empty l.invariant.2,
     )

@@ -3,7 +3,7 @@ use Rattle.serde_json.specs.Data.{Items, Members, no_members}
 use Rattle.serde_json.specs.View.{members_view}
 use Rattle.bson_tokens.specs.Held.{kept_of}
 use Rattle.bson_tokens.proofs.Elements.{Lists}
-use Rattle.bson_tokens.proofs.Gathering.{Gathers}
+use Rattle.bson_tokens.proofs.Collecting.{Collects}
 use Rattle.bson_tokens.proofs.held.+held.Given as goal
 
 abbrev pub decreases-held_value : goal.decreases-held_value
@@ -24,7 +24,7 @@ decreases-pass_items-items l = length l.reader
 -- what is kept is kept of the members so far
 abbrev pub invariant-held_members-members : goal.invariant-held_members-members
 invariant-held_members-members l = (so_far : Members)
-    × Gathers l.depth no_members l.initial.reader l.reader so_far
+    × Collects l.depth no_members l.initial.reader l.reader so_far
     × (option_map (λ m. members_view m.entries) l.found ≡ kept_of l.levels so_far)
 
 abbrev pub decreases-held_members-members : goal.decreases-held_members-members

@@ -1,7 +1,7 @@
 use Rattle.std.proofs.Common.{subst, sym}
 use Rattle.bson_tokens.specs.Held.{StandsFor}
 use Rattle.bson_tokens.proofs.Pruned.{pruned_stands}
-use Rattle.bson_tokens.proofs.Rounds.{if_ok}
+use Rattle.bson_tokens.proofs.HeldRounds.{if_ok}
 use Rattle.bson_tokens.proofs.held.read_held.Goals as goal
 
 pub returns-clause-ok : goal.returns-clause-ok

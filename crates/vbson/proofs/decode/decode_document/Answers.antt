@@ -1,6 +1,6 @@
 use Rattle.std.proofs.Common.{◌≡◌, ◌⊎◌, ◌++◌, List, ℕ, Some, IsUtf8}
 use Rattle.std.proofs.lemmas.Result.{IfErr-weaker, IfOk-weaker}
-use Rattle.bson_codec.specs.Texts.{IsTextOf}
+use Rattle.bson_codec.specs.Texts.{IsDocumentTextOf}
 use Rattle.bson_convert.specs.Convert.{newline}
 use Rattle.vbson.proofs.Decoding.{directly, unread}
 use Rattle.vbson.specs.Documents.{Decodes, IsOneDocument, IsUndecoded, depth, direct_form}
@@ -15,7 +15,7 @@ returns-in-Some-clause-ok c =
     let bytes = c.args.bytes.now in
     let given : direct_form k o mode ≡ Some f = cc in
     IfOk-weaker c.decode_directly.result
-    (λ line. (text : List ℕ) × IsTextOf f depth bytes text × IsUtf8 text × (line.items ≡ text ++ newline))
+    (λ line. (text : List ℕ) × IsDocumentTextOf f depth bytes text × IsUtf8 text × (line.items ≡ text ++ newline))
     (λ line. (text : List ℕ) × Decodes k o mode bytes text × IsUtf8 text × (line.items ≡ text ++ newline))
     (λ line is. (is.0, directly k o mode f bytes is.0 given is.1, is.2, is.3))
     c.decode_directly.ensures.ok

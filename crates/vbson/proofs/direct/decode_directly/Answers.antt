@@ -1,6 +1,6 @@
 use Rattle.std.proofs.Common.{◌≡◌, ◌⊎◌, ◌++◌, inl, inr, refl, List, ℕ, IsUtf8, string_bytes}
 use Rattle.std.proofs.lemmas.Result.{IfErr-weaker, IfOk-weaker}
-use Rattle.bson_codec.specs.Texts.{IsTextOf}
+use Rattle.bson_codec.specs.Texts.{IsDocumentTextOf}
 use Rattle.bson_convert.specs.Convert.{newline}
 use Rattle.vbson.specs.Documents.{IsOneDocument, depth}
 use Rattle.vbson.proofs.direct.decode_directly.Goals as goal
@@ -11,7 +11,7 @@ returns-in-Ok-clause-ok c =
     let bytes = c.args.bytes.now in
     let text = string_bytes c.in-Ok.text in
     IfOk-weaker c.end_line.result (λ line. IsUtf8 text × (line.items ≡ text ++ newline))
-    (λ line. (text : List ℕ) × IsTextOf f depth bytes text × IsUtf8 text × (line.items ≡ text ++ newline))
+    (λ line. (text : List ℕ) × IsDocumentTextOf f depth bytes text × IsUtf8 text × (line.items ≡ text ++ newline))
     (λ line is. (text, c.in-Ok.ensures.ok, is.0, is.1))
     c.end_line.ensures.ok
 

@@ -2,12 +2,12 @@ use Rattle.std.proofs.Common.{◌≡◌, ◌++◌, ◌∙◌, IsUtf8, ap, append
 use Rattle.std.proofs.lemmas.Str.{IsUtf8-string_bytes}
 use Rattle.bson_convert.specs.Convert.{newline}
 use Rattle.vbson.proofs.Utf8.{before_newline}
-use Rattle.vbson.specs.DocumentError.{words_at}
+use Rattle.vbson.specs.DocumentError.{document_error_message}
 use Rattle.vbson.proofs.document_error.line_at.Goals as goal
 
 pub returns : goal.returns
 returns c =
-    let words = words_at c.args.offset c.args.words.now in
+    let words = document_error_message c.args.offset c.args.words.now in
     let told : string_bytes c.in_ok-line.line ≡ words ++ newline = simp append_assoc c.in_ok-line.ensures.ok in (
       before_newline words (subst IsUtf8 told (IsUtf8-string_bytes c.in_ok-line.line)),
       ap (λ v. v.items) c.into_bytes.ensures.value ∙ told,

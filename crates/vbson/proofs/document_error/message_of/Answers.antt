@@ -1,9 +1,9 @@
 use Rattle.std.proofs.Common.{◌≡◌, ◌++◌, ◌∙◌, IsUtf8, List, [], ap, codes, subst, sym, ℕ}
 use Rattle.std.proofs.lemmas.Result.{IfOk-weaker}
 use Rattle.std.proofs.lemmas.Str.{IsUtf8-nil}
-use Rattle.bson_codec.specs.Told.{words_for}
+use Rattle.bson_codec.specs.Told.{fault_kind_message}
 use Rattle.bson_convert.specs.Convert.{newline}
-use Rattle.vbson.specs.DocumentError.{message_for, reason_for, unwritten, words_at}
+use Rattle.vbson.specs.DocumentError.{message_for, reason_for, unwritten, document_error_message}
 use Rattle.vbson.proofs.document_error.message_of.Goals as goal
 
 pub returns-in-Nothing : goal.returns-in-Nothing
@@ -21,11 +21,11 @@ returns-in-Malformed c =
     let k = c.in-Malformed.kind in
     let n = c.in-Malformed.offset in
     let found = c.reason_of-words.result.now in
-    let words : found ≡ words_for k = c.reason_of-words.ensures ∙ ap reason_for c.in-Malformed.is in
-    let made : message_for f ≡ words_at n (words_for k) = ap message_for c.in-Malformed.is in
-    IfOk-weaker c.line_at.result (λ line. IsUtf8 (words_at n found) × (line.items ≡ words_at n found ++ newline))
+    let words : found ≡ fault_kind_message k = c.reason_of-words.ensures ∙ ap reason_for c.in-Malformed.is in
+    let made : message_for f ≡ document_error_message n (fault_kind_message k) = ap message_for c.in-Malformed.is in
+    IfOk-weaker c.line_at.result (λ line. IsUtf8 (document_error_message n found) × (line.items ≡ document_error_message n found ++ newline))
     (λ line. IsUtf8 (message_for f) × (line.items ≡ message_for f ++ newline))
-    (λ line h. subst (λ (m : List ℕ). IsUtf8 m × (line.items ≡ m ++ newline)) (ap (words_at n) words ∙ sym made) h)
+    (λ line h. subst (λ (m : List ℕ). IsUtf8 m × (line.items ≡ m ++ newline)) (ap (document_error_message n) words ∙ sym made) h)
     c.line_at.ensures
 
 pub returns-in-FiniteDouble : goal.returns-in-FiniteDouble

@@ -7,7 +7,7 @@ use Rattle.bson_convert.specs.Convert.{IsRefusedIn}
 use Rattle.bson_run.specs.Taken.{taken_of}
 use Rattle.vbson.proofs.Explained.{long_first, long_of_read, of_read, refused_first}
 use Rattle.vbson.specs.Explain.{Explains, ExplainsRead, IsError, IsLongPath, IsTooLong, IsUnexplained}
-use Rattle.vbson.specs.Reading.{IsReadAs, IsUnread, preprocessing_of}
+use Rattle.vbson.specs.Reading.{IsReadAs, IsPreprocessingFault, preprocessing_of}
 use Rattle.vbson.specs.declared.explain.Rejection.{Rejection}
 use Rattle.vbson.proofs.explain.explained.Goals as goal
 
@@ -93,8 +93,8 @@ returns-in-Err-2-clause-said c =
     let options = c.args.options in
     let text = c.args.text.now in
     let fault = c.in-Err.fault in
-    let unread : IsUnread (preprocessing_of options) fault text =
-    subst (λ p. IsUnread p fault text) c.preprocessing_of.ensures c.in-Err.ensures.rejected in
+    let unread : IsPreprocessingFault (preprocessing_of options) fault text =
+    subst (λ p. IsPreprocessingFault p fault text) c.preprocessing_of.ensures c.in-Err.ensures.rejected in
     IfOk-weaker c.rejected.result (λ (out : Rejection). IsError text fault out) (λ (out : Rejection). Explains options text out)
     (λ out is. refused_first options fault text out unread c.if-is_memory.ensures is) c.rejected.ensures.said
 
@@ -103,8 +103,8 @@ returns-in-Err-2-clause-long c =
     let options = c.args.options in
     let text = c.args.text.now in
     let fault = c.in-Err.fault in
-    let unread : IsUnread (preprocessing_of options) fault text =
-    subst (λ p. IsUnread p fault text) c.preprocessing_of.ensures c.in-Err.ensures.rejected in
+    let unread : IsPreprocessingFault (preprocessing_of options) fault text =
+    subst (λ p. IsPreprocessingFault p fault text) c.preprocessing_of.ensures c.in-Err.ensures.rejected in
     IfErr-weaker c.rejected.result (λ (e : PathError). e ≢ sizes.OutOfMemory → IsLongPath fault)
     (λ (e : PathError). e ≢ sizes.OutOfMemory → IsTooLong options text)
     (λ e long. long_first options fault text e unread long) c.rejected.ensures.long

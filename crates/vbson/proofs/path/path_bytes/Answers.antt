@@ -1,8 +1,8 @@
 use Rattle.std.proofs.Common.{◌∙◌, List, ap, map, subst, sym, ℕ}
 use Rattle.std.proofs.lemmas.Result.{err_from_is_err_and}
 use Rattle.bson_bytes.proofs.Offered.{told_ok}
-use Rattle.bson_bytes.specs.Putting.{Put, StopsFor, put_pairs, put_room}
-use Rattle.bson_place.specs.Place.{segment_of}
+use Rattle.bson_bytes.specs.Putting.{Put, StopsFor, put_elements, put_room}
+use Rattle.bson_tree.specs.Place.{segment_of}
 use Rattle.vbson.proofs.Paths.{only_memory, document_put, document_stops}
 use Rattle.vbson.specs.Path.{path_pairs}
 use Rattle.vbson.proofs.path.path_bytes.Goals as goal
@@ -13,7 +13,7 @@ returns-in_err-put_segments-clause-only c =
     let e = c.in_err-put_segments.field-0.0 in
     let ps = path_pairs (map segment_of c.args.segments.now) in
     let room = c.in_ok-put_room.ensures ∙ ap put_room c.new-out.ensures.items in
-    let h = subst (λ (out : List ℕ). StopsFor e (put_pairs ps out)) room c.in_err-put_segments.ensures.put in
+    let h = subst (λ (out : List ℕ). StopsFor e (put_elements ps out)) room c.in_err-put_segments.ensures.put in
     rw p.1 (λ fits. p.2 ∙ only_memory e ps fits (document_stops e ps h))
 
 pub returns-in_err-put_end-clause-only : goal.returns-in_err-put_end-clause-only
@@ -22,7 +22,7 @@ returns-in_err-put_end-clause-only c =
     let e = c.in_err-put_end.field-0.0 in
     let ps = path_pairs (map segment_of c.args.segments.now) in
     let room = c.in_ok-put_room.ensures ∙ ap put_room c.new-out.ensures.items in
-    let put = ap (put_pairs ps) (sym room) ∙ c.in_ok-put_segments.ensures.put in
+    let put = ap (put_elements ps) (sym room) ∙ c.in_ok-put_segments.ensures.put in
     let h = subst (λ (r : Put). StopsFor e r) (sym (document_put ps c.put_segments.new.out.items put)) c.in_err-put_end.ensures.put in
     rw p.1 (λ fits. p.2 ∙ only_memory e ps fits h)
 
@@ -30,5 +30,5 @@ pub returns-clause-ok : goal.returns-clause-ok
 returns-clause-ok c =
     let ps = path_pairs (map segment_of c.args.segments.now) in
     let room = c.in_ok-put_room.ensures ∙ ap put_room c.new-out.ensures.items in
-    let put = ap (put_pairs ps) (sym room) ∙ c.in_ok-put_segments.ensures.put in
+    let put = ap (put_elements ps) (sym room) ∙ c.in_ok-put_segments.ensures.put in
     (told_ok ps c.put_end.new.out.items (document_put ps c.put_segments.new.out.items put ∙ c.in_ok-put_end.ensures.put)).1

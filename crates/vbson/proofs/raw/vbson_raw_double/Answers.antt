@@ -1,15 +1,15 @@
 use Rattle.std.proofs.Common.{refl}
-use Rattle.bson_raw.specs.Held.{double_of}
+use Rattle.bson_bytes.specs.Held.{double_value}
 use Rattle.vbson.proofs.RawValues.{never_double, typed_none, typed_other, typed_some}
 use Rattle.vbson.proofs.raw.vbson_raw_double.Goals as goal
 
 pub returns-in_default-clause-typed : goal.returns-in_default-clause-typed
-returns-in_default-clause-typed c = λ d v h. typed_none double_of never_double v (c.in_default.ensures d v h) _
+returns-in_default-clause-typed c = λ d v h. typed_none double_value never_double v (c.in_default.ensures d v h) _
 
 pub returns-in-Some-as_f64-clause-typed : goal.returns-in-Some-as_f64-clause-typed
 returns-in-Some-as_f64-clause-typed c =
-    λ d v h. typed_some double_of _ v (c.in-Some.ensures d v h) _ _ c.in-Some-as_f64.ensures refl
+    λ d v h. typed_some double_value _ v (c.in-Some.ensures d v h) _ _ c.in-Some-as_f64.ensures refl
 
 pub returns-in-None-clause-typed : goal.returns-in-None-clause-typed
 returns-in-None-clause-typed c =
-    λ d v h. typed_other double_of _ v (c.in-Some.ensures d v h) c.in-None.ensures _
+    λ d v h. typed_other double_value _ v (c.in-Some.ensures d v h) c.in-None.ensures _

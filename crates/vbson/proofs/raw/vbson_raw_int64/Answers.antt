@@ -1,16 +1,16 @@
 use Rattle.std.proofs.Common.{rules, FitsSigned, w64, to_z-of_z}
-use Rattle.bson_raw.specs.Held.{int64_of}
+use Rattle.bson_bytes.specs.Held.{int64_value}
 use Rattle.vbson.proofs.RawValues.{never_int64, typed_none, typed_other, typed_some}
 use Rattle.vbson.proofs.raw.vbson_raw_int64.Goals as goal
 
 pub returns-in_default-clause-typed : goal.returns-in_default-clause-typed
-returns-in_default-clause-typed c = λ d v h. typed_none int64_of never_int64 v (c.in_default.ensures d v h) _
+returns-in_default-clause-typed c = λ d v h. typed_none int64_value never_int64 v (c.in_default.ensures d v h) _
 
 pub returns-in-Some-as_i64-clause-typed : goal.returns-in-Some-as_i64-clause-typed
 returns-in-Some-as_i64-clause-typed c =
     let fits : FitsSigned w64 c.in-Some-as_i64.number = search rules in
-    λ d v h. typed_some int64_of _ v (c.in-Some.ensures d v h) _ _ c.in-Some-as_i64.ensures (to_z-of_z fits)
+    λ d v h. typed_some int64_value _ v (c.in-Some.ensures d v h) _ _ c.in-Some-as_i64.ensures (to_z-of_z fits)
 
 pub returns-in-None-clause-typed : goal.returns-in-None-clause-typed
 returns-in-None-clause-typed c =
-    λ d v h. typed_other int64_of _ v (c.in-Some.ensures d v h) c.in-None.ensures _
+    λ d v h. typed_other int64_value _ v (c.in-Some.ensures d v h) c.in-None.ensures _

@@ -3,7 +3,7 @@ use Rattle.std.proofs.lemmas.Result.{IfErr-weaker}
 use Rattle.std.specs.Prelude.{string_bytes}
 use Rattle.bson_run.specs.Taken.{taken_of}
 use Rattle.vbson.proofs.Preprocessed.{turned_away, without_value}
-use Rattle.vbson.specs.Reading.{IsReadAs, IsRejectedWith, IsUnread, IsWithoutValue, preprocessing_of}
+use Rattle.vbson.specs.Reading.{IsReadAs, IsRejectedWith, IsPreprocessingFault, IsWithoutValue, preprocessing_of}
 use Rattle.vbson.proofs.reading.value_of_text.Goals as goal
 
 pub returns-in-Ok-Some-clause-rejected : goal.returns-in-Ok-Some-clause-rejected
@@ -49,4 +49,4 @@ returns-in-Err-2-clause-rejected c =
     let text = c.args.text.now in
     let fault = c.in-Err.fault in
     turned_away c.one_double.ensures.twice c.args.options fault text
-    (subst (λ p. IsUnread p fault text) c.preprocessing_of.ensures c.in-Err.ensures.rejected) c.if-is_memory.ensures
+    (subst (λ p. IsPreprocessingFault p fault text) c.preprocessing_of.ensures c.in-Err.ensures.rejected) c.if-is_memory.ensures

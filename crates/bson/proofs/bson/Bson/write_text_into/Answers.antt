@@ -1,6 +1,5 @@
 use Rattle.bson.specs.View.{bson_view}
 use Rattle.bson.proofs.OrderedTexts.{appended_is, nothing_appended, appended_writable, appended_finite}
-use Rattle.bson.proofs.Stopped.{never_finite}
 use Rattle.bson.proofs.Twice.{room_twice}
 use Rattle.bson.proofs.bson.Bson.write_text_into.Goals as goal
 
@@ -24,9 +23,6 @@ pub returns-clause-finite : goal.returns-clause-finite
 returns-clause-finite c =
     appended_finite c.args.options.doubles c.args.form (bson_view c.args.self.now) c.args.out.now.items
     c.append_text.new.out.items c.append_text.result c.append_text.ensures.written
-
-pub returns-clause-every : goal.returns-clause-every
-returns-clause-every c = never_finite c.args.options.doubles c.append_text.result c.append_text.ensures.every
 
 pub returns-clause-twice : goal.returns-clause-twice
 returns-clause-twice c =

@@ -16,9 +16,9 @@ loop-at-preserved g c =
     let v = lent.1.now in
     let w = c.change.new.arg3 in
     let here = pair_from now at k v c.pair_at_mut-value.ensures.key c.pair_at_mut-value.ensures.value in
-    let ahead = drop-next now old at c.loop-at.invariant.ahead in
+    let lookahead = drop-next now old at c.loop-at.invariant.lookahead in
     let there : drop at old ≡ (k, v) ∷ drop (at + 1) old
-    = sym c.loop-at.invariant.ahead ∙ drop-at now at (k, v) here ∙ ap (λ l. (k, v) ∷ l) ahead in
+    = sym c.loop-at.invariant.lookahead ∙ drop-at now at (k, v) here ∙ ap (λ l. (k, v) ∷ l) lookahead in
     let call : ChangesValue g.F.FnMut c.loop-at.change k v c.change.new.self w
     = record {
       key = lent.0;
@@ -32,7 +32,7 @@ loop-at-preserved g c =
     record {
       callable = let can = c.loop-at.invariant.callable in search of_calls;
       same_length = length-with now at w ∙ c.loop-at.invariant.same_length;
-      ahead = drop-with now at w ∙ ahead;
+      lookahead = drop-with now at w ∙ lookahead;
       done =
           λ last rest h.
           subst (λ xs. ChangesEach g.F.FnMut c.args.change old last xs) (sym (take-with now rest at k v w here))

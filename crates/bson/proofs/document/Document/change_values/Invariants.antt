@@ -9,7 +9,7 @@ invariant-loop-at g l =
     let old = l.fn.self.pairs in record {
       callable : always_mut g.F.FnMut l.change;
       same_length : length l.self.pairs ≡ length old;
-      ahead : drop l.at l.self.pairs ≡ drop l.at old;
+      lookahead : drop l.at l.self.pairs ≡ drop l.at old;
       done : (last : g.row.F.Denot) (rest : List (List ℕ × Bson))
           → ChangesEach g.F.FnMut l.change (drop l.at old) last rest
           → ChangesEach g.F.FnMut l.fn.change old last (take l.at l.self.pairs ++ rest);

@@ -1,8 +1,8 @@
 use Rattle.serde_json.specs.View.{view}
 use Rattle.bson_model.specs.Normal.{InRange}
 use Rattle.bson_model.specs.Reading.{reads_in}
-use Rattle.bson_place.specs.Place.{FaultAtIn}
-use Rattle.bson_place.proofs.Offered.{fault_to}
+use Rattle.bson_tree.specs.Place.{FaultAtIn}
+use Rattle.bson_tree.proofs.Offered.{fault_to}
 use Rattle.bson.specs.View.{bson_view}
 use Rattle.bson.proofs.Answered.{value_given, fault_given}
 use Rattle.bson.proofs.extjson.read.read.Goals as goal

@@ -2,8 +2,8 @@ use Rattle.std.proofs.Common.{◌∙◌, ap, sym, subst, Ok}
 use Rattle.serde_json.specs.View.{members_view}
 use Rattle.bson_model.specs.Normal.{PairsInRange}
 use Rattle.bson_model.specs.Reading.{reads_members_in}
-use Rattle.bson_place.specs.Place.{FaultWithinIn}
-use Rattle.bson_place.proofs.Offered.{in_to}
+use Rattle.bson_tree.specs.Place.{FaultWithinIn}
+use Rattle.bson_tree.proofs.Offered.{in_to}
 use Rattle.bson.specs.View.{holding, pairs_view}
 use Rattle.bson.proofs.Answered.{value_given, fault_given}
 use Rattle.bson.proofs.Seen.{document_view-pairs}

@@ -14,7 +14,7 @@ use Rattle.bson_scalar.specs.Binaries.{binary_tree}
 use Rattle.bson_scalar.specs.Scalar.{text, binary}
 use Rattle.bson_model.specs.Value.{scalar, code_scope}
 use Rattle.bson_model.specs.Normal.{PairsInRange}
-use Rattle.bson_order.specs.Distinct.{AllDistinct}
+use Rattle.bson_model.specs.Distinct.{AllDistinct}
 use Rattle.bson.specs.KeyOrders.{writes_by, writes_items_by, EachValue}
 use Rattle.bson.specs.Room.{key_room, values_room, pairs_room}
 use Rattle.bson.specs.Texts.{code_tokens, writes_in_turn}

@@ -3,7 +3,7 @@ use Rattle.json.specs.Token.{Token}
 use Rattle.bson_scalar.specs.Written.{Stops}
 use Rattle.bson_scalar.specs.declared.write_error.WriteError.{WriteError}
 use Rattle.bson_model.specs.Normal.{ItemsInRange, PairsInRange}
-use Rattle.bson_order.specs.Distinct.{AllDistinct, ItemsDistinct, PairsDistinct}
+use Rattle.bson_model.specs.Distinct.{AllDistinct, ItemsDistinct, PairsDistinct}
 use Rattle.bson.specs.KeyOrders.{writes_by, writes_items_by, writes_pairs_by, EachValue}
 use Rattle.bson.specs.Texts.{writes_in_turn}
 use Rattle.bson.specs.View.{values_view, pairs_view}

@@ -3,7 +3,7 @@ use Rattle.std.specs.Prelude.{OnOk}
 use Rattle.bson_scalar.specs.View.{scalar_of}
 use Rattle.bson_scalar.specs.Written.{writes_scalar_in}
 use Rattle.bson_model.specs.Normal.{InRange}
-use Rattle.bson_order.specs.Distinct.{AllDistinct}
+use Rattle.bson_model.specs.Distinct.{AllDistinct}
 use Rattle.bson.specs.KeyOrders.{writes_by}
 use Rattle.bson.specs.Room.{IsDirect, SpendsOrStops, value_room}
 use Rattle.bson.specs.Texts.{Prints}

@@ -1,7 +1,7 @@
 use Rattle.std.proofs.Common.{◌≡◌, ◌+◌, ◌-◌, ◌≤◌, length, drop}
 use Rattle.bson.specs.Iter.{pairs_left}
 use Rattle.bson.specs.View.{bson_view, document_view, scoped_view, values_view, pairs_view, contents}
-use Rattle.bson.specs.SameInOrder.{items_in_order, pairs_in_order}
+use Rattle.bson.specs.SameInOrder.{same_items_in_order, same_pairs_in_order}
 use Rattle.bson.proofs.Weights.{weight, weight_items, weight_pairs}
 use Rattle.bson.proofs.same.in_order.+in_order.Given as goal
 
@@ -20,8 +20,8 @@ decreases-lists_in_order l = weight_items (values_view l.left.now.items)
 -- what is left of both is the same just if all is
 abbrev pub invariant-documents_in_order-pairs : goal.invariant-documents_in_order-pairs
 invariant-documents_in_order-pairs l = record {
-  same : pairs_in_order (pairs_view (pairs_left l.lefts)) (pairs_view (pairs_left l.rights))
-      ≡ pairs_in_order (pairs_view (contents l.left)) (pairs_view (contents l.right));
+  same : same_pairs_in_order (pairs_view (pairs_left l.lefts)) (pairs_view (pairs_left l.rights))
+      ≡ same_pairs_in_order (pairs_view (contents l.left)) (pairs_view (contents l.right));
   lighter : weight_pairs (pairs_view (pairs_left l.lefts)) ≤ weight_pairs (pairs_view (contents l.left));
 }
 
@@ -30,8 +30,8 @@ decreases-documents_in_order-pairs l = length (pairs_left l.lefts)
 
 abbrev pub invariant-lists_in_order-items : goal.invariant-lists_in_order-items
 invariant-lists_in_order-items l = record {
-  same : items_in_order (values_view (drop l.at l.left.items)) (values_view (drop l.at l.right.items))
-      ≡ items_in_order (values_view l.left.items) (values_view l.right.items);
+  same : same_items_in_order (values_view (drop l.at l.left.items)) (values_view (drop l.at l.right.items))
+      ≡ same_items_in_order (values_view l.left.items) (values_view l.right.items);
   within : l.at ≤ length l.left.items;
 }
 

@@ -2,7 +2,7 @@ use Rattle.std.proofs.Common.{[], sym, ◌∙◌}
 use Rattle.std.proofs.lemmas.Result.{err_from_is_err_and}
 use Rattle.bson.specs.View.{contents}
 use Rattle.bson_codec.proofs.Distinct.{key_bad, key_twice, key_once}
-use Rattle.bson_source.specs.Source.{keys_back}
+use Rattle.bson_bytes.specs.Source.{keys_back}
 use Rattle.bson_codec.proofs.pair_list.DistinctPairsPairList.key_at.Goals as goal
 
 pub returns-in_err-name-clause-given : goal.returns-in_err-name-clause-given

@@ -1,9 +1,9 @@
 use Rattle.std.proofs.Common.{◌≡◌, true, false, string_bytes, arith}
 use Rattle.bson_scalar.proofs.Offered.{on_ok}
 use Rattle.bson.specs.View.{bson_view, values_view}
-use Rattle.bson_bytes.specs.Grammar.{values}
+use Rattle.bson_bytes.specs.Grammar.{pair_values}
 use Rattle.bson_codec.proofs.Listed.{pair_put, item_put}
-use Rattle.bson_source.specs.Source.{with_pair}
+use Rattle.bson_bytes.specs.Source.{with_pair}
 use Rattle.bson_codec.proofs.values.ValuesValueSink.element.Goals as goal
 
 pub returns-then-is_document-clause-given : goal.returns-then-is_document-clause-given
@@ -12,8 +12,8 @@ returns-then-is_document-clause-given g c =
     let list = c.args.list.now in
     on_ok c.put.result
     (λ put start before mid ps k v begun name is.
-    pair_put g.P.PairList.holds c.args.is_document (values_view list.items.items ≡ values ps)
-    (values_view list.items.items ≡ values (with_pair ps k v)) list.pairs c.put.new.self (string_bytes c.args.name)
+    pair_put g.P.PairList.holds c.args.is_document (values_view list.items.items ≡ pair_values ps)
+    (values_view list.items.items ≡ pair_values (with_pair ps k v)) list.pairs c.put.new.self (string_bytes c.args.name)
     (bson_view c.args.value) ps k v t (put ps) begun name is)
     c.put.ensures
 

@@ -3,7 +3,7 @@ use Rattle.std.proofs.lemmas.Fmt.{IsAscii-decimal_wide}
 use Rattle.std.proofs.lemmas.Str.{IsUtf8-from_ascii}
 use Rattle.std.specs.Fmt.{decimal, sign_text, HasWritten}
 use Rattle.bson_decimal.specs.Exponents.{exponent_at}
-use Rattle.bson_decimal.specs.Displayed.{meaning_text, finite_text, display_text}
+use Rattle.bson_decimal.specs.Displayed.{meaning_text, finite_text, decimal128_text}
 use Rattle.bson_decimal.proofs.display.Decimal128Display.fmt.Goals as goal
 
 pub write_signed-requires-clause-ascii : goal.write_signed-requires-clause-ascii
@@ -15,14 +15,14 @@ write_signed-requires-clause-ascii g c =
     rw text (IsAscii-decimal_wide c.in-Finite.coefficient (omega arith))
 
 pub returns-in-Ok-clause-writes : goal.returns-in-Ok-clause-writes
-unfolding display_text
+unfolding decimal128_text
 returns-in-Ok-clause-writes g c =
     let w = c.write_digits-start in
     let text : c.in-Ok.digits.now ≡ decimal c.in-Finite.coefficient = c.in-Ok.ensures.cases.0
     ∙ take_all _ (drop w.result w.new.buffer) (omega (arith, length-drop w.result w.new.buffer))
     ∙ w.ensures.written in
     let is : sign_text c.in-Finite.negative ++ finite_text (decimal c.in-Finite.coefficient)
-    (exponent_at c.in-Finite.stored_exponent) ≡ display_text c.args.self.now =
+    (exponent_at c.in-Finite.stored_exponent) ≡ decimal128_text c.args.self.now =
     ap meaning_text c.in-Finite.ensures in
     λ plain ok. subst (λ (t : List ℕ). HasWritten g.W.Write.write_str_gives c.args.f.now t c.write_signed.new.f) is
     (rw text at (c.write_signed.ensures plain ok))

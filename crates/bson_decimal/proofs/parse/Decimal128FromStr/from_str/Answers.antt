@@ -5,7 +5,7 @@ use Rattle.std.specs.Int.{w128, to_le_bytes}
 use Rattle.std.specs.Str.Parse.{without_leading_sign, starts_with_minus}
 use Rattle.bson_decimal.specs.Pattern.{sign_weight, first_form}
 use Rattle.bson_decimal.specs.Text.{Parses}
-use Rattle.bson_decimal.specs.Steps.{finite, decimal_fault, fault_of}
+use Rattle.bson_decimal.specs.Steps.{finite, decimal_fault, parse_error_of}
 use Rattle.bson_decimal.proofs.Parsing.{special-parses, finite-parses, refused-parses, finite-within}
 use Rattle.bson_decimal.specs.FromStr.{ParsesTo}
 use Rattle.bson_decimal.proofs.DisplayedLaws.{reads-display_text, display_text-same}
@@ -42,7 +42,7 @@ refused c =
     ap finite (sym c.without_sign-rest.ensures)
     ∙ sym c.in_err-coefficient.ensures.value in
     let plain = rw c.without_sign-rest.ensures at c.in_default.ensures.word in
-    rw (p.1, p.2) (refused-parses text _ plain is, ap fault_of (sym is))
+    rw (p.1, p.2) (refused-parses text _ plain is, ap parse_error_of (sym is))
 
 pub returns-in_err-coefficient-clause-answer : goal.returns-in_err-coefficient-clause-answer
 returns-in_err-coefficient-clause-answer c = refused c

@@ -6,17 +6,17 @@ use Rattle.bson_run.specs.InOrder.{ConvertsInOrder}
 use Rattle.bson_run.proofs.Ordered.{outputs_alike}
 use Rattle.bson_run.proofs.accepted.Accepted.in_order_of.Goals as goal
 
-pub returns-in_ok-arranged-in-None-clause-ok : goal.returns-in_ok-arranged-in-None-clause-ok
-returns-in_ok-arranged-in-None-clause-ok c =
+pub returns-in_ok-normalized-in-None-clause-ok : goal.returns-in_ok-normalized-in-None-clause-ok
+returns-in_ok-normalized-in-None-clause-ok c =
     let o = c.args.options in
     let text = c.in-Ok.text.now in
     let bytes = c.args.bytes.now in
-    let arranged = string_bytes c.in_ok-arranged-in-None.arranged in
+    let normalized = string_bytes c.in_ok-normalized-in-None.normalized in
     let utf8 : IsUtf8 text = grind arith in
-    let valid : IsUtf8 arranged = IsUtf8-string_bytes c.in_ok-arranged-in-None.arranged in
+    let valid : IsUtf8 normalized = IsUtf8-string_bytes c.in_ok-normalized-in-None.normalized in
     let whole : text ≡ bytes = grind arith in
     record {
-      sure = accepted_alike o arranged text valid (sym c.in_ok-arranged-in-None.ensures.same) c.in_ok-refuse-in-None.ensures.ok;
+      sure = accepted_alike o normalized text valid (sym c.in_ok-normalized-in-None.ensures.same) c.in_ok-refuse-in-None.ensures.ok;
       given = λ output is. subst (λ b. ConvertsInOrder o c.args.mode b output) whole
-          (outputs_alike o c.args.mode text arranged output utf8 c.in_ok-arranged-in-None.ensures.ok is);
+          (outputs_alike o c.args.mode text normalized output utf8 c.in_ok-normalized-in-None.ensures.ok is);
     }

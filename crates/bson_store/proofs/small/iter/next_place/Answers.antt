@@ -1,7 +1,7 @@
 use Rattle.std.proofs.Common.{slice_get, string_bytes, option_map, sym, ap, subst, ◌∙◌, arith}
 use Rattle.bson_store.specs.Walks.{left, IsWithin, TakesPlace}
-use Rattle.bson_store.specs.declared.small.iter.Turn.{Turn}
-use Rattle.bson_store.specs.declared.small.iter.Turn.TheVariants.{Sorted, Mapped, Above}
+use Rattle.bson_store.specs.declared.small.iter.Cursor.{Cursor}
+use Rattle.bson_store.specs.declared.small.iter.Cursor.TheVariants.{Sorted, Mapped, Above}
 use Rattle.bson_store.proofs.Distinct.{drop-at}
 use Rattle.bson_store.proofs.Least.{least_none}
 use Rattle.bson_store.proofs.Turns.{pair_there, next_pair}
@@ -12,7 +12,7 @@ pub returns-else-at-len : goal.returns-else-at-len
 returns-else-at-len g c =
     let ps = c.args.pairs.now in
     let i = c.in-From.at in
-    let within = subst (λ (t : Turn). IsWithin t ps) c.in-From.is c.requires in
+    let within = subst (λ (t : Cursor). IsWithin t ps) c.in-From.is c.requires in
     let here = at ps i (omega (arith, within, c.if-at-len.false, c.len.ensures.len)) in (
       omega (arith, within, c.if-at-len.false, c.len.ensures.len),
       (
@@ -27,26 +27,26 @@ returns-in-Sorted g c =
     let ps = c.args.pairs.now in
     let r = c.next.result in
     let new = c.next.new.self in
-    subst (λ (t : Turn). TakesPlace ps t c.copied.result (Sorted new)) (sym c.in-Sorted.is)
+    subst (λ (t : Cursor). TakesPlace ps t c.copied.result (Sorted new)) (sym c.in-Sorted.is)
     (subst (λ x. TakesPlace ps (Sorted c.in-Sorted.places) x (Sorted new)) (sym c.copied.ensures)
     (takes _ _ ps r (slice_takes c.in-Sorted.places new r c.next.ensures.steps)
-    (subst (λ (t : Turn). IsWithin t ps) c.in-Sorted.is c.requires)))
+    (subst (λ (t : Cursor). IsWithin t ps) c.in-Sorted.is c.requires)))
 
 pub returns-in-Mapped : goal.returns-in-Mapped
 returns-in-Mapped g c =
     let ps = c.args.pairs.now in
     let new = c.next-in-Mapped.new.self in
-    subst (λ (t : Turn). TakesPlace ps t c.copied-in-Mapped.result (Mapped new)) (sym c.in-Mapped.is)
+    subst (λ (t : Cursor). TakesPlace ps t c.copied-in-Mapped.result (Mapped new)) (sym c.in-Mapped.is)
     (subst (λ x. TakesPlace ps (Mapped c.in-Mapped.places) x (Mapped new)) (sym c.copied-in-Mapped.ensures)
     (takes c.in-Mapped.places new ps c.next-in-Mapped.result c.next-in-Mapped.ensures.steps
-    (subst (λ (t : Turn). IsWithin t ps) c.in-Mapped.is c.requires)))
+    (subst (λ (t : Cursor). IsWithin t ps) c.in-Mapped.is c.requires)))
 
 pub returns-in_err-at-in-Above : goal.returns-in_err-at-in-Above
 returns-in_err-at-in-Above g c =
     let ps = c.args.pairs.now in
     let last = c.in-Above.last in
     let none = least_none (option_map (λ s. string_bytes s.now) last) ps c.in_err-at-in-Above.ensures.least in
-    subst (λ (t : Turn). TakesPlace ps t c.from_residual.result (Above last)) (sym c.in-Above.is)
+    subst (λ (t : Cursor). TakesPlace ps t c.from_residual.result (Above last)) (sym c.in-Above.is)
     (subst (λ r. TakesPlace ps (Above last) r (Above last)) (sym c.from_residual.ensures) (tt, (none, none)))
 
 pub returns-in_ok-at-in-Above : goal.returns-in_ok-at-in-Above

@@ -1,5 +1,5 @@
 use Rattle.std.proofs.Common.{◌≡◌, None, string_bytes, subst, sym}
-use Rattle.bson_model.specs.Value.{Pairs, get}
+use Rattle.bson_model.specs.Value.{Pairs, value_at_key}
 use Rattle.bson.proofs.Built.{one_paired, lacks}
 use Rattle.bson.proofs.extjson.builder.BsonBuilderValueBuilder.put.Goals as goal
 use Rattle.bson.proofs.extjson.builder.BsonBuilderValueBuilder.put.Goals.{in-Ok, in-Err}
@@ -7,7 +7,7 @@ use Rattle.bson.proofs.extjson.builder.BsonBuilderValueBuilder.put.Goals.{in-Ok,
 pub push-requires : goal.push-requires
 push-requires c =
     let k = string_bytes c.args.key in
-    lacks k c.args.pairs.now (subst (λ (ps : Pairs). get k ps ≡ None) (sym c.requires.1.0) c.requires.2)
+    lacks k c.args.pairs.now (subst (λ (ps : Pairs). value_at_key k ps ≡ None) (sym c.requires.1.0) c.requires.2)
 
 pub returns : goal.returns
 returns c = elim c.match-push.branch [

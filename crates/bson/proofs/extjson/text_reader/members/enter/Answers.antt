@@ -1,5 +1,5 @@
 use Rattle.std.proofs.Common.{MatchResult, string_bytes, ◌∙◌, ap, subst, arith}
-use Rattle.bson.specs.Gathered.{gathered_pairs, StandsAt, FitsAt}
+use Rattle.bson.specs.Collected.{collected_pairs, StandsAt, FitsAt}
 use Rattle.bson.proofs.Members.{stands_within, fits_within, seen_set, seen_insert}
 use Rattle.bson.proofs.extjson.text_reader.members.enter.Goals as goal
 
@@ -30,6 +30,6 @@ pub returns-in_ok-insert-in-Err : goal.returns-in_ok-insert-in-Err
 returns-in_ok-insert-in-Err c =
     let k = string_bytes c.args.key in
     let ms = c.args.members.now.items in
-    ap gathered_pairs c.in_ok-insert-in-Err.ensures.items
+    ap collected_pairs c.in_ok-insert-in-Err.ensures.items
     ∙ seen_insert c.args.key c.args.value ms c.in-Err.at
     (subst (λ r. MatchResult r (StandsAt k ms) (FitsAt k ms)) c.in-Err.is c.requires)

@@ -2,7 +2,7 @@ use Rattle.std.proofs.Common.{◌≡◌, ◌∷◌, string_bytes, sym, ap, ◌�
 use Rattle.std.specs.Vec.Iter.{into_iter_items}
 use Rattle.bson.specs.View.{bson_view}
 use Rattle.bson_model.specs.Sorted.{KeysAscend}
-use Rattle.bson.specs.Gathered.{gathered_pairs, put_all}
+use Rattle.bson.specs.Collected.{collected_pairs, put_members}
 use Rattle.bson.proofs.Members.{one_left}
 use Rattle.bson.proofs.PutAscends.{put_ascends}
 use Rattle.bson.proofs.extjson.text_reader.members.last_of_each.Goals as goal
@@ -12,11 +12,11 @@ members-preserved c =
     let at = c.members in
     let later = into_iter_items c.next.new.self in
     let steps : into_iter_items at.key-iterator ≡ c.in-Some.field-0 ∷ later = c.in-Some.ensures.steps.0 in
-    let ps = gathered_pairs at.found.items in
+    let ps = collected_pairs at.found.items in
     record {
       left = one_left _ later c.in-Some.field-0 _ _ at.invariant.left steps c.in-Some.ensures.steps.1;
       ascends = subst KeysAscend (sym c.in_ok-enter.ensures)
           (put_ascends (string_bytes c.in-Some.field-0.key) (bson_view c.in-Some.field-0.value) ps
           at.invariant.ascends);
-      all = ap (put_all later) c.in_ok-enter.ensures ∙ ap (λ ms. put_all ms ps) (sym steps) ∙ at.invariant.all;
+      all = ap (put_members later) c.in_ok-enter.ensures ∙ ap (λ ms. put_members ms ps) (sym steps) ∙ at.invariant.all;
     }

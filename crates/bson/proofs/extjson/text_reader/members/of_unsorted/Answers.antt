@@ -1,7 +1,7 @@
 use Rattle.std.proofs.Common.{◌≡◌, IfOk, sym, subst}
 use Rattle.bson_model.specs.Value.{no_pairs}
 use Rattle.bson_model.proofs.Offered.{turned}
-use Rattle.bson.specs.Gathered.{member_key, member_value}
+use Rattle.bson.specs.Collected.{member_key, member_value}
 use Rattle.bson.specs.View.{document_view}
 use Rattle.bson.proofs.extjson.text_reader.members.of_unsorted.Goals as goal
 

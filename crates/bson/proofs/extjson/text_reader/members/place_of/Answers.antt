@@ -1,6 +1,6 @@
 use Rattle.std.proofs.Common.{◌≡◌, ◌-◌, suc, string_bytes, nat_cmp, Equal, Greater, sym, ap, ◌∙◌, subst, arith}
 use Rattle.std.specs.Cmp.Lexicographic.{slice_cmp}
-use Rattle.bson.specs.Gathered.{FitsAt}
+use Rattle.bson.specs.Collected.{FitsAt}
 use Rattle.bson.proofs.Members.{key_at, IsBelowAt, stands, fits, fits_first}
 use Rattle.bson.proofs.extjson.text_reader.members.place_of.Goals as goal
 

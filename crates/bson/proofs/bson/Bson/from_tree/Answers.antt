@@ -1,0 +1,21 @@
+use Rattle.serde_json.specs.View.{view}
+use Rattle.bson.specs.View.{bson_view}
+use Rattle.bson_model.proofs.Offered.{read_back_ok_in, value_read_in}
+use Rattle.bson.proofs.bson.Bson.from_tree.Goals as goal
+
+pub returns-clause-ok : goal.returns-clause-ok
+returns-clause-ok c = (value_read_in c.args.doubles bson_view (view c.args.value) c.read.result
+    c.read.ensures.given).ok
+
+pub returns-clause-accepts : goal.returns-clause-accepts
+returns-clause-accepts c = (value_read_in c.args.doubles bson_view (view c.args.value) c.read.result
+    c.read.ensures.given).accepts
+
+pub returns-clause-fault : goal.returns-clause-fault
+returns-clause-fault c = (value_read_in c.args.doubles bson_view (view c.args.value) c.read.result
+    c.read.ensures.given).fault
+
+pub returns-clause-comes_back : goal.returns-clause-comes_back
+returns-clause-comes_back c =
+    read_back_ok_in c.args.doubles bson_view (view c.args.value) c.read.result c.read.ensures.given
+    c.read.ensures.ranged

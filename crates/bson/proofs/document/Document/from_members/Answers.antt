@@ -1,0 +1,24 @@
+use Rattle.serde_json.specs.View.{members_view}
+use Rattle.bson.specs.View.{document_view}
+use Rattle.bson_model.proofs.Offered.{document_read_in, document_read_ascends_in}
+use Rattle.bson.proofs.document.Document.from_members.Goals as goal
+
+pub returns-clause-ok : goal.returns-clause-ok
+returns-clause-ok c =
+    (document_read_in c.args.doubles document_view
+    (members_view c.args.map.entries) c.read_members.result c.read_members.ensures.given).ok
+
+pub returns-clause-accepts : goal.returns-clause-accepts
+returns-clause-accepts c =
+    (document_read_in c.args.doubles document_view
+    (members_view c.args.map.entries) c.read_members.result c.read_members.ensures.given).accepts
+
+pub returns-clause-fault : goal.returns-clause-fault
+returns-clause-fault c =
+    (document_read_in c.args.doubles document_view
+    (members_view c.args.map.entries) c.read_members.result c.read_members.ensures.given).fault
+
+pub returns-clause-ascends : goal.returns-clause-ascends
+returns-clause-ascends c = document_read_ascends_in c.args.doubles document_view
+    (members_view c.args.map.entries) c.read_members.result
+    c.read_members.ensures.given c.ascending.ensures

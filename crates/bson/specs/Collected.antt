@@ -1,0 +1,50 @@
+-- The members of an object by ascending key, and the place of one more. For private clauses.
+use Rattle.std.specs.Prelude.{◌≡◌, ℕ, zero, suc, List, [], ◌∷◌, String}
+use Rattle.std.specs.Prelude.{string_bytes}
+use Rattle.std.specs.Cmp.Lexicographic.{slice_cmp}
+use Rattle.std.specs.Ordering.{nat_cmp}
+use Rattle.std.specs.declared.alloc.Global.{Global}
+use Rattle.std.specs.declared.cmp.Ordering.TheVariants.{Less, Equal, Greater}
+use Rattle.bson_model.specs.Stable.{IsStableByKey, put_each}
+use Rattle.bson_model.specs.Value.{Value, Pairs}
+use Rattle.bson_store.specs.Small.{stored_pairs}
+use Rattle.bson_store.specs.declared.small.Pair.{Pair}
+use Rattle.bson.specs.View.{bson_view, pairs_view}
+use Rattle.bson.specs.declared.bson.Bson.{Bson}
+
+abbrev pub Member : Type 0
+Member = Pair Bson
+
+abbrev pub member : String Global → Bson → Member
+member k v = record { key = k; value = v }
+
+abbrev pub collected_pairs : List Member → Pairs
+collected_pairs ms = pairs_view (stored_pairs ms)
+
+-- ---- members
+
+abbrev pub member_key : Member → List ℕ
+member_key m = string_bytes m.key
+
+abbrev pub member_value : Member → Value
+member_value m = bson_view m.value
+
+-- the pairs after each member in turn is put to them
+abbrev pub put_members : List Member → Pairs → Pairs
+put_members ms ps = put_each member_key member_value ms ps
+
+-- the key stands at the place, and is above all before it
+abbrev pub StandsAt : List ℕ → List Member → ℕ → Type 0
+StandsAt k [] i = ⊥
+StandsAt k (m ∷ ms) zero = slice_cmp nat_cmp k (string_bytes m.key) ≡ Equal
+StandsAt k (m ∷ ms) (suc i) = (slice_cmp nat_cmp k (string_bytes m.key) ≡ Greater) × StandsAt k ms i
+
+-- the key is above all before the place, and below the member there
+abbrev pub FitsAt : List ℕ → List Member → ℕ → Type 0
+FitsAt k [] zero = Unit {0}
+FitsAt k [] (suc i) = ⊥
+FitsAt k (m ∷ ms) zero = slice_cmp nat_cmp k (string_bytes m.key) ≡ Less
+FitsAt k (m ∷ ms) (suc i) = (slice_cmp nat_cmp k (string_bytes m.key) ≡ Greater) × FitsAt k ms i
+
+abbrev pub SortsStably : List Member → List Member → Type 0
+SortsStably ms ns = IsStableByKey member_key ms ns

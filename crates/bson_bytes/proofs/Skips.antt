@@ -1,0 +1,354 @@
+-- A valid value is passed by its length.
+use Rattle.std.proofs.Common.{◌≡◌, ℕ, zero, suc, ◌+◌, ◌-◌, ◌≤◌, ◌^◌, Bool, true, false, cond, ltb, eqb, List, [], ◌∷◌}
+use Rattle.std.proofs.Common.{length, drop, take, Option, Some, None, Result, Ok, Err, refl, sym, ap, ◌∙◌, subst, arith}
+use Rattle.std.specs.Prelude.{option_map, option_and_then}
+use Rattle.std.specs.Str.{is_utf8}
+use Rattle.std.specs.Int.{Width, w32, w64, byte_len, from_le_bytes, cast_signed}
+use Rattle.std.proofs.lemmas.Bool.{ltb-false, le-ltb, eqb-true, eqb-false}
+use Rattle.std.proofs.lemmas.List.{drop-drop, length-drop}
+use Rattle.bson_types.specs.declared.spec.ElementType.{ElementType}
+use Rattle.bson_types.specs.declared.spec.ElementType.TheVariants as tag
+use Rattle.bson_types.specs.Subtype.{subtype_of}
+use Rattle.bson_scalar.specs.Scalar as kind
+use Rattle.bson_model.specs.Value.{Value, Pairs, no_pairs, scalar, code_scope, array, document}
+use Rattle.bson_bytes.specs.declared.fault.Fault.{Fault}
+use Rattle.bson_bytes.specs.declared.fault.FaultKind.{FaultKind}
+use Rattle.bson_bytes.specs.declared.fault.FaultKind.TheVariants.{Short, Length, Utf8, Boolean}
+use Rattle.bson_bytes.specs.declared.keys.DuplicateKeys.TheVariants.{Replace}
+use Rattle.bson_bytes.specs.Fault.{at, ◌>>=◌, or_fault}
+use Rattle.bson_bytes.specs.Grammar.{pair_values, settle}
+use Rattle.bson_bytes.specs.Reading.{byte_at, bytes_at, number_at, size_at, zero_at, split_zero, with_byte_before, utf8_at, name_at}
+use Rattle.bson_bytes.specs.Reading.{text_at, old_binary_at, plain_binary_at, binary_at, boolean_at, regex_at, pointer_at}
+use Rattle.bson_bytes.specs.Reading.{timestamp_at, mapped, settled, scope_at, value_with, document_in}
+use Rattle.bson_bytes.specs.Skip.{skip, length_at, skip_sized, skip_regex, skip_value}
+
+-- ---- steps
+
+pub bind_ok : {A B : Type 0} (r : Result A Fault) (f : A → Result B Fault) (y : B) → (r >>= f) ≡ Ok y
+    → (x : A) × (r ≡ Ok x) × (f x ≡ Ok y)
+bind_ok (Ok x) f y e = (x, refl, e)
+bind_ok (Err d) f y e = absurd cc
+
+abbrev done : {A : Type 0} → A → Result A Fault
+done x = Ok x
+
+pub ok_is : {A : Type 0} (x y : A) → done x ≡ done y → x ≡ y
+ok_is x y e = cc
+
+pub unless_ok : {A : Type 0} (b : Bool) (d : Fault) (r : Result A Fault) (y : A) → cond b (Err d) r ≡ Ok y
+    → (b ≡ false) × (r ≡ Ok y)
+unless_ok true d r y e = absurd cc
+unless_ok false d r y e = (refl, e)
+
+pub if_ok : {A : Type 0} (b : Bool) (r : Result A Fault) (d : Fault) (y : A) → cond b r (Err d) ≡ Ok y
+    → (b ≡ true) × (r ≡ Ok y)
+if_ok true r d y e = (refl, e)
+if_ok false r d y e = absurd cc
+
+pub or_fault_ok : {A : Type 0} (o : Option A) (w : FaultKind) (bytes : List ℕ) (x : A) → or_fault o w bytes ≡ Ok x
+    → o ≡ Some x
+or_fault_ok (Some y) w bytes x e = ap Some (ok_is y x e)
+or_fault_ok None w bytes x e = absurd cc
+
+pub first_is : {A B : Type 0} (a : A) (x : B) (b : A) (y : B) → done {A = A × B} (a, x) ≡ done (b, y) → a ≡ b
+first_is {A} {B} a x b y e = ap (λ (p : A × B). p.0) (ok_is (a, x) (b, y) e)
+
+pub rest_is : {A B : Type 0} (a : A) (x : B) (b : A) (y : B) → done {A = A × B} (a, x) ≡ done (b, y) → x ≡ y
+rest_is {A} {B} a x b y e = ap (λ (p : A × B). p.1) (ok_is (a, x) (b, y) e)
+
+-- what is made of a part that was read
+abbrev pub made : {A B : Type 0} → (A → B) → Result (A × List ℕ) Fault → Result (B × List ℕ) Fault
+made f read = read >>= λ x. Ok (f x.0, x.1)
+
+pub stepped : {A B : Type 0} (f : A → B) (r : Result (A × List ℕ) Fault) (y : B) (rest : List ℕ)
+    → made f r ≡ Ok (y, rest) → (x : A) × (r ≡ Ok (x, rest))
+stepped f (Ok x) y rest e = (x.0, ap (λ (c : List ℕ). Ok (x.0, c)) (rest_is (f x.0) x.1 y rest e))
+stepped f (Err d) y rest e = absurd cc
+
+-- ---- what follows so many bytes
+
+abbrev pub Follows : ℕ → List ℕ → List ℕ → Type 0
+Follows n bytes rest = (rest ≡ drop n bytes) × (n ≤ length bytes)
+
+pub follows_length : (n : ℕ) (bytes rest : List ℕ) → Follows n bytes rest → n + length rest ≡ length bytes
+follows_length n bytes rest h = omega (arith, ap length h.0, length-drop n bytes, h.1)
+
+pub follows_then : (n m : ℕ) (a b c : List ℕ) → Follows n a b → Follows m b c → Follows (n + m) a c
+follows_then n m a b c h g =
+    (g.0 ∙ ap (drop m) h.0 ∙ drop-drop m n a, omega (arith, h.1, g.1, follows_length n a b h))
+
+skip_follows : (n : ℕ) (bytes rest : List ℕ) → Follows n bytes rest → skip n bytes ≡ Some rest
+skip_follows n bytes rest h = rw (le-ltb (length bytes) n h.1, h.0) refl
+
+pub byte_follows : (bytes : List ℕ) (b : ℕ) (rest : List ℕ) → byte_at bytes ≡ Ok (b, rest) → Follows 1 bytes rest
+byte_follows [] b rest e = absurd cc
+byte_follows (c ∷ bytes) b rest e = (sym (rest_is c bytes b rest e), omega arith)
+
+zero_follows : (bytes rest : List ℕ) → zero_at bytes ≡ Ok rest → Follows 1 bytes rest
+zero_follows [] rest e = absurd cc
+zero_follows (b ∷ bytes) rest e = (sym (ok_is bytes rest (if_ok (eqb b 0) (Ok bytes) _ rest e).1), omega arith)
+
+bytes_follow : (n : ℕ) (bytes s rest : List ℕ) → bytes_at n bytes ≡ Ok (s, rest) → Follows n bytes rest
+bytes_follow n bytes s rest e =
+    let g = unless_ok (ltb (length bytes) n) (at Short bytes) (Ok (take n bytes, drop n bytes)) (s, rest) e in
+    (sym (rest_is (take n bytes) (drop n bytes) s rest g.1), ltb-false _ _ g.0)
+
+number_follows : (w : Width) (bytes : List ℕ) (n : ℕ) (rest : List ℕ) → number_at w bytes ≡ Ok (n, rest)
+    → Follows (byte_len w) bytes rest
+number_follows w bytes n rest e =
+    let read = from_le_bytes w (take (byte_len w) bytes) in
+    let g = unless_ok (ltb (length bytes) (byte_len w)) (at Short bytes) (Ok (read, drop (byte_len w) bytes)) (n, rest) e in
+    (sym (rest_is read (drop (byte_len w) bytes) n rest g.1), ltb-false _ _ g.0)
+
+-- the length that was read
+pub size_follows : (bytes : List ℕ) (n : ℕ) (rest : List ℕ) → size_at bytes ≡ Ok (n, rest)
+    → (length_at bytes ≡ Some n) × Follows 4 bytes rest
+unfolding size_at
+size_follows bytes n rest e =
+    let b = bind_ok (number_at w32 bytes) (λ n. cond (ltb n.0 (2 ^ 31)) (Ok n) (Err (at Length bytes))) (n, rest) e in
+    let same = ok_is b.0 (n, rest) (if_ok (ltb b.0.0 (2 ^ 31)) (Ok b.0) (at Length bytes) (n, rest) b.2).1 in
+    let read : number_at w32 bytes ≡ Ok (n, rest) = b.1 ∙ ap Ok same in
+    let first = from_le_bytes w32 (take 4 bytes) in
+    let g = unless_ok (ltb (length bytes) 4) (at Short bytes) (Ok (first, drop 4 bytes)) (n, rest) read in
+    let n-is : first ≡ n = first_is first (drop 4 bytes) n rest g.1 in
+    (rw g.0 (ap Some n-is), number_follows w32 bytes n rest read)
+
+pub sized_follows : (n more : ℕ) (bytes rest : List ℕ) → length_at bytes ≡ Some n → Follows (n + more) bytes rest
+    → skip_sized more bytes ≡ Some rest
+sized_follows n more bytes rest e h = ap (option_and_then (λ n. skip (n + more) bytes)) e ∙ skip_follows (n + more) bytes rest h
+
+-- ---- names and texts
+
+-- the rest follows some number of bytes
+abbrev pub Lookahead : List ℕ → List ℕ → Type 0
+Lookahead bytes rest = (n : ℕ) × Follows n bytes rest
+
+pub lookahead_then : (n : ℕ) (a b c : List ℕ) → Follows n a b → Lookahead b c → Lookahead a c
+lookahead_then n a b c h g = (n + g.0, follows_then n g.0 a b c h g.1)
+
+split_more : (b : ℕ) (bytes k rest : List ℕ) (o : Option (List ℕ × List ℕ))
+    → ((j r : List ℕ) → o ≡ Some (j, r) → Follows (length j + 1) bytes r) → option_map (with_byte_before b) o ≡ Some (k, rest)
+    → Follows (length k + 1) (b ∷ bytes) rest
+split_more b bytes k rest None f e = absurd cc
+split_more b bytes k rest (Some p) f e =
+    let same : ◌≡◌ {A = List ℕ × List ℕ} (b ∷ p.0, p.1) (k, rest) = cc in
+    subst (λ (q : List ℕ × List ℕ). Follows (length q.0 + 1) (b ∷ bytes) q.1) same
+    (subst (λ (n : ℕ). Follows n (b ∷ bytes) p.1) (omega arith)
+    (follows_then 1 (length p.0 + 1) (b ∷ bytes) bytes p.1 (refl, omega arith) (f p.0 p.1 refl)))
+
+split_if : (z : Bool) (b : ℕ) (bytes k rest : List ℕ)
+    → ((j r : List ℕ) → split_zero bytes ≡ Some (j, r) → Follows (length j + 1) bytes r)
+    → cond z (Some ([], bytes)) (option_map (with_byte_before b) (split_zero bytes)) ≡ Some (k, rest) → Follows (length k + 1) (b ∷ bytes) rest
+split_if true b bytes k rest f e =
+    let same : ◌≡◌ {A = List ℕ × List ℕ} ([], bytes) (k, rest) = cc in
+    subst (λ (q : List ℕ × List ℕ). Follows (length q.0 + 1) (b ∷ bytes) q.1) same (refl, omega arith)
+split_if false b bytes k rest f e = split_more b bytes k rest (split_zero bytes) f e
+
+-- the bytes after the 0 that ends a name
+pub split_follows : (bytes k rest : List ℕ) → split_zero bytes ≡ Some (k, rest) → Follows (length k + 1) bytes rest
+split_follows [] k rest e = absurd cc
+split_follows (b ∷ bytes) k rest e = split_if (eqb b 0) b bytes k rest (λ j r h. split_follows bytes j r h) e
+
+pub split_lookahead : (bytes k rest : List ℕ) → split_zero bytes ≡ Some (k, rest) → Lookahead bytes rest
+split_lookahead bytes k rest e = (length k + 1, split_follows bytes k rest e)
+
+-- a name is the bytes before the first 0, and UTF-8
+pub name_split : (bytes k rest : List ℕ) → name_at bytes ≡ Ok (k, rest)
+    → (split_zero bytes ≡ Some (k, rest)) × (is_utf8 k ≡ true) × Lookahead bytes rest
+unfolding name_at
+name_split bytes k rest e =
+    let b = bind_ok (or_fault (split_zero bytes) Short bytes) (λ p. utf8_at p.0 bytes >>= λ s. Ok (s, p.1)) (k, rest) e in
+    let c = bind_ok (utf8_at b.0.0 bytes) (λ s. Ok (s, b.0.1)) (k, rest) b.2 in
+    let u = if_ok (is_utf8 b.0.0) (Ok b.0.0) (at Utf8 bytes) c.0 c.1 in
+    let same : ◌≡◌ {A = List ℕ × List ℕ} b.0 (k, rest) =
+    ap (λ (s : List ℕ). (s, b.0.1)) (ok_is b.0.0 c.0 u.1) ∙ ok_is (c.0, b.0.1) (k, rest) c.2 in
+    let split : split_zero bytes ≡ Some (k, rest) = or_fault_ok (split_zero bytes) Short bytes b.0 b.1 ∙ ap Some same in
+    (split, subst (λ (q : List ℕ × List ℕ). is_utf8 q.0 ≡ true) same u.0, split_lookahead bytes k rest split)
+
+-- where a value ends, and that its length says so
+abbrev pub Skips : ElementType → List ℕ → List ℕ → Type 0
+Skips k bytes rest = (skip_value k bytes ≡ Some rest) × Lookahead bytes rest
+
+-- a length, so many bytes, and some more
+abbrev pub Sized : ℕ → List ℕ → List ℕ → Type 0
+Sized more bytes rest = (n : ℕ) × (length_at bytes ≡ Some n) × Follows (n + more) bytes rest
+
+sized_skips : (more : ℕ) (bytes rest : List ℕ) → Sized more bytes rest
+    → (skip_sized more bytes ≡ Some rest) × Lookahead bytes rest
+sized_skips more bytes rest h = (sized_follows h.0 more bytes rest h.1 h.2, (h.0 + more, h.2))
+
+fixed_skips : (n : ℕ) (bytes rest : List ℕ) → Follows n bytes rest → (skip n bytes ≡ Some rest) × Lookahead bytes rest
+fixed_skips n bytes rest h = (skip_follows n bytes rest h, (n, h))
+
+none_skips : (bytes rest : List ℕ) (v w : Value) → done {A = Value × List ℕ} (v, bytes) ≡ done (w, rest)
+    → (skip 0 bytes ≡ Some rest) × Lookahead bytes rest
+none_skips bytes rest v w e = fixed_skips 0 bytes rest (sym (rest_is v bytes w rest e), omega arith)
+
+one_less : (n : ℕ) → (n ≡ 0 → ⊥) → 4 + (n - 1 + 1) ≡ n + 4
+one_less zero h = absurd (h refl)
+one_less (suc n) h = omega arith
+
+pub text_sized : (bytes s rest : List ℕ) → text_at bytes ≡ Ok (s, rest) → Sized 4 bytes rest
+unfolding text_at
+text_sized bytes s rest e =
+    let b = bind_ok (size_at bytes) (λ n. cond (eqb n.0 0) (Err (at Length bytes)) (bytes_at (n.0 - 1) n.1 >>= λ s. zero_at s.1 >>= λ rest. utf8_at s.0 n.1 >>= λ t. Ok (t, rest))) (s, rest) e in
+    let n = b.0 in
+    let g = unless_ok (eqb n.0 0) (at Length bytes) (bytes_at (n.0 - 1) n.1 >>= λ s. zero_at s.1 >>= λ rest. utf8_at s.0 n.1 >>= λ t. Ok (t, rest)) (s, rest) b.2 in
+    let c = bind_ok (bytes_at (n.0 - 1) n.1) (λ s. zero_at s.1 >>= λ rest. utf8_at s.0 n.1 >>= λ t. Ok (t, rest)) (s, rest) g.1 in
+    let d = bind_ok (zero_at c.0.1) (λ rest. utf8_at c.0.0 n.1 >>= λ t. Ok (t, rest)) (s, rest) c.2 in
+    let u = bind_ok (utf8_at c.0.0 n.1) (λ t. Ok (t, d.0)) (s, rest) d.2 in
+    let size = size_follows bytes n.0 n.1 b.1 in
+    let text = bytes_follow (n.0 - 1) n.1 c.0.0 c.0.1 c.1 in
+    let end : Follows 1 c.0.1 rest = subst (Follows 1 c.0.1) (rest_is u.0 d.0 s rest u.2) (zero_follows c.0.1 d.0 d.1) in
+    let whole = follows_then 4 (n.0 - 1 + 1) bytes n.1 rest size.1 (follows_then (n.0 - 1) 1 n.1 c.0.1 rest text end) in
+    (n.0, size.0, subst (λ (k : ℕ). Follows k bytes rest) (one_less n.0 (eqb-false n.0 0 g.0)) whole)
+
+text_skips : (f : List ℕ → Value) (bytes : List ℕ) (v : Value) (rest : List ℕ)
+    → made f (text_at bytes) ≡ Ok (v, rest) → (skip_sized 4 bytes ≡ Some rest) × Lookahead bytes rest
+text_skips f bytes v rest e =
+    let s = stepped f (text_at bytes) v rest e in
+    sized_skips 4 bytes rest (text_sized bytes s.0 rest s.1)
+
+-- ---- other scalars
+
+number_skips : (w : Width) (f : ℕ → Value) (bytes : List ℕ) (v : Value) (rest : List ℕ)
+    → made f (number_at w bytes) ≡ Ok (v, rest) → (skip (byte_len w) bytes ≡ Some rest) × Lookahead bytes rest
+number_skips w f bytes v rest e =
+    let n = stepped f (number_at w bytes) v rest e in
+    fixed_skips (byte_len w) bytes rest (number_follows w bytes n.0 rest n.1)
+
+bytes_skip : (n : ℕ) (f : List ℕ → Value) (bytes : List ℕ) (v : Value) (rest : List ℕ)
+    → made f (bytes_at n bytes) ≡ Ok (v, rest) → (skip n bytes ≡ Some rest) × Lookahead bytes rest
+bytes_skip n f bytes v rest e =
+    let s = stepped f (bytes_at n bytes) v rest e in
+    fixed_skips n bytes rest (bytes_follow n bytes s.0 rest s.1)
+
+binary_by : (old : Bool) (b n : ℕ) (bytes : List ℕ) (v : Value) (rest : List ℕ)
+    → cond old (old_binary_at n bytes) (plain_binary_at b n bytes) ≡ Ok (v, rest) → Follows n bytes rest
+binary_by true b n bytes v rest e =
+    let m = bind_ok (size_at bytes) (λ m. cond (eqb (m.0 + 4) n) (bytes_at m.0 m.1 >>= λ s. Ok (scalar (kind.binary (subtype_of 2) s.0), s.1)) (Err (at Length bytes))) (v, rest) e in
+    let g = if_ok (eqb (m.0.0 + 4) n) (bytes_at m.0.0 m.0.1 >>= λ s. Ok (scalar (kind.binary (subtype_of 2) s.0), s.1)) (at Length bytes) (v, rest) m.2 in
+    let s = stepped (λ s. scalar (kind.binary (subtype_of 2) s)) (bytes_at m.0.0 m.0.1) v rest g.1 in
+    let whole = follows_then 4 m.0.0 bytes m.0.1 rest (size_follows bytes m.0.0 m.0.1 m.1).1 (bytes_follow m.0.0 m.0.1 s.0 rest s.1) in
+    subst (λ (k : ℕ). Follows k bytes rest) (omega (arith, eqb-true (m.0.0 + 4) n g.0)) whole
+binary_by false b n bytes v rest e =
+    let s = stepped (λ s. scalar (kind.binary (subtype_of b) s)) (bytes_at n bytes) v rest e in
+    bytes_follow n bytes s.0 rest s.1
+
+binary_skips : (bytes : List ℕ) (v : Value) (rest : List ℕ) → binary_at bytes ≡ Ok (v, rest)
+    → (skip_sized 5 bytes ≡ Some rest) × Lookahead bytes rest
+unfolding binary_at
+binary_skips bytes v rest e =
+    let b = bind_ok (size_at bytes) (λ n. byte_at n.1 >>= λ b. cond (eqb b.0 2) (old_binary_at n.0 b.1) (plain_binary_at b.0 n.0 b.1)) (v, rest) e in
+    let c = bind_ok (byte_at b.0.1) (λ c. cond (eqb c.0 2) (old_binary_at b.0.0 c.1) (plain_binary_at c.0 b.0.0 c.1)) (v, rest) b.2 in
+    let size = size_follows bytes b.0.0 b.0.1 b.1 in
+    let front = follows_then 4 1 bytes b.0.1 c.0.1 size.1 (byte_follows b.0.1 c.0.0 c.0.1 c.1) in
+    let inner = binary_by (eqb c.0.0 2) c.0.0 b.0.0 c.0.1 v rest c.2 in
+    sized_skips 5 bytes rest (b.0.0, size.0, subst (λ (k : ℕ). Follows k bytes rest) (omega arith) (follows_then 5 b.0.0 bytes c.0.1 rest front inner))
+
+boolean_by : (a b : Bool) (x bytes : List ℕ) (v : Value) (rest : List ℕ)
+    → cond {A = Result (Value × List ℕ) Fault} a (Ok (scalar (kind.boolean false), x)) (cond b (Ok (scalar (kind.boolean true), x)) (Err (at Boolean bytes))) ≡ Ok (v, rest)
+    → x ≡ rest
+boolean_by true b x bytes v rest e = rest_is (scalar (kind.boolean false)) x v rest e
+boolean_by false true x bytes v rest e = rest_is (scalar (kind.boolean true)) x v rest e
+boolean_by false false x bytes v rest e = absurd cc
+
+boolean_skips : (bytes : List ℕ) (v : Value) (rest : List ℕ) → boolean_at bytes ≡ Ok (v, rest)
+    → (skip 1 bytes ≡ Some rest) × Lookahead bytes rest
+unfolding boolean_at
+boolean_skips bytes v rest e =
+    let b = bind_ok (byte_at bytes) (λ b. cond (eqb b.0 0) (Ok (scalar (kind.boolean false), b.1)) (cond (eqb b.0 1) (Ok (scalar (kind.boolean true), b.1)) (Err (at Boolean bytes)))) (v, rest) e in
+    let same : b.0.1 ≡ rest = boolean_by (eqb b.0.0 0) (eqb b.0.0 1) b.0.1 bytes v rest b.2 in
+    fixed_skips 1 bytes rest (subst (Follows 1 bytes) same (byte_follows bytes b.0.0 b.0.1 b.1))
+
+regex_skips : (bytes : List ℕ) (v : Value) (rest : List ℕ) → regex_at bytes ≡ Ok (v, rest)
+    → (skip_regex bytes ≡ Some rest) × Lookahead bytes rest
+unfolding regex_at
+regex_skips bytes v rest e =
+    let a = bind_ok (name_at bytes) (λ a. name_at a.1 >>= λ o. Ok (scalar (kind.regex a.0 o.0), o.1)) (v, rest) e in
+    let o = stepped (λ o. scalar (kind.regex a.0.0 o)) (name_at a.0.1) v rest a.2 in
+    let first = name_split bytes a.0.0 a.0.1 a.1 in
+    let second = name_split a.0.1 o.0 rest o.1 in
+    (rw (first.0, second.0) refl, lookahead_then first.2.0 bytes a.0.1 rest first.2.1 second.2)
+
+pointer_skips : (bytes : List ℕ) (v : Value) (rest : List ℕ) → pointer_at bytes ≡ Ok (v, rest)
+    → (skip_sized 16 bytes ≡ Some rest) × Lookahead bytes rest
+unfolding pointer_at
+pointer_skips bytes v rest e =
+    let a = bind_ok (text_at bytes) (λ a. bytes_at 12 a.1 >>= λ id. Ok (scalar (kind.db_pointer a.0 id.0), id.1)) (v, rest) e in
+    let id = stepped (λ id. scalar (kind.db_pointer a.0.0 id)) (bytes_at 12 a.0.1) v rest a.2 in
+    let text = text_sized bytes a.0.0 a.0.1 a.1 in
+    let whole = follows_then (text.0 + 4) 12 bytes a.0.1 rest text.2 (bytes_follow 12 a.0.1 id.0 rest id.1) in
+    sized_skips 16 bytes rest (text.0, text.1, subst (λ (k : ℕ). Follows k bytes rest) (omega arith) whole)
+
+timestamp_skips : (bytes : List ℕ) (v : Value) (rest : List ℕ) → timestamp_at bytes ≡ Ok (v, rest)
+    → (skip 8 bytes ≡ Some rest) × Lookahead bytes rest
+unfolding timestamp_at
+timestamp_skips bytes v rest e =
+    let i = bind_ok (number_at w32 bytes) (λ i. number_at w32 i.1 >>= λ t. Ok (scalar (kind.timestamp t.0 i.0), t.1)) (v, rest) e in
+    let t = stepped (λ t. scalar (kind.timestamp t i.0.0)) (number_at w32 i.0.1) v rest i.2 in
+    fixed_skips 8 bytes rest (follows_then 4 4 bytes i.0.1 rest (number_follows w32 bytes i.0.0 i.0.1 i.1) (number_follows w32 i.0.1 t.0 rest t.1))
+
+-- ---- documents
+
+-- a document has the length that it begins with
+abbrev pub DocumentSkips : ℕ → Type 0
+DocumentSkips d = (bytes : List ℕ) (ps : Pairs) (rest : List ℕ) → document_in Replace d None bytes ≡ Ok (ps, rest)
+    → Sized 0 bytes rest
+
+pub same_length : (n a b c m : ℕ) → n + c ≡ m → a + b + c ≡ m → n + 0 ≡ a + b
+same_length n a b c m e f = omega arith
+
+scope_sized : (d : ℕ) → DocumentSkips d → (bytes : List ℕ) (v : Value) (rest : List ℕ)
+    → scope_at (document_in Replace d None) bytes ≡ Ok (v, rest) → Sized 0 bytes rest
+unfolding scope_at
+scope_sized d h bytes v rest e =
+    let b = bind_ok (size_at bytes) (λ n. text_at n.1 >>= λ s. settled no_pairs (document_in Replace d None s.1) >>= λ x. cond (eqb (n.0 + length x.1) (length bytes)) (Ok (code_scope s.0 x.0, x.1)) (Err (at Length bytes))) (v, rest) e in
+    let s = bind_ok (text_at b.0.1) (λ s. settled no_pairs (document_in Replace d None s.1) >>= λ x. cond (eqb (b.0.0 + length x.1) (length bytes)) (Ok (code_scope s.0 x.0, x.1)) (Err (at Length bytes))) (v, rest) b.2 in
+    let x = bind_ok (settled no_pairs (document_in Replace d None s.0.1)) (λ x. cond (eqb (b.0.0 + length x.1) (length bytes)) (Ok (code_scope s.0.0 x.0, x.1)) (Err (at Length bytes))) (v, rest) s.2 in
+    let g = if_ok (eqb (b.0.0 + length x.0.1) (length bytes)) (Ok (code_scope s.0.0 x.0.0, x.0.1)) (at Length bytes) (v, rest) x.2 in
+    let same : x.0.1 ≡ rest = rest_is (code_scope s.0.0 x.0.0) x.0.1 v rest g.1 in
+    let read = stepped (settle no_pairs) (document_in Replace d None s.0.1) x.0.0 x.0.1 x.1 in
+    let size = size_follows bytes b.0.0 b.0.1 b.1 in
+    let text = text_sized b.0.1 s.0.0 s.0.1 s.1 in
+    let scope = h s.0.1 read.0 x.0.1 read.1 in
+    let more = text.0 + 4 + (scope.0 + 0) in
+    let whole : Follows (4 + more) bytes x.0.1 = follows_then 4 more bytes b.0.1 x.0.1 size.1
+    (follows_then (text.0 + 4) (scope.0 + 0) b.0.1 s.0.1 x.0.1 text.2 scope.2) in
+    let count : b.0.0 + 0 ≡ 4 + more =
+    same_length b.0.0 4 more (length x.0.1) (length bytes) (eqb-true _ _ g.0) (follows_length (4 + more) bytes x.0.1 whole) in
+    (b.0.0, size.0, subst (Follows (b.0.0 + 0) bytes) same (subst (λ (k : ℕ). Follows k bytes x.0.1) (sym count) whole))
+
+-- an array or a document that is a value
+inner_skips : {A : Type 0} (d : ℕ) → DocumentSkips d → (f : Pairs → A) (g : A → Value) (bytes : List ℕ) (v : Value) (rest : List ℕ)
+    → made g (mapped f (document_in Replace d None bytes)) ≡ Ok (v, rest)
+    → (skip_sized 0 bytes ≡ Some rest) × Lookahead bytes rest
+inner_skips d h f g bytes v rest e =
+    let x = stepped g (mapped f (document_in Replace d None bytes)) v rest e in
+    let read = stepped f (document_in Replace d None bytes) x.0 rest x.1 in
+    sized_skips 0 bytes rest (h bytes read.0 rest read.1)
+
+pub value_skips : (d : ℕ) → DocumentSkips d → (k : ElementType) (bytes : List ℕ) (v : Value) (rest : List ℕ)
+    → value_with Replace (document_in Replace d) k bytes ≡ Ok (v, rest) → Skips k bytes rest
+unfolding value_with
+value_skips d h tag.Double bytes v rest e = number_skips w64 (λ n. scalar (kind.double n)) bytes v rest e
+value_skips d h tag.String bytes v rest e = text_skips (λ s. scalar (kind.text s)) bytes v rest e
+value_skips d h tag.EmbeddedDocument bytes v rest e = inner_skips d h (settle no_pairs) document bytes v rest e
+value_skips d h tag.Array bytes v rest e = inner_skips d h pair_values array bytes v rest e
+value_skips d h tag.Binary bytes v rest e = binary_skips bytes v rest e
+value_skips d h tag.Undefined bytes v rest e = none_skips bytes rest (scalar kind.undefined) v e
+value_skips d h tag.ObjectId bytes v rest e = bytes_skip 12 (λ s. scalar (kind.object_id s)) bytes v rest e
+value_skips d h tag.Boolean bytes v rest e = boolean_skips bytes v rest e
+value_skips d h tag.DateTime bytes v rest e = number_skips w64 (λ n. scalar (kind.date (cast_signed w64 n))) bytes v rest e
+value_skips d h tag.Null bytes v rest e = none_skips bytes rest (scalar kind.null) v e
+value_skips d h tag.RegularExpression bytes v rest e = regex_skips bytes v rest e
+value_skips d h tag.DbPointer bytes v rest e = pointer_skips bytes v rest e
+value_skips d h tag.JavaScriptCode bytes v rest e = text_skips (λ s. scalar (kind.code s)) bytes v rest e
+value_skips d h tag.Symbol bytes v rest e = text_skips (λ s. scalar (kind.symbol s)) bytes v rest e
+value_skips d h tag.JavaScriptCodeWithScope bytes v rest e = sized_skips 0 bytes rest (scope_sized d h bytes v rest e)
+value_skips d h tag.Int32 bytes v rest e = number_skips w32 (λ n. scalar (kind.int32 (cast_signed w32 n))) bytes v rest e
+value_skips d h tag.Timestamp bytes v rest e = timestamp_skips bytes v rest e
+value_skips d h tag.Int64 bytes v rest e = number_skips w64 (λ n. scalar (kind.int64 (cast_signed w64 n))) bytes v rest e
+value_skips d h tag.Decimal128 bytes v rest e = bytes_skip 16 (λ s. scalar (kind.decimal s)) bytes v rest e
+value_skips d h tag.MaxKey bytes v rest e = none_skips bytes rest (scalar kind.max_key) v e
+value_skips d h tag.MinKey bytes v rest e = none_skips bytes rest (scalar kind.min_key) v e

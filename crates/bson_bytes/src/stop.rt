@@ -1,0 +1,53 @@
+//! Why reading stops.
+ghost use Rattle.std.specs.Prelude.{◌≡◌};
+ghost use Rattle.bson_bytes.specs.Fault.{at};
+ghost use Rattle.bson_bytes.specs.declared.stop.Stop.TheVariants as stops;
+
+use crate::fault::{Fault, FaultKind};
+use std::alloc::{AllocError, AllocFailed};
+
+/// Why reading stops.
+#[derive(Clone, Copy, Debug, PartialEq, Eq)]
+pub enum Stop {
+    /// The bytes have a fault.
+    Fault(Fault),
+    /// A document may have a duplicate key, and the sink can't replace the value that it wrote. The
+    /// caller reads the bytes into values.
+    PossibleDuplicate,
+    /// An allocation failed.
+    OutOfMemory,
+}
+
+/// Returns the fault of this kind at the first of these bytes, which end the input.
+pub(crate) fn fault_at(kind: FaultKind, bytes: &[u8]) -> Stop
+    ensures { result ≡ stops.Fault (at kind bytes.now) }
+{
+    Stop::Fault(Fault {
+        kind,
+        left: bytes.len(),
+    })
+}
+
+impl From<Fault> for Stop {
+    ghost from_gives = { λ f e. e ≡ stops.Fault f };
+
+    fn from(fault: Fault) -> Stop {
+        Stop::Fault(fault)
+    }
+}
+
+impl From<AllocError> for Stop {
+    ghost from_gives = { λ _ e. e ≡ stops.OutOfMemory };
+
+    fn from(_refused: AllocError) -> Stop {
+        Stop::OutOfMemory
+    }
+}
+
+impl<T: Drop> From<AllocFailed<T>> for Stop {
+    ghost from_gives = { λ _ e. e ≡ stops.OutOfMemory };
+
+    fn from(_refused: AllocFailed<T>) -> Stop {
+        Stop::OutOfMemory
+    }
+}

@@ -1,0 +1,272 @@
+//! A sink that writes Extended JSON (MongoDB Extended JSON v2).
+ghost use Rattle.std.specs.Prelude.{◌≡◌, ◌≢◌, ◌≤◌, true, [], length, take, drop, string_bytes, IsTrue, OnOk};
+ghost use Rattle.std.specs.List.{AllPairs};
+ghost use Rattle.std.specs.List.Sorted.{IsStrictlyIncreasing};
+ghost use Rattle.bson_bytes.specs.Reading.{reads_bytes};
+ghost use Rattle.bson_bytes.specs.declared.keys.DuplicateKeys.TheVariants.{Replace};
+ghost use Rattle.json.specs.Print.{print as print_tokens};
+ghost use Rattle.bson_scalar.specs.Normal.{writable_scalar_in};
+ghost use Rattle.bson_scalar.specs.View.{scalar_view};
+ghost use Rattle.bson_scalar.specs.declared.form.Doubles.TheVariants.{Finite};
+ghost use Rattle.bson_bytes.specs.Digest.{digest};
+ghost use Rattle.bson_bytes.specs.Printed.{IsPrinted};
+ghost use Rattle.bson_bytes.specs.Source.{ReadsAllTo};
+
+use crate::fixed::{FixedScalar, to_scalar};
+use crate::parts::name_at;
+use crate::sink::ValueSink;
+use crate::source::read_document;
+use crate::stop::Stop;
+use bson_scalar::code::put_code;
+use bson_scalar::form::{Doubles, Form};
+use bson_scalar::scalar::Scalar;
+use bson_scalar::write::print_scalar_in;
+use bson_scalar::write_error::WriteError;
+use bson_types::binary::Binary;
+use bson_types::db_pointer::DbPointer;
+use bson_types::oid::ObjectId;
+use bson_types::regex::Regex;
+use bson_types::spec::BinarySubtype;
+use json::Writer;
+use std::alloc::{AllocError, Global};
+
+// Digests of keys are polynomials in this odd number.
+const BASE: u64 = 0x9E37_79B9_7F4A_7C15;
+
+/// A sink that writes the compact text of values in a form, each document's keys in their own order.
+/// It keeps a digest of each key of the open documents.
+#[derive(Drop)]
+pub struct TextSink {
+    pub(crate) alloc: Global,
+    pub(crate) form: Form,
+    pub(crate) out: Writer,
+    pub(crate) digests: Vec<u64>,
+}
+
+/// Reads all of the bytes as a document, and returns its compact text in the form, each document's
+/// keys in their own order. The text is written while the bytes are read, without a value in memory.
+///
+/// # Errors
+///
+/// - `Stop::Fault` has the first fault of the bytes.
+/// - `Stop::PossibleDuplicate`: some document may have a duplicate key.
+/// - `Stop::OutOfMemory`: an allocation failed.
+pub fn document_text(alloc: Global, form: Form, bytes: &[u8], depth: usize) -> Result<String, Stop>
+    ensures { ReadsAllTo (λ e. Unit {0}) (λ ps s. IsPrinted form ps (string_bytes s)) result (reads_bytes depth bytes.now) }
+{
+    let mut sink = TextSink {
+        alloc,
+        form,
+        out: Writer::new(Vec::with_capacity(alloc, first_room(bytes))?),
+        digests: Vec::new(alloc),
+    };
+    read_document(bytes, depth, &mut sink)?;
+    Ok(into_text(sink.out))
+}
+
+// Returns a capacity for the text of a document with numbers and short strings.
+fn first_room(bytes: &[u8]) -> usize {
+    match bytes.len().checked_mul(2) {
+        Some(room) => room,
+        None => bytes.len(),
+    }
+}
+
+// Returns the text that was written.
+fn into_text(out: Writer) -> String
+    requires { out.before ≡ [] }
+    ensures { string_bytes result ≡ print_tokens out.tokens }
+{
+    let Ok(text) = String::from_utf8(out.into_inner()) else {
+        unreachable!();
+    };
+    text
+}
+
+impl TextSink {
+    ghost use Rattle.bson_model.specs.Value.{scalar};
+    ghost use Rattle.bson_bytes.specs.TextWritten.{ValueSent};
+
+    // Writes a scalar.
+    fn scalar(&mut self, value: Scalar) -> Result<(), AllocError>
+        ensures { OnOk result (ValueSent self.old (scalar (scalar_view value)) self.new) }
+    {
+        can_be_written(&value);
+        match print_scalar_in(self.alloc, Doubles::Finite, self.form, value, &mut self.out) {
+            Ok(()) => Ok(()),
+            Err(WriteError::OutOfMemory) => Err(AllocError),
+            Err(WriteError::FiniteDouble) => unreachable!(),
+        }
+    }
+}
+
+impl ValueSink for TextSink {
+    type Value = ();
+
+    type Open = usize;
+
+    type Name = ();
+
+    type Document = ();
+
+    type Code = ();
+
+    ghost use Rattle.bson_bytes.specs.TextWritten.{ValueSent, PairsSent, Begun, Named, Coded};
+
+    ghost keys = { Replace };
+
+    ghost may = { λ e. Unit {0} };
+
+    ghost wrote = { λ old v x new. ValueSent old v new };
+
+    ghost begun = { λ b old ps o new. Begun b old ps o new };
+
+    ghost named = { λ b old k x new. Named b old k new };
+
+    ghost framed = { λ old ps x new. PairsSent old ps new };
+
+    ghost coded = { λ old s x new. Coded old s new };
+
+    fn fixed(&mut self, value: FixedScalar) -> Result<(), AllocError> {
+        self.scalar(to_scalar(value))
+    }
+
+    fn string(&mut self, text: &str) -> Result<(), AllocError> {
+        Ok(self.out.string(text)?)
+    }
+
+    fn symbol(&mut self, text: &str) -> Result<(), AllocError> {
+        self.scalar(Scalar::Symbol(String::from_str(self.alloc, text)?))
+    }
+
+    fn code(&mut self, text: &str) -> Result<(), AllocError> {
+        self.scalar(Scalar::JavaScriptCode(String::from_str(self.alloc, text)?))
+    }
+
+    fn regex(&mut self, pattern: &str, options: &str) -> Result<(), AllocError> {
+        let pattern = String::from_str(self.alloc, pattern)?;
+        let options = String::from_str(self.alloc, options)?;
+        self.scalar(Scalar::RegularExpression(Regex { pattern, options }))
+    }
+
+    fn binary(&mut self, subtype: u8, bytes: &[u8]) -> Result<(), AllocError> {
+        let bytes = Vec::from_slice(self.alloc, bytes)?;
+        let subtype = BinarySubtype::from(subtype);
+        self.scalar(Scalar::Binary(Binary { subtype, bytes }))
+    }
+
+    fn pointer(&mut self, namespace: &str, id: [u8; 12]) -> Result<(), AllocError> {
+        let namespace = String::from_str(self.alloc, namespace)?;
+        let id = ObjectId::from_bytes(id);
+        self.scalar(Scalar::DbPointer(DbPointer::new(namespace, id)))
+    }
+
+    fn begin(&mut self, is_document: bool) -> Result<usize, AllocError> {
+        if is_document {
+            self.out.begin_object()?;
+        } else {
+            self.out.begin_array()?;
+        }
+        Ok(self.digests.len())
+    }
+
+    fn name<'b>(
+        &mut self,
+        is_document: bool,
+        _list: &usize,
+        bytes: &'b [u8],
+    ) -> Result<((), &'b [u8]), Stop> {
+        let (name, rest) = name_at(bytes)?;
+        if !is_document {
+            return Ok(((), rest));
+        }
+        self.digests.push(digest_of(name))?;
+        self.out.key(name)?;
+        Ok(((), rest))
+    }
+
+    fn element(
+        &mut self,
+        _is_document: bool,
+        _list: &mut usize,
+        _name: (),
+        _value: (),
+    ) -> Result<(), AllocError> {
+        Ok(())
+    }
+
+    fn end_array(&mut self, _list: usize) -> Result<(), AllocError> {
+        Ok(self.out.end_array()?)
+    }
+
+    fn end_document(&mut self, list: usize) -> Result<(), Stop> {
+        if !end_apart(&mut self.digests, list) {
+            return Err(Stop::PossibleDuplicate);
+        }
+        Ok(self.out.end_object()?)
+    }
+
+    fn embed(&mut self, _given: ()) -> Result<(), AllocError> {
+        Ok(())
+    }
+
+    fn begin_code(&mut self, text: &str) -> Result<(), AllocError> {
+        put_code(text, &mut self.out)
+    }
+
+    fn end_code(&mut self, _code: (), _scope: ()) -> Result<(), AllocError> {
+        Ok(self.out.end_object()?)
+    }
+}
+
+// Every scalar can be written if finite doubles are. (The double is read for its range.)
+fn can_be_written(value: &Scalar)
+    ensures { writable_scalar_in Finite (scalar_view value.now) ≡ true }
+{
+    if let Scalar::Double(pattern) = value {
+        let _pattern = *pattern;
+    }
+}
+
+// Removes the numbers from this index on, and returns whether no two of them are equal.
+fn end_apart(numbers: &mut Vec<u64>, start: usize) -> bool
+    requires { start ≤ length numbers.old.items }
+    ensures apart { IsTrue result → AllPairs (λ a b. a ≢ b) (drop start numbers.old.items) }
+    ensures kept { numbers.new.items ≡ take start numbers.old.items }
+{
+    let apart = are_apart(&mut numbers.as_mut_slice()[start..]);
+    numbers.truncate(start);
+    apart
+}
+
+// Returns whether no two of the numbers are equal, and may change their order.
+fn are_apart(numbers: &mut [u64]) -> bool
+    ensures { IsTrue result → AllPairs (λ a b. a ≢ b) numbers.old }
+{
+    numbers.sort_unstable();
+    rise(numbers)
+}
+
+// Returns whether each number is greater than the one before it.
+fn rise(numbers: &[u64]) -> bool
+    ensures { IsTrue result → IsStrictlyIncreasing numbers.now }
+{
+    for next in 1..numbers.len() {
+        if numbers[next - 1] >= numbers[next] {
+            return false;
+        }
+    }
+    true
+}
+
+// Computes the digest of a key.
+fn digest_of(key: &str) -> u64
+    ensures { result ≡ digest key.now }
+{
+    let bytes = key.as_bytes();
+    let mut digest: u64 = 0;
+    'bytes: for at in 0..bytes.len() {
+        digest = digest.wrapping_mul(BASE).wrapping_add(bytes[at] as u64);
+    }
+    digest
+}

@@ -1,0 +1,23 @@
+-- A whole text whose document was put.
+use Rattle.std.proofs.Common.{◌≡◌, suc, List, ℕ, [], Ok, sym, subst}
+use Rattle.bson_scalar.specs.declared.form.Doubles.{Doubles}
+use Rattle.bson_model.specs.Value.{Pairs, document}
+use Rattle.bson_model.specs.OrderedTexts.{HasMeaningInOrder}
+use Rattle.bson_bytes.specs.Laws.{IsRead}
+use Rattle.bson_bytes.specs.Putting.{put_document}
+use Rattle.bson_bytes.specs.Writing.{as_written}
+use Rattle.bson_bytes.proofs.Offered.{told_ok, written_read}
+use Rattle.bson_codec.specs.Packed.{IsPackedText, PutFramed}
+
+pub text_packed : (D : Doubles) (text bytes old : List ℕ) (ps : Pairs) → HasMeaningInOrder D text (document ps)
+    → PutFramed ps old bytes → old ≡ [] → IsPackedText D text bytes
+text_packed D text bytes old ps means (typed, put, grows) none =
+    let told = told_ok ps bytes (subst (λ l. put_document ps l ≡ Ok bytes) none put) in
+    record {
+      pairs = ps;
+      meaning = means;
+      fits = told.0;
+      canonical = told.1;
+      back = λ d nests. subst (λ b. IsRead (suc d) b (as_written ps)) (sym told.1)
+          (written_read d ps told.0 typed nests);
+    }

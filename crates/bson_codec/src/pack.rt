@@ -1,0 +1,91 @@
+//! From text to bytes, token by token.
+ghost use Rattle.std.specs.Prelude.{IfOk};
+ghost use Rattle.bson_codec.specs.Packed.{IsPackedText};
+
+use crate::elements::ElementWriter;
+use bson_scalar::form::Doubles;
+use bson_text::stop::Stop;
+use bson_text::traversal::write_document_text;
+use bson_tokens::arrangement::Arrangement;
+use bson_tokens::normalize::normalize_text;
+use json::Scratch;
+use std::alloc::Global;
+
+// A longer text is read with memory of its own, which is freed with its reader.
+const LONG: usize = 1 << 16;
+
+/// Encodes the document that the text denotes as canonical bytes, with its keys in the order of the
+/// text, at every depth, and the last value of a duplicate key at its first position: they are
+/// written as the text is read, with no value in memory.
+///
+/// # Errors
+///
+/// - `OutOfMemory`: a request for memory was refused.
+/// - `DuplicateKey`, `GaveUp`, `Syntax` and `Fault`: the text is to be read whole. They say nothing of it.
+pub fn pack_text(
+    alloc: Global,
+    doubles: Doubles,
+    text: &str,
+    scratch: &mut Scratch,
+) -> Result<Vec<u8>, Stop>
+    ensures ok { IfOk result (λ out. IsPackedText doubles text.now out.items) }
+{
+    match write_packed(alloc, doubles, text, scratch) {
+        Ok(packed) => Ok(packed),
+        Err(Stop::OutOfMemory) => Err(Stop::OutOfMemory),
+        Err(_) => pack_normalized(alloc, doubles, text, scratch),
+    }
+}
+
+// A text that was left, packed from the text in which each object has each key once.
+fn pack_normalized(
+    alloc: Global,
+    doubles: Doubles,
+    text: &str,
+    scratch: &mut Scratch,
+) -> Result<Vec<u8>, Stop>
+    ensures ok { IfOk result (λ out. IsPackedText doubles text.now out.items) }
+{
+    let normalized = normalize_text(alloc, Arrangement::FirstPlaces, text)?;
+    write_packed(alloc, doubles, normalized.as_str(), scratch)
+}
+
+// An error is also a text that has two equal keys in an object.
+fn write_packed(
+    alloc: Global,
+    doubles: Doubles,
+    text: &str,
+    scratch: &mut Scratch,
+) -> Result<Vec<u8>, Stop>
+    ensures ok { IfOk result (λ out. IsPackedText doubles text.now out.items) }
+{
+    if text.len() > LONG {
+        return write_long(alloc, doubles, text);
+    }
+    write_whole(alloc, doubles, text, scratch)
+}
+
+// The same with a scratch of its own.
+#[inline(never)]
+fn write_long(alloc: Global, doubles: Doubles, text: &str) -> Result<Vec<u8>, Stop>
+    ensures ok { IfOk result (λ out. IsPackedText doubles text.now out.items) }
+{
+    let mut scratch = Scratch::new(alloc);
+    write_whole(alloc, doubles, text, &mut scratch)
+}
+
+// The same of a text of any length, with this scratch.
+fn write_whole(
+    alloc: Global,
+    doubles: Doubles,
+    text: &str,
+    scratch: &mut Scratch,
+) -> Result<Vec<u8>, Stop>
+    ensures ok { IfOk result (λ out. IsPackedText doubles text.now out.items) }
+{
+    let writer = ElementWriter {
+        bytes: Vec::with_capacity(alloc, text.len())?,
+    };
+    let written = write_document_text(alloc, doubles, text, scratch, writer)?;
+    Ok(written.bytes)
+}

@@ -1,4 +1,0 @@
--- The laws that the crates above use. No other file of these proofs is cited from outside.
-pub use Rattle.bson_distinct.proofs.ReadAlike.{text_read, text_kept, meant, meant_in_order}
--- how the elements and members of a text are read
-pub use Rattle.bson_distinct.proofs.Rounds.{no_item, one_item, last_item, no_key, no_member, one_member, last_member}

@@ -1,5 +1,0 @@
-use Rattle.bson_distinct.proofs.Places.{at_first_places, by_ascending_key, with_last_values}
-use Rattle.bson_distinct.proofs.laws.arranged_places.Goals as goal
-
-pub returns : goal.returns
-returns c = record { first = at_first_places; ascending = by_ascending_key; last = with_last_values }

@@ -1,5 +1,0 @@
-use Rattle.bson_distinct.proofs.ReadAlike.{text_kept, text_read}
-use Rattle.bson_distinct.proofs.laws.arranged_texts_read_alike.Goals as goal
-
-pub returns : goal.returns
-returns c = record { in_order = text_kept; by_key = text_read }

@@ -1,4 +1,0 @@
--- The laws that the crates above use. No other file of these proofs is cited from outside.
-pub use Rattle.bson_filter.proofs.Once.{once_is}
-pub use Rattle.bson_filter.proofs.Objects.{begins, object_of, last_read}
-pub use Rattle.bson_filter.proofs.SortedPairs.{put_in_turn, once_sorted}

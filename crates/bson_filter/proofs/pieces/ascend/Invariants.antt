@@ -1,9 +1,0 @@
-use Rattle.std.proofs.Common.{◌↔◌, drop, map, None, option_map}
-use Rattle.bson_filter.specs.Pieces.{KeysAscend}
-use Rattle.bson_filter.proofs.pieces.ascend.Given as goal
-
--- the keys ascend from here on if and only if all of them do
-abbrev pub invariant-loop-at : goal.invariant-loop-at
-invariant-loop-at l =
-    KeysAscend (option_map (λ s. s.now) l.last) (map (λ k. k.now) (drop l.at l.keys))
-    ↔ KeysAscend None (map (λ k. k.now) l.keys)

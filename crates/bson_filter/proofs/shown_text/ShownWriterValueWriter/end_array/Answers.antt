@@ -1,6 +1,0 @@
-use Rattle.bson_filter.proofs.ShownTexts.{array_added}
-use Rattle.bson_filter.proofs.shown_text.ShownWriterValueWriter.end_array.Goals as goal
-
-pub returns-clause-written : goal.returns-clause-written
-returns-clause-written c = λ start mid k vs begun written.
-    array_added vs start mid c.args.self.now c.add.new.self begun written c.in_ok-add.ensures

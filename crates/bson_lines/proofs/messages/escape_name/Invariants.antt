@@ -1,7 +1,0 @@
-use Rattle.std.specs.Prelude.{◌≡◌, string_bytes}
-use Rattle.std.specs.List.{flat_map}
-use Rattle.bson_lines.specs.Messages.{printable}
-use Rattle.bson_lines.proofs.messages.escape_name.Given as goal
-
-abbrev pub invariant-loop-letter : goal.invariant-loop-letter
-invariant-loop-letter l = string_bytes l.escaped ≡ flat_map printable l.yielded

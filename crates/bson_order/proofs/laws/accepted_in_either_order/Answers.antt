@@ -1,5 +1,0 @@
-use Rattle.bson_order.proofs.TextMeaning.{meant_by_text}
-use Rattle.bson_order.proofs.laws.accepted_in_either_order.Goals as goal
-
-pub returns : goal.returns
-returns c = meant_by_text

@@ -1,5 +1,0 @@
-use Rattle.bson_order.proofs.MeansLaws.{means_from, means_in}
-use Rattle.bson_order.proofs.laws.reading_is_meaning_in_order.Goals as goal
-
-pub returns : goal.returns
-returns c = λ D t v is. (means_from D t v, λ m. means_in D m is)

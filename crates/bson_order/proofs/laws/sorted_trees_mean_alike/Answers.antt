@@ -1,5 +1,0 @@
-use Rattle.bson_order.proofs.OneOrder.{default_means, means_in_order}
-use Rattle.bson_order.proofs.laws.sorted_trees_mean_alike.Goals as goal
-
-pub returns : goal.returns
-returns c = λ D t v is. (λ m. default_means D m is, λ m. means_in_order D m is)

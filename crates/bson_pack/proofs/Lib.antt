@@ -1,4 +1,0 @@
-mod Arranged
-pub mod Once
-pub mod Put
-pub mod Whole

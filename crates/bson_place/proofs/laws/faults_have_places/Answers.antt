@@ -1,6 +1,0 @@
-use Rattle.bson_scalar.specs.declared.form.Doubles.TheVariants.{Special}
-use Rattle.bson_place.proofs.Everywhere.{has_fault}
-use Rattle.bson_place.proofs.laws.faults_have_places.Goals as goal
-
-pub returns : goal.returns
-returns c = λ t nothing. has_fault Special t nothing

@@ -1,0 +1,70 @@
+-- What a run over the documents of a file leaves, once the last block was written.
+use Rattle.std.proofs.Common.{◌≡◌, inr, ℕ, ◌+◌, List, [], ◌++◌, Option, None, Some, Result, Ok, Err, IfOk, true}
+use Rattle.std.proofs.Common.{refl, sym, ap, subst, ◌∙◌}
+use Rattle.std.proofs.lemmas.List.{append-nil}
+use Rattle.std.specs.Io.KnownBytes.{Appends, Keeps, append_known}
+use Rattle.bson_codec.specs.Documents.{EndsAt, IsOfBytes}
+use Rattle.bson_codec.specs.Told.{told_of}
+use Rattle.bson_codec.specs.declared.documents.Run.{Run}
+use Rattle.bson_codec.specs.declared.run_end.RunFault.{RunFault}
+use Rattle.bson_program.specs.Dump.{IsDoneDump}
+
+pub on_ok : {X E : Type 0} (r : Result X E) (P Q : X → Type 0) → ((x : X) → P x → Q x) → IfOk r P → IfOk r Q
+on_ok (Ok x) P Q f h = f x h
+on_ok (Err e) P Q f h = tt
+
+-- what a writer holds behind which nothing is held back
+flat : (known : Option (List ℕ)) (buffer : List ℕ) → buffer ≡ [] → append_known known buffer ≡ known
+flat None buffer e = refl
+flat (Some xs) buffer e = ap (λ (b : List ℕ). Some (xs ++ b)) e ∙ ap (λ (b : List ℕ). Some b) (append-nil xs)
+
+kept : (a b c : Option (List ℕ)) (bytes : List ℕ) → Appends a b bytes → Keeps b c → Appends a c bytes
+kept None b c bytes p q = tt
+kept (Some x) None c bytes p q = absurd p
+kept (Some x) (Some y) None bytes p q = absurd q
+kept (Some x) (Some y) (Some z) bytes p q = q ∙ p
+
+flushed : (had mid holds : Option (List ℕ)) (first last bytes : List ℕ) → first ≡ [] → last ≡ []
+    → Appends (append_known had first) mid bytes → Keeps mid (append_known holds last) → Appends had holds bytes
+flushed had mid holds first last bytes e f h k =
+    subst (λ (x : Option (List ℕ)). Appends x holds bytes) (flat had first e)
+    (subst (λ (x : Option (List ℕ)). Appends (append_known had first) x bytes) (flat holds last f)
+    (kept (append_known had first) mid (append_known holds last) bytes h k))
+
+-- the end at a document of a run that keeps going
+pub cut_dump : (run : Run) (before after had mid holds told said tells : Option (List ℕ)) (first last : List ℕ)
+    (fault : RunFault) (number left start documents refused : ℕ)
+    → EndsAt run before after (append_known had first) mid told said fault number left start → first ≡ [] → last ≡ []
+    → Keeps mid (append_known holds last) → run.keep_going ≡ true → IsOfBytes fault
+    → Appends said tells (told_of number start fault) → documents ≡ number → refused ≡ left + 1
+    → IsDoneDump run before after had holds told tells documents refused
+cut_dump run before after had mid holds told said tells first last fault number left start documents refused h e f k going is reported same counted =
+    let ended : EndsAt run before after had holds told said fault number left start = record {
+      done = h.done;
+      taken = h.taken;
+      output = h.output;
+      more = h.more;
+      verdicts = h.verdicts;
+      said = h.said;
+      count = h.count;
+      given = h.given;
+      front = h.front;
+      documents = h.documents;
+      counted = h.counted;
+      place = h.place;
+      reason = h.reason;
+      written = flushed had mid holds first last (h.output ++ h.more) e f h.written k;
+      reported = h.reported;
+    } in
+    subst (λ (n : ℕ). IsDoneDump run before after had holds told tells n refused) (sym same)
+    (inr (record {
+      fault = fault;
+      left = left;
+      start = start;
+      said = said;
+      keeps_going = going;
+      of_bytes = is;
+      ended = ended;
+      reported = reported;
+      counted = counted;
+    }))

@@ -1,0 +1,14 @@
+use Rattle.std.proofs.Common.{inl, refl}
+use Rattle.bson_program.specs.declared.arguments.Next.TheVariants.{Any}
+use Rattle.bson_program.proofs.Asking.{numbered_indent, numbered_jobs}
+use Rattle.bson_program.proofs.arguments.Given.take.Goals as goal
+
+pub returns-in-Indent-clause-taken : goal.returns-in-Indent-clause-taken
+returns-in-Indent-clause-taken c =
+    numbered_indent c.args.self.now (record c.args.self.now { next = Any }) c.args.word.now c.args.word.now
+    c.take_indent.result c.take_indent.ensures.taken refl (inl refl)
+
+pub returns-in-Jobs-clause-taken : goal.returns-in-Jobs-clause-taken
+returns-in-Jobs-clause-taken c =
+    numbered_jobs c.args.self.now (record c.args.self.now { next = Any }) c.args.word.now c.args.word.now c.take_jobs.result
+    c.take_jobs.ensures.taken refl (inl refl)

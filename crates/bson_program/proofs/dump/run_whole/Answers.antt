@@ -1,0 +1,18 @@
+use Rattle.std.specs.Io.Buffered.{writer_buffer, writer_contents, writer_inner}
+use Rattle.bson_program.proofs.Dumping.{cut_dump, on_ok}
+use Rattle.bson_program.proofs.dump.run_whole.Goals as goal
+
+-- the run ended at a document, and goes on behind the file
+pub returns-in-Err-clause-done : goal.returns-in-Err-clause-done
+returns-in-Err-clause-done g c =
+    let end = c.in-Err.end in
+    on_ok c.report_end.result _ _ (λ counts is.
+    cut_dump c.args.run (g.R.Read.remaining c.args.reader.now) (g.R.Read.remaining c.run_documents-ended.new.reader)
+    (g.W.Write.contents (writer_inner c.args.writer.now))
+    (writer_contents g.W.Write.contents c.run_documents-ended.new.writer)
+    (g.W.Write.contents (writer_inner c.flush.new.self)) (g.T.Write.contents c.args.report.now)
+    (g.T.Write.contents c.run_documents-ended.new.report) (g.T.Write.contents c.report_end.new.report)
+    (writer_buffer c.args.writer.now) (writer_buffer c.flush.new.self) end.fault end.number end.refused end.start
+    counts.documents counts.refused c.in-Err.ensures.fails c.requires c.in-Ok.ensures.ok c.in-Ok.ensures.bytes
+    c.if-run.true is.0 is.1 is.2 is.3)
+    c.report_end.ensures.reported

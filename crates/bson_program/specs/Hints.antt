@@ -1,0 +1,167 @@
+-- What the first bytes of a rejected input show that it holds in place of what it should.
+use Rattle.std.specs.Prelude.{◌==◌, ◌||◌, ◌&&◌, ◌+◌, ◌-◌, ◌*◌, ℕ, Bool, true, false, not, List, [], ◌∷◌, ◌++◌, Option, None, Some}
+use Rattle.std.specs.Prelude.{if◌then◌else◌, codes, length, nat_eq, nat_le, nat_lt, slice_index, reverse, take, drop, is_some}
+use Rattle.std.specs.List.{find, starts_with}
+use Rattle.bson_program.specs.Messages.{line_len, shown_name}
+use Rattle.bson_program.specs.declared.hints.Hint.{Hint}
+use Rattle.bson_program.specs.declared.hints.Hint.TheVariants as hint
+use Rattle.bson_program.specs.declared.hints.Rejected.{Rejected}
+use Rattle.bson_program.specs.declared.order.Input.{Input}
+use Rattle.bson_program.specs.declared.order.Input.TheVariants.{Text, Lines, Documents}
+
+-- ---- bytes
+
+abbrev pub is_blank : ℕ → Bool
+is_blank byte = (byte == 32) || ((byte == 9) || ((byte == 13) || (byte == 10)))
+
+-- a bracket or a brace that opens
+abbrev pub is_opening : ℕ → Bool
+is_opening byte = (byte == 91) || (byte == 123)
+
+abbrev pub first_opens : Option ℕ → Bool
+first_opens None = false
+first_opens (Some byte) = is_opening byte
+
+-- the first byte that is not blank opens an array or an object
+abbrev pub starts_text : List ℕ → Bool
+starts_text head = first_opens (find (λ byte. not (is_blank byte)) head)
+
+abbrev pub last_opens : Option ℕ → Bool
+last_opens None = false
+last_opens (Some byte) = is_opening byte || (byte == 44)
+
+-- the line opens an array or an object, and ends with what opens another or with a comma
+abbrev pub opens_over_lines : List ℕ → Bool
+opens_over_lines line = last_opens (find (λ byte. not (is_blank byte)) (reverse line)) && starts_text line
+
+-- with its newline
+abbrev pub first_line : List ℕ → List ℕ
+first_line head = take (line_len head) head
+
+abbrev pub behind_line : List ℕ → List ℕ
+behind_line head = drop (line_len head) head
+
+-- a byte is not blank
+abbrev pub has_content : List ℕ → Bool
+has_content bytes = is_some (find (λ byte. not (is_blank byte)) bytes)
+
+-- ---- the table of files
+
+-- what packs bytes, by the bytes with which its files begin
+abbrev pub compression_of : List ℕ → Option Hint
+compression_of head = if starts_with nat_eq head (31 ∷ 139 ∷ []) then Some hint.Gzip
+    else (if starts_with nat_eq head (40 ∷ 181 ∷ 47 ∷ 253 ∷ []) then Some hint.Zstd
+    else (if starts_with nat_eq head (66 ∷ 90 ∷ 104 ∷ []) then Some hint.Bzip2
+    else (if starts_with nat_eq head (253 ∷ 55 ∷ 122 ∷ 88 ∷ []) then Some hint.Xz
+    else (if starts_with nat_eq head (109 ∷ 226 ∷ 153 ∷ 129 ∷ []) then Some hint.Archive
+    else None))))
+
+-- a document of this length begins with an element of this type: one of no elements has 5 bytes, and a document of more
+-- than 128 MiB is not told from text
+abbrev pub is_length : (size kind : ℕ) → Bool
+is_length size kind = if kind == 0 then size == 5
+    else (nat_le kind 19 || ((kind == 127) || (kind == 255))) && (nat_lt 5 size && nat_le size 134217728)
+
+-- the last of so many bytes is 0, or not there
+abbrev pub ends_in_zero : ℕ → List ℕ → Bool
+ends_in_zero size head =
+    if (size == 0) || nat_lt (length head) size then true else slice_index head (size - 1) == 0
+
+-- the number of these bytes, the lowest first
+abbrev pub little : (a b c d : ℕ) → ℕ
+little a b c d = a + 256 * (b + 256 * (c + 256 * d))
+
+abbrev pub length_of : List ℕ → ℕ
+length_of head = little (slice_index head 0) (slice_index head 1) (slice_index head 2) (slice_index head 3)
+
+-- a document of BSON begins there: its length, and the type of its first element
+abbrev pub is_dump : List ℕ → Bool
+is_dump head = if nat_lt (length head) 5 then false
+    else is_length (length_of head) (slice_index head 4) && ends_in_zero (length_of head) head
+
+-- a text begins there in UTF-16, the lower byte of each unit first
+abbrev pub is_low_first : List ℕ → Bool
+is_low_first head = if nat_lt (length head) 4 then false
+    else (is_opening (slice_index head 0) && not (slice_index head 2 == 0)) && ((slice_index head 1 == 0)
+    && ((slice_index head 3 == 0) && (nat_lt (length head) 6 || (slice_index head 5 == 0))))
+
+-- the same with the higher byte first
+abbrev pub is_high_first : List ℕ → Bool
+is_high_first head = if nat_lt (length head) 4 then false
+    else (slice_index head 0 == 0) && (is_opening (slice_index head 1) && ((slice_index head 2 == 0)
+    && not (slice_index head 3 == 0)))
+
+-- how a text is encoded that is no UTF-8, or that it is no text
+abbrev pub hint_of_encoding : List ℕ → Option Hint
+hint_of_encoding head =
+    if starts_with nat_eq head (255 ∷ 254 ∷ []) || starts_with nat_eq head (254 ∷ 255 ∷ []) then Some hint.Utf16
+    else (if is_low_first head then Some hint.Utf16LittleEndian
+    else (if is_high_first head then Some hint.Utf16BigEndian
+    else (if is_dump head then Some hint.Dump else None)))
+
+-- ---- what helps
+
+abbrev pub doubles : Bool → Option Hint
+doubles true = Some hint.Doubles
+doubles false = None
+
+-- where one text is expected
+abbrev pub hint_of_one : Rejected → List ℕ → Option Hint
+hint_of_one rejected head =
+    if rejected.is_standard && starts_with nat_eq head (239 ∷ 187 ∷ 191 ∷ []) then Some hint.Mark
+    else (if rejected.has_lines then Some hint.TextPerLine else doubles rejected.has_double)
+
+-- where a text per line is
+abbrev pub hint_of_lines : Rejected → List ℕ → Option Hint
+hint_of_lines rejected head =
+    if opens_over_lines (first_line head) && has_content (behind_line head) then Some (if rejected.has_more then hint.LongTexts
+    else (if rejected.encodes then hint.OneTextToEncode else hint.OneText))
+    else doubles rejected.has_double
+
+-- where documents of BSON are
+abbrev pub hint_of_dump : Rejected → List ℕ → Option Hint
+hint_of_dump rejected head =
+    if starts_text head && not (is_dump head) then Some hint.Text else doubles rejected.has_double
+
+-- the first that holds
+abbrev pub or_else : Option Hint → Option Hint → Option Hint
+or_else None other = other
+or_else (Some hint) other = Some hint
+
+abbrev pub hint_of_input : Input → Rejected → List ℕ → Option Hint
+hint_of_input Text rejected head = or_else (hint_of_encoding head) (hint_of_one rejected head)
+hint_of_input Lines rejected head = or_else (hint_of_encoding head) (hint_of_lines rejected head)
+hint_of_input Documents rejected head = hint_of_dump rejected head
+
+abbrev pub hint_of : Rejected → List ℕ → Option Hint
+hint_of rejected head = or_else (compression_of head) (hint_of_input rejected.input rejected head)
+
+-- ---- what is told
+
+-- what reads an input instead: the words are those of the mode and its options
+abbrev pub told_of : Hint → (words : List ℕ) → List ℕ
+told_of hint.Gzip words = codes "is compressed; give it through 'gzip -dc'"
+told_of hint.Zstd words = codes "is compressed; give it through 'zstd -dc'"
+told_of hint.Bzip2 words = codes "is compressed; give it through 'bzip2 -dc'"
+told_of hint.Xz words = codes "is compressed; give it through 'xz -dc'"
+told_of hint.Archive words = codes "is an archive of mongodump; mongodump without '--archive' writes dumps"
+told_of hint.Dump words = codes "holds BSON bytes, and no text; './bson decode' reads them"
+told_of hint.Text words =
+    codes "holds text, and no BSON bytes; './bson lines " ++ words ++ codes "' reads a document per line"
+told_of hint.Utf16 words = codes "is UTF-16, and JSON is UTF-8; give it through 'iconv -f UTF-16 -t UTF-8'"
+told_of hint.Utf16LittleEndian words =
+    codes "is UTF-16, and JSON is UTF-8; give it through 'iconv -f UTF-16LE -t UTF-8'"
+told_of hint.Utf16BigEndian words = codes "is UTF-16, and JSON is UTF-8; give it through 'iconv -f UTF-16BE -t UTF-8'"
+told_of hint.Mark words = codes "begins with a byte order mark, which only a named file may"
+told_of hint.TextPerLine words =
+    codes "holds several texts; './bson lines " ++ words ++ codes "' reads one per line"
+told_of hint.OneText words = codes "is one text over several lines, it seems; './bson " ++ words ++ codes "' reads it"
+told_of hint.OneTextToEncode words =
+    codes "is one text over several lines, it seems; './bson " ++ words ++ codes "' makes a line of it"
+told_of hint.LongTexts words =
+    codes "holds texts of several lines; write each on a line of its own, as mongoexport without '--pretty' does"
+told_of hint.Doubles words = codes "has numbers that are read without --strict"
+
+-- the line on standard error
+abbrev pub hint_line : (name : List ℕ) → Hint → (words : List ℕ) → List ℕ
+hint_line name it words = codes "bson: " ++ shown_name name (codes "input") ++ codes " " ++ told_of it words

@@ -1,0 +1,127 @@
+-- The lines on standard error.
+use Rattle.std.specs.Prelude.{◌≡◌, ◌==◌, ◌||◌, ℕ, suc, Bool, List, [], ◌∷◌, ◌++◌, Option, None, Some, codes, string_bytes}
+use Rattle.std.specs.Prelude.{if◌then◌else◌, nat_eq, length, drop, bytes_eq, encode_utf8}
+use Rattle.std.specs.Char.{is_control}
+use Rattle.std.specs.Char.Escape.{escape_default}
+use Rattle.std.specs.Fmt.{decimal}
+use Rattle.std.specs.List.{flat_map, starts_with}
+use Rattle.std.specs.Str.{chars, encode_utf8_all, trim_end}
+use Rattle.std.specs.declared.io.Error.{Error}
+use Rattle.bson_codec.specs.Told.{told_of}
+use Rattle.bson_codec.specs.Told as documents
+use Rattle.bson_codec.specs.declared.run_end.RunEnd.{RunEnd}
+use Rattle.bson_codec.specs.declared.run_end.RunFault.{RunFault}
+use Rattle.bson_codec.specs.declared.run_end.RunFault.TheVariants as run_fault
+use Rattle.bson_run.specs.Lines.{onto_first}
+use Rattle.bson_convert.specs.Words.{words_of}
+use Rattle.bson_convert.specs.declared.error.Error as conversion
+use Rattle.bson_program.specs.declared.order.Input as order
+use Rattle.bson_program.specs.declared.order.Input.TheVariants.{Documents}
+use Rattle.bson_program.specs.declared.run.Stop.{Stop}
+use Rattle.bson_program.specs.declared.run.Stop.TheVariants as stop
+
+-- ---- how many there were
+
+abbrev pub input_kind : order.Input → List ℕ
+input_kind Documents = codes "documents"
+input_kind input = codes "lines"
+
+abbrev pub summary_of : order.Input → (all refused : ℕ) → List ℕ
+summary_of input all refused =
+    codes "bson: " ++ decimal all ++ codes " " ++ input_kind input ++ codes ", " ++ decimal refused ++ codes " refused"
+
+-- ---- names of files
+
+-- the name of a standard stream
+abbrev pub is_standard : List ℕ → Bool
+is_standard name = bytes_eq name (codes "-")
+
+-- a character that breaks a line or steers a terminal
+abbrev pub is_unprintable : ℕ → Bool
+is_unprintable c = is_control c || ((c == 0x2028) || (c == 0x2029))
+
+-- such a one by its escape in Rust, any other as it is
+abbrev pub printable : ℕ → List ℕ
+printable c = if is_unprintable c then encode_utf8_all (escape_default c) else encode_utf8 c
+
+abbrev pub escaped_name : List ℕ → List ℕ
+escaped_name name = flat_map printable (chars name)
+
+-- a file, or the standard stream of this name
+abbrev pub shown_name : (name stream : List ℕ) → List ℕ
+shown_name name stream = if is_standard name then codes "standard " ++ stream else escaped_name name
+
+-- ---- what stopped a run
+
+-- the system's words for an error behind a colon, which no contract says; none where the error is not known
+abbrev pub IsCause : Option Error → List ℕ → Type 0
+IsCause None cause = cause ≡ []
+IsCause (Some error) cause = (words : List ℕ) × (cause ≡ codes ": " ++ words)
+
+-- where a message begins: with the program's name, or that of a file
+abbrev pub head_of : List ℕ → List ℕ
+head_of name = if is_standard name then codes "bson" else escaped_name name
+
+-- of a line also its number, as editors have it behind a file's name
+abbrev pub line_head : List ℕ → ℕ → List ℕ
+line_head name number =
+    if is_standard name then codes "bson: line " ++ decimal number else escaped_name name ++ codes ":" ++ decimal number
+
+-- the head of a text on the line of this number, or of the one text of a file (0)
+abbrev pub text_head : List ℕ → ℕ → List ℕ
+text_head name number = if number == 0 then head_of name else line_head name number
+
+-- what is told of a text that is refused
+abbrev pub text_message : List ℕ → ℕ → conversion.Error → (place : List ℕ) → List ℕ
+text_message name number fault place = text_head name number ++ codes ": " ++ words_of fault ++ place
+
+-- a fault with its document, or that of a stream alone
+abbrev pub document_words : ℕ → ℕ → RunFault → List ℕ
+document_words number start run_fault.CannotRead = documents.run_fault_message run_fault.CannotRead
+document_words number start run_fault.CannotWrite = documents.run_fault_message run_fault.CannotWrite
+document_words number start fault = told_of number start fault
+
+abbrev pub told_of_document : List ℕ → RunEnd → List ℕ
+told_of_document name end = head_of name ++ codes ": " ++ trim_end (document_words end.number end.start end.fault)
+
+-- a file can't be read or written
+abbrev pub IsUnusable : (verb name stream : List ℕ) → Option Error → List ℕ → Type 0
+IsUnusable verb name stream error line =
+    (cause : List ℕ) × IsCause error cause × (line ≡ codes "bson: cannot " ++ verb ++ shown_name name stream ++ cause)
+
+-- the line for what stopped the run
+abbrev pub IsLineFor : Stop → List ℕ → Type 0
+IsLineFor (stop.Input name error) line = IsUnusable (codes "read ") name.now (codes "input") error line
+IsLineFor (stop.Output name error) line = IsUnusable (codes "write ") name.now (codes "output") error line
+IsLineFor (stop.Both name) line =
+    line ≡ codes "bson: " ++ shown_name name.now (codes "input") ++ codes " is both an input and the output"
+IsLineFor stop.Terminal line =
+    line ≡ codes "bson: BSON bytes are not written to a terminal; give -o FILE, or a pipe"
+IsLineFor (stop.Text name number fault place) line = line ≡ text_message name.now number fault (string_bytes place)
+IsLineFor (stop.Document name end) line = line ≡ told_of_document name.now end
+
+-- ---- verdicts
+
+-- the pieces of which each but the last ends with the one newline in it
+abbrev pub spans : List ℕ → List (List ℕ)
+spans [] = []
+spans (x ∷ xs) = if x == 10 then (10 ∷ []) ∷ spans xs else onto_first x (spans xs)
+
+-- what a verdict on a line begins with
+abbrev pub line_prefix : List ℕ
+line_prefix = codes "bson: line "
+
+-- a verdict behind a file's name: of a line its number, a colon before it, or else the verdict
+abbrev pub under : (name verdict : List ℕ) → List ℕ
+under name verdict =
+    name ++ (if starts_with nat_eq verdict line_prefix then codes ":" ++ drop (length line_prefix) verdict else codes ": " ++ verdict)
+
+abbrev pub all_under : (name verdicts : List ℕ) → List ℕ
+all_under name verdicts = flat_map (under name) (spans verdicts)
+
+-- ---- for private clauses
+
+-- how long the first piece is
+abbrev pub line_len : List ℕ → ℕ
+line_len [] = 0
+line_len (x ∷ xs) = if x == 10 then 1 else suc (line_len xs)

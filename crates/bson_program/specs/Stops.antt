@@ -1,0 +1,62 @@
+-- Which writer stops a run over files, what is asked of a run over documents, and where an output lies.
+use Rattle.std.specs.Prelude.{◌≡◌, ◌≢◌, ◌++◌, ℕ, List, Option, None, Some, codes, string_bytes, MatchOption, String, true}
+use Rattle.std.specs.Fmt.{decimal}
+use Rattle.std.specs.declared.alloc.Global.{Global}
+use Rattle.std.specs.declared.io.Error.{Error}
+use Rattle.bson_codec.specs.declared.documents.Line as documents
+use Rattle.bson_codec.specs.declared.documents.Line.TheVariants as line
+use Rattle.bson_run.specs.Indent.{mode_of}
+use Rattle.bson_convert.specs.declared.mode.Mode.TheVariants.{Show}
+use Rattle.bson_run.specs.declared.order.Task.{Task}
+use Rattle.bson_run.specs.declared.order.Task.TheVariants as task
+use Rattle.bson_program.specs.Messages.{all_under, head_of, is_standard}
+use Rattle.bson_program.specs.declared.order.Input as order
+use Rattle.bson_program.specs.declared.order.Input.TheVariants.{Documents}
+use Rattle.bson_program.specs.declared.order.Order.{Order}
+use Rattle.bson_program.specs.declared.output.Part.{Part}
+use Rattle.bson_program.specs.declared.run.Stop.{Stop}
+use Rattle.bson_program.specs.declared.run.Stop.TheVariants.{Input, Output}
+
+-- the file of this name can't be read
+abbrev pub IsUnread : (name : List ℕ) → Stop → Type 0
+IsUnread name (Input it error) = it.now ≡ name
+IsUnread name stop = ⊥
+
+-- ---- writers
+
+-- the writer that failed: that of verdicts, where the cause of its failure is kept, or else the output
+abbrev pub IsUnwritten : Order → (told written : Option Error) → Stop → Type 0
+IsUnwritten order told written (Output name error) = MatchOption told
+    ((name.now ≡ string_bytes order.output) × (error ≡ written)) (λ cause. (name.now ≡ codes "-") × (error ≡ Some cause))
+IsUnwritten order told written stop = ⊥
+
+-- what stands before verdicts: the name of their file, or for documents of standard input that of the program
+abbrev pub IsTitle : order.Input → (name : List ℕ) → Option (String Global) → Type 0
+IsTitle input name None = (is_standard name ≡ true) × (input ≢ Documents)
+IsTitle input name (Some title) = (string_bytes title ≡ head_of name) × (is_standard name ≡ true → input ≡ Documents)
+
+-- verdicts as they are told of a file of this name
+abbrev pub told_under : Option (String Global) → (verdicts : List ℕ) → List ℕ
+told_under None verdicts = verdicts
+told_under (Some name) verdicts = all_under (string_bytes name) verdicts
+
+-- ---- documents
+
+-- what is written of each document: its text in the mode, with its keys in ascending order or in its own, what Display
+-- has of it, or nothing
+abbrev pub IsDocumentLine : Task → documents.Line → Type 0
+IsDocumentLine (task.Write mode) (line.Text form) = mode ≡ mode_of form
+IsDocumentLine (task.Write mode) line.Shown = mode ≡ Show
+IsDocumentLine (task.WriteInOrder mode) (line.TextInOrder form) = mode ≡ mode_of form
+IsDocumentLine (task.WriteInOrder mode) line.Shown = mode ≡ Show
+IsDocumentLine (task.Check criterion) line.Nothing = Unit {0}
+IsDocumentLine task.Encode line.Nothing = Unit {0}
+IsDocumentLine task.EncodeInOrder line.Nothing = Unit {0}
+IsDocumentLine (task.Taken taking work) line.Nothing = Unit {0}
+IsDocumentLine other line = ⊥
+
+-- ---- files
+
+-- the part lies beside the file whose place it takes, told by a number
+abbrev pub IsNumberedPart : Part → Type 0
+IsNumberedPart part = (n : ℕ) × (string_bytes part.path ≡ string_bytes part.file ++ codes "." ++ decimal n ++ codes ".part")

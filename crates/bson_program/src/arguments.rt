@@ -1,0 +1,382 @@
+//! What the words after the program's name give, one after the other.
+ghost use Rattle.std.specs.Prelude.{◌≡◌, ◌⊎◌, None, OnOk, IfOk, IfSome, string_bytes, if◌then◌else◌, true, vec_len};
+ghost use Rattle.bson_program.specs.Flags.{has_flag};
+ghost use Rattle.bson_program.specs.Order.{command_of, input_of, is_text};
+ghost use Rattle.bson_program.specs.Order.{IsAnswer, IsAskedWrong, IsInitial, IsValueInWord, IsNumbered, IsStored, IsTaken, Sets, AcceptsWord};
+ghost use Rattle.bson_run.specs.Words.{task_name};
+
+use crate::choices::{awaited, first_taken, in_order, judged, options_of, taking_of};
+use crate::fits::misfit;
+use crate::order::{Asked, Command, Flag, Input, Misuse, Order, STANDARD, Wrong};
+use crate::values::{inputs_of, is_dashed, number, output_in};
+use bson_run::order::{OnRefusal, Task};
+use std::alloc::{AllocError, Global};
+
+/// The greatest number of spaces.
+const MOST_SPACES: usize = 16;
+
+/// The greatest number of jobs.
+const MOST_JOBS: usize = 9999;
+
+/// What the words so far gave.
+#[derive(Drop)]
+pub struct Given {
+    alloc: Global,
+    pub task: Option<Task>,
+    pub input: Input,
+    pub keeps_going: bool,
+    pub sorts_keys: bool,
+    pub is_strict: bool,
+    pub is_distinct: bool,
+    pub is_legacy: bool,
+    pub is_canonical: bool,
+    pub indent: Option<usize>,
+    pub jobs: Option<usize>,
+    pub output: Option<String>,
+    pub inputs: Vec<String>,
+    pub next: Next,
+}
+
+/// What the next word is.
+#[derive(Clone, Copy, PartialEq, Eq)]
+pub enum Next {
+    Any,
+    /// The file of `-o`.
+    Output,
+    /// The number of `--indent`.
+    Indent,
+    /// The number of `--jobs`.
+    Jobs,
+    /// Not an option.
+    Name,
+}
+
+/// What a word is.
+#[derive(Clone, Copy, PartialEq, Eq)]
+pub enum Taken {
+    /// One that is accepted.
+    Word,
+    Help,
+    Version,
+    /// One that is not accepted here.
+    Wrong(Misuse),
+}
+
+impl Given {
+    /// Returns what no word gives.
+    pub fn new(alloc: Global) -> Given
+        ensures first { IsInitial result }
+        ensures inputs { vec_len result.inputs ≡ 0 }
+    {
+        Given {
+            alloc,
+            task: None,
+            input: Input::Text,
+            keeps_going: false,
+            sorts_keys: false,
+            is_strict: false,
+            is_distinct: false,
+            is_legacy: false,
+            is_canonical: false,
+            indent: None,
+            jobs: None,
+            output: None,
+            inputs: Vec::new(alloc),
+            next: Next::Any,
+        }
+    }
+
+    /// Returns the command that the words so far name.
+    pub fn command(&self) -> Command
+        ensures { result ≡ command_of self.now.input self.now.task }
+    {
+        match self.input {
+            Input::Text if self.task.is_none() => Command::All,
+            Input::Text => Command::Text,
+            Input::Documents => Command::Decode,
+            Input::Lines if self.task == Some(Task::Encode) => Command::Encode,
+            Input::Lines => Command::Lines,
+        }
+    }
+
+    /// Returns whether the option is given.
+    pub fn has(&self, flag: Flag) -> bool
+        ensures { result ≡ has_flag flag self.now }
+    {
+        match flag {
+            Flag::SortKeys => self.sorts_keys,
+            Flag::Strict => self.is_strict,
+            Flag::Legacy => self.is_legacy,
+            Flag::NoDoubleKeys => self.is_distinct,
+            Flag::Canonical => self.is_canonical,
+            Flag::Indent => self.indent.is_some(),
+            Flag::KeepGoing => self.keeps_going,
+            Flag::Jobs => self.jobs.is_some(),
+            Flag::Output => self.output.is_some(),
+        }
+    }
+
+    /// Accepts the next word, or says why not.
+    pub fn take(&mut self, word: &str) -> Result<Taken, AllocError>
+        ensures given { AcceptsWord word.now self.old self.new }
+        ensures verb { IfSome self.new.task (λ verb. (self.old.task ≡ Some verb) ⊎ (word.now ≡ task_name verb)) }
+        ensures taken { IfOk result (IsTaken self.old word.now) }
+    {
+        match self.next {
+            Next::Any => self.take_any(word),
+            Next::Output => {
+                self.next = Next::Any;
+                self.take_output(word)
+            }
+            Next::Indent => {
+                self.next = Next::Any;
+                Ok(self.take_indent(word))
+            }
+            Next::Jobs => {
+                self.next = Next::Any;
+                Ok(self.take_jobs(word))
+            }
+            Next::Name => self.take_name(word),
+        }
+    }
+
+    // Accepts a word that no option waits for.
+    fn take_any(&mut self, word: &str) -> Result<Taken, AllocError>
+        ensures given { Sets word.now self.old self.new }
+        ensures verb { IfSome self.new.task (λ verb. (self.old.task ≡ Some verb) ⊎ (word.now ≡ task_name verb)) }
+        ensures taken { IfOk result (IsTaken self.old word.now) }
+    {
+        match word {
+            "--help" | "-h" => Ok(Taken::Help),
+            "--version" | "-v" => Ok(Taken::Version),
+            "--" => self.expect(Next::Name),
+            "-o" | "--output" => self.expect(Next::Output),
+            "--indent" => self.expect(Next::Indent),
+            "--jobs" => self.expect(Next::Jobs),
+            "--keep-going" => Ok(set(&mut self.keeps_going, Flag::KeepGoing)),
+            "--sort-keys" => Ok(set(&mut self.sorts_keys, Flag::SortKeys)),
+            "--strict" => Ok(set(&mut self.is_strict, Flag::Strict)),
+            "--no-double-keys" => Ok(set(&mut self.is_distinct, Flag::NoDoubleKeys)),
+            "--legacy" => Ok(set(&mut self.is_legacy, Flag::Legacy)),
+            "--canonical" => Ok(set(&mut self.is_canonical, Flag::Canonical)),
+            "--doubles" | "--keep-order" => Ok(Taken::Wrong(Misuse::Former)),
+            "help" => self.take_help(word),
+            STANDARD | "lines" | "decode" | "encode" => self.take_name(word),
+            _ => {
+                if is_dashed(word) {
+                    self.take_joined(word)
+                } else {
+                    self.take_name(word)
+                }
+            }
+        }
+    }
+
+    // Accepts `help`, which is a file after a mode.
+    fn take_help(&mut self, word: &str) -> Result<Taken, AllocError>
+        ensures given { self.new ≡ record self.old { inputs = self.new.inputs } }
+        ensures taken { IfOk result (λ taken. (taken ≡ Taken.Word) ⊎ ((taken ≡ Taken.Help) × (self.old.task ≡ None))) }
+    {
+        if self.task.is_none() {
+            return Ok(Taken::Help);
+        }
+        self.inputs.push(String::from_str(self.alloc, word)?)?;
+        Ok(Taken::Word)
+    }
+
+    // Accepts an option whose value is in the same word.
+    fn take_joined(&mut self, word: &str) -> Result<Taken, AllocError>
+        ensures given { self.new ≡ record self.old { indent = self.new.indent; jobs = self.new.jobs; output = self.new.output } }
+        ensures taken { IfOk result (IsValueInWord self.old word.now) }
+    {
+        if let Some(count) = word.strip_prefix("--indent=") {
+            return Ok(self.take_indent(count));
+        }
+        if let Some(count) = word.strip_prefix("--jobs=") {
+            return Ok(self.take_jobs(count));
+        }
+        match output_in(word) {
+            Some(name) => self.take_output(name),
+            None => Ok(Taken::Wrong(Misuse::UnknownOption)),
+        }
+    }
+
+    // Accepts a number of spaces.
+    fn take_indent(&mut self, word: &str) -> Taken
+        ensures given { self.new ≡ record self.old { indent = self.new.indent } }
+        ensures taken { IsNumbered Flag.Indent 16 self.old word.now result }
+    {
+        if self.indent.is_some() {
+            return Taken::Wrong(Misuse::Twice(Flag::Indent));
+        }
+        self.indent = number(word, MOST_SPACES);
+        if self.indent.is_some() {
+            Taken::Word
+        } else {
+            Taken::Wrong(Misuse::NoValue(Flag::Indent))
+        }
+    }
+
+    // Accepts a number of jobs.
+    fn take_jobs(&mut self, word: &str) -> Taken
+        ensures given { self.new ≡ record self.old { jobs = self.new.jobs } }
+        ensures taken { IsNumbered Flag.Jobs 9999 self.old word.now result }
+    {
+        if self.jobs.is_some() {
+            return Taken::Wrong(Misuse::Twice(Flag::Jobs));
+        }
+        self.jobs = number(word, MOST_JOBS);
+        if self.jobs.is_some() {
+            Taken::Word
+        } else {
+            Taken::Wrong(Misuse::NoValue(Flag::Jobs))
+        }
+    }
+
+    // Waits for the value of an option.
+    fn expect(&mut self, next: Next) -> Result<Taken, AllocError>
+        ensures given { self.new ≡ record self.old { next = next } }
+        ensures word { result ≡ Ok Taken.Word }
+    {
+        self.next = next;
+        Ok(Taken::Word)
+    }
+
+    fn take_output(&mut self, name: &str) -> Result<Taken, AllocError>
+        ensures given { self.new ≡ record self.old { output = self.new.output } }
+        ensures output { OnOk result (IfSome self.new.output
+            (λ file. (self.old.output ≡ Some file) ⊎ (string_bytes file ≡ name.now))) }
+        ensures taken { IfOk result (IsStored self.old) }
+    {
+        if self.output.is_some() {
+            return Ok(Taken::Wrong(Misuse::Twice(Flag::Output)));
+        }
+        self.output = Some(String::from_str(self.alloc, name)?);
+        Ok(Taken::Word)
+    }
+
+    // Accepts a command or a mode, and behind them files.
+    fn take_name(&mut self, word: &str) -> Result<Taken, AllocError>
+        ensures given { self.new ≡ record self.old { task = self.new.task; input = input_of word.now self.old; inputs = self.new.inputs } }
+        ensures verb { IfSome self.new.task (λ verb. (self.old.task ≡ Some verb) ⊎ (word.now ≡ task_name verb)) }
+        ensures taken { IfOk result (IsTaken self.old word.now) }
+    {
+        if self.task.is_some() {
+            self.inputs.push(String::from_str(self.alloc, word)?)?;
+            return Ok(Taken::Word);
+        }
+        match word {
+            "lines" => Ok(self.take_command(Input::Lines, None)),
+            "decode" => Ok(self.take_command(Input::Documents, None)),
+            "encode" => Ok(self.take_command(Input::Lines, Some(Task::Encode))),
+            _ => Ok(self.take_mode(word)),
+        }
+    }
+
+    // Accepts the word of a command, which is the first.
+    fn take_command(&mut self, input: Input, task: Option<Task>) -> Taken
+        ensures given { self.new ≡ record self.old { input = input; task = task } }
+        ensures taken { result ≡ (if is_text self.old.input then Taken.Word else Taken.Wrong Misuse.UnknownMode) }
+    {
+        let is_first = self.input == Input::Text;
+        self.input = input;
+        self.task = task;
+        if is_first {
+            Taken::Word
+        } else {
+            Taken::Wrong(Misuse::UnknownMode)
+        }
+    }
+
+    // Accepts a mode.
+    fn take_mode(&mut self, word: &str) -> Taken
+        ensures given { self.new ≡ record self.old { task = self.new.task } }
+        ensures verb { IfSome self.new.task (λ verb. word.now ≡ task_name verb) }
+        ensures taken { (result ≡ Taken.Word) ⊎ ((result ≡ Taken.Wrong Misuse.UnknownMode) × ((task : Task) → word.now ≡ task_name task → ⊥)) }
+    {
+        self.task = Task::from_name(word);
+        if self.task.is_some() {
+            Taken::Word
+        } else {
+            Taken::Wrong(Misuse::UnknownMode)
+        }
+    }
+
+    /// Returns what all words ask for.
+    pub fn answer(self) -> Result<Asked, AllocError>
+        ensures { IfOk result (IsAnswer self) }
+    {
+        let command = self.command();
+        if let Some(flag) = awaited(self.next) {
+            return Ok(wrong(self.alloc, Misuse::NoValue(flag), command));
+        }
+        let Some(verb) = self.task else {
+            return Ok(wrong(self.alloc, Misuse::NoMode, command));
+        };
+        let task = judged(self.is_canonical, verb);
+        if let Some(misuse) = misfit(&self, task) {
+            return Ok(wrong(self.alloc, misuse, command));
+        }
+        let Given {
+            alloc,
+            keeps_going,
+            input,
+            sorts_keys,
+            is_strict,
+            is_distinct,
+            is_legacy,
+            indent,
+            output,
+            inputs,
+            ..
+        } = self;
+        let output = match output {
+            Some(name) => name,
+            None => String::from_str(alloc, STANDARD)?,
+        };
+        let task = if sorts_keys || is_strict {
+            task
+        } else {
+            in_order(task)
+        };
+        Ok(Asked::Run(Order {
+            task: match taking_of(is_distinct, is_legacy) {
+                Some(taking) => first_taken(taking, task),
+                None => task,
+            },
+            options: options_of(is_strict),
+            on_refusal: if keeps_going {
+                OnRefusal::KeepGoing
+            } else {
+                OnRefusal::Stop
+            },
+            input,
+            indent,
+            output,
+            inputs: inputs_of(alloc, inputs)?,
+        }))
+    }
+}
+
+// Returns what is wrong with all words.
+fn wrong(alloc: Global, misuse: Misuse, command: Command) -> Asked
+    ensures { IsAskedWrong misuse command result }
+{
+    Asked::Wrong(Wrong {
+        misuse,
+        command,
+        word: String::new(alloc),
+    })
+}
+
+// Sets what an option sets, unless it is given twice.
+fn set(is_given: &mut bool, flag: Flag) -> Taken
+    ensures word { result ≡ (if is_given.old then Taken.Wrong (Misuse.Twice flag) else Taken.Word) }
+    ensures set { is_given.new ≡ true }
+{
+    if *is_given {
+        return Taken::Wrong(Misuse::Twice(flag));
+    }
+    *is_given = true;
+    Taken::Word
+}

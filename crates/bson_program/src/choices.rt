@@ -1,0 +1,80 @@
+//! What follows from the options that are given: the task, and which doubles have a text.
+ghost use Rattle.std.specs.Prelude.{◌≡◌};
+ghost use Rattle.bson_program.specs.Order.{awaited, first_taken, task_in_order, judged, options_of, taking_of};
+
+use crate::arguments::Next;
+use crate::order::Flag;
+use bson::extjson::{Doubles, KeyOrder, Options};
+use bson_run::order::{Criterion, Taking, Task, Work};
+
+/// Returns the option that waits for its value.
+pub fn awaited(next: Next) -> Option<Flag>
+    ensures { result ≡ awaited next }
+{
+    match next {
+        Next::Output => Some(Flag::Output),
+        Next::Indent => Some(Flag::Indent),
+        Next::Jobs => Some(Flag::Jobs),
+        Next::Any | Next::Name => None,
+    }
+}
+
+/// Returns which doubles have a text: all, or those of the specification.
+pub fn options_of(is_strict: bool) -> Options
+    ensures { result ≡ options_of is_strict }
+{
+    let doubles = if is_strict {
+        Doubles::Special
+    } else {
+        Doubles::Finite
+    };
+    Options {
+        doubles,
+        key_order: KeyOrder::Ascending,
+    }
+}
+
+/// Returns the task that keeps the keys of each document in their order.
+pub fn in_order(task: Task) -> Task
+    ensures { result ≡ task_in_order task }
+{
+    match task {
+        Task::Write(mode) => Task::WriteInOrder(mode),
+        Task::Encode => Task::EncodeInOrder,
+        other => other,
+    }
+}
+
+/// Returns the task whose check has the criterion that the option sets.
+pub fn judged(is_canonical: bool, task: Task) -> Task
+    ensures { result ≡ judged is_canonical task }
+{
+    match task {
+        Task::Check(_) if is_canonical => Task::Check(Criterion::Canonical),
+        other => other,
+    }
+}
+
+/// Returns what is looked for in a text before it is read.
+pub fn taking_of(is_distinct: bool, is_legacy: bool) -> Option<Taking>
+    ensures { result ≡ taking_of is_distinct is_legacy }
+{
+    match (is_distinct, is_legacy) {
+        (true, true) => Some(Taking::DistinctLegacy),
+        (true, false) => Some(Taking::Distinct),
+        (false, true) => Some(Taking::Legacy),
+        (false, false) => None,
+    }
+}
+
+/// Returns the task, for texts that are read after this look.
+pub fn first_taken(taking: Taking, task: Task) -> Task
+    ensures { result ≡ first_taken taking task }
+{
+    match task {
+        Task::Write(mode) => Task::Taken(taking, Work::Write(mode)),
+        Task::WriteInOrder(mode) => Task::Taken(taking, Work::WriteInOrder(mode)),
+        Task::Check(Criterion::Valid) => Task::Taken(taking, Work::Check),
+        other => other,
+    }
+}

@@ -1,0 +1,157 @@
+//! A run over BSON documents, one behind the other.
+ghost use Rattle.std.specs.Prelude.{◌≡◌, ◌+◌, ◌↔◌, [], false, IfErr, IfOk, IsTrue};
+ghost use Rattle.std.specs.Io.Buffered.{writer_buffer, writer_inner};
+ghost use Rattle.std.specs.Io.KnownBytes.{Appends};
+ghost use Rattle.bson_codec.specs.Documents.{EndsAt, IsOfBytes};
+ghost use Rattle.bson_codec.specs.Told.{told_of};
+ghost use Rattle.bson_program.specs.Dump.{IsDoneDump};
+ghost use Rattle.bson_program.specs.Stops.{IsDocumentLine};
+
+use crate::order::Order;
+use crate::progress::{Counted, Verdicts};
+use crate::run::{Stop, write_stop};
+use crate::streams::{Sink, Source};
+use bson::extjson::Form;
+use bson_codec::de::DEPTH;
+use bson_codec::documents::{DocumentCounts, Line, Run, run_documents};
+use bson_codec::run_end::{RunEnd, RunFault};
+use bson_convert::mode::Mode;
+use bson_run::lines::Counts;
+use bson_run::order::{OnRefusal, Task};
+use std::alloc::Global;
+use std::io::{BufReader, BufWriter, Read, Write};
+use std::rt::Stderr;
+
+/// As much as is read or written at once.
+const BLOCK: usize = 65536;
+
+/// Writes a line of each document of a file. If the run keeps going, a document at which it ends
+/// counts as one that was rejected.
+pub fn run_dump<'a>(
+    rt: &HostRuntime,
+    order: &'a Order,
+    name: &'a str,
+    reader: &mut Counted<'_, Source>,
+    sink: &mut Sink,
+    report: &mut Verdicts<'_, Stderr>,
+) -> Result<Counts, Stop<'a>> {
+    match in_blocks(rt.alloc(), run_of(order), reader, sink, report) {
+        Ok(counts) => Ok(Counts {
+            lines: counts.documents,
+            refused: counts.refused,
+        }),
+        Err(end) => Err(match end.fault {
+            RunFault::CannotRead => Stop::Input(name, reader.error),
+            RunFault::CannotWrite => write_stop(order, sink, report),
+            _ => Stop::Document(name, end),
+        }),
+    }
+}
+
+// What is asked of each document.
+fn run_of(order: &Order) -> Run
+    ensures depth { result.depth ≡ DEPTH }
+    ensures options { result.options ≡ order.now.options }
+    ensures line { IsDocumentLine order.now.task result.line }
+    ensures refusal { IsTrue result.keep_going ↔ (order.now.on_refusal ≡ OnRefusal.KeepGoing) }
+{
+    Run {
+        depth: DEPTH,
+        options: order.options,
+        line: match order.task {
+            Task::Write(Mode::Canonical) => Line::Text(Form::Canonical),
+            Task::Write(Mode::Relaxed) => Line::Text(Form::Relaxed),
+            Task::WriteInOrder(Mode::Canonical) => Line::TextInOrder(Form::Canonical),
+            Task::WriteInOrder(Mode::Relaxed) => Line::TextInOrder(Form::Relaxed),
+            Task::Write(Mode::Show) | Task::WriteInOrder(Mode::Show) => Line::Shown,
+            // (bytes are made of texts alone)
+            Task::Check(_) | Task::Encode | Task::EncodeInOrder | Task::Taken(..) => Line::Nothing,
+        },
+        keep_going: order.on_refusal == OnRefusal::KeepGoing,
+    }
+}
+
+// Runs over blocks of bytes.
+fn in_blocks<R: Read, W: Write, T: Write>(
+    alloc: Global,
+    run: Run,
+    reader: &mut R,
+    writer: &mut W,
+    report: &mut T,
+) -> Result<DocumentCounts, RunEnd> {
+    let Ok(mut reader) = BufReader::with_capacity(alloc, BLOCK, reader) else {
+        return Err(end_at_start(RunFault::OutOfMemory));
+    };
+    let Ok(mut writer) = BufWriter::with_capacity(alloc, BLOCK, writer) else {
+        return Err(end_at_start(RunFault::OutOfMemory));
+    };
+    run_whole(alloc, run, &mut reader, &mut writer, report)
+}
+
+// A run that ended before its first document.
+fn end_at_start(fault: RunFault) -> RunEnd
+    ensures { result.fault ≡ fault }
+{
+    RunEnd {
+        fault,
+        number: 1,
+        refused: 0,
+        start: 0,
+    }
+}
+
+// Runs over the documents. Where it returns counts, or ends at a document, the last block was
+// written too.
+fn run_whole<R: Read, W: Write + Drop, T: Write>(
+    alloc: Global,
+    run: Run,
+    reader: &mut R,
+    writer: &mut BufWriter<W>,
+    report: &mut T,
+) -> Result<DocumentCounts, RunEnd>
+    requires { writer_buffer writer.old ≡ [] }
+    ensures done { IfOk result (λ counts. IsDoneDump run (R.remaining reader.old) (R.remaining reader.new)
+        (W.contents (writer_inner writer.old)) (W.contents (writer_inner writer.new))
+        (T.contents report.old) (T.contents report.new) counts.documents counts.refused) }
+    ensures ended { IfErr result (λ end. IsOfBytes end.fault → (run.keep_going ≡ false)
+        × EndsAt run (R.remaining reader.old) (R.remaining reader.new)
+        (W.contents (writer_inner writer.old)) (W.contents (writer_inner writer.new))
+        (T.contents report.old) (T.contents report.new) end.fault end.number end.refused end.start) }
+{
+    let ended = run_documents(alloc, run, reader, writer, report);
+    let Ok(()) = writer.flush() else {
+        return Err(end_at_start(RunFault::CannotWrite));
+    };
+    match ended {
+        Ok(counts) => Ok(counts),
+        Err(end) if run.keep_going => report_end(alloc, end, report),
+        Err(end) => Err(end),
+    }
+}
+
+// Reports the document at which a run that keeps going ended, as those that it passed over.
+fn report_end<T: Write>(
+    alloc: Global,
+    end: RunEnd,
+    report: &mut T,
+) -> Result<DocumentCounts, RunEnd>
+    ensures reported { IfOk result (λ counts. IsOfBytes end.fault
+        × Appends (T.contents report.old) (T.contents report.new) (told_of end.number end.start end.fault)
+        × (counts.documents ≡ end.number) × (counts.refused ≡ end.refused + 1)) }
+    ensures fails { IfErr result (λ it. IsOfBytes it.fault → ⊥) }
+{
+    match end.fault {
+        RunFault::Malformed { .. } | RunFault::FiniteDouble => {}
+        RunFault::CannotRead | RunFault::CannotWrite | RunFault::OutOfMemory => return Err(end),
+    }
+    let (Some(refused), Ok(verdict)) = (end.refused.checked_add(1), end.to_line(alloc)) else {
+        return Err(end_at_start(RunFault::OutOfMemory));
+    };
+    match report.write_all(verdict.as_bytes()) {
+        Ok(()) => Ok(DocumentCounts {
+            documents: end.number,
+            refused,
+        }),
+        Err(_) => Err(end_at_start(RunFault::CannotWrite)),
+    }
+}

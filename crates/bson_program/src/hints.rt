@@ -1,0 +1,301 @@
+//! What a rejected input holds in place of what it should, as its first bytes show.
+ghost use Rattle.std.specs.Prelude.{◌≡◌, not, reverse};
+ghost use Rattle.std.specs.List.{find};
+ghost use Rattle.bson_program.specs.Hints.{behind_line, compression_of, doubles, hint_of_encoding, ends_in_zero, first_line};
+ghost use Rattle.bson_program.specs.Hints.{hint_of, hint_of_dump, hint_of_lines, hint_of_one, is_blank, is_dump};
+ghost use Rattle.bson_program.specs.Hints.{has_content, is_high_first, is_length, is_low_first};
+ghost use Rattle.bson_program.specs.Hints.{is_opening, little, opens_over_lines, starts_text};
+
+use crate::messages::line_len;
+use crate::order::Input;
+
+/// The greatest length of a document that is told from text by its first bytes.
+const MOST: usize = 1 << 27;
+
+/// What a rejected input holds, or how it is read.
+#[derive(Clone, Copy, PartialEq, Eq)]
+pub enum Hint {
+    /// Bytes that `gzip` made.
+    Gzip,
+    /// Bytes that `zstd` made.
+    Zstd,
+    /// Bytes that `bzip2` made.
+    Bzip2,
+    /// Bytes that `xz` made.
+    Xz,
+    /// An archive of mongodump.
+    Archive,
+    /// BSON documents, where a text is expected.
+    Dump,
+    /// A text, where BSON documents are expected.
+    Text,
+    /// UTF-16 with a byte order mark.
+    Utf16,
+    /// UTF-16 without one, the lower byte of each unit first.
+    Utf16LittleEndian,
+    /// UTF-16 without one, the higher byte first.
+    Utf16BigEndian,
+    /// A text behind a byte order mark, which standard input may not have.
+    Mark,
+    /// A text per line, where one text is expected.
+    TextPerLine,
+    /// One text over several lines, where a text per line is expected.
+    OneText,
+    /// The same where bytes are made of each line.
+    OneTextToEncode,
+    /// Several texts, each over several lines.
+    LongTexts,
+    /// Numbers that `--strict` alone rejects.
+    Doubles,
+}
+
+/// What is known of a rejected input besides its first bytes.
+#[derive(Clone, Copy, PartialEq, Eq)]
+pub struct Rejected {
+    /// What the input should be.
+    pub input: Input,
+    /// Whether bytes are made of each line.
+    pub encodes: bool,
+    /// Whether it is standard input.
+    pub is_standard: bool,
+    /// Whether a finite double was rejected, as `--strict` asks.
+    pub has_double: bool,
+    /// Whether the first line is accepted as a text, and another text follows on later lines.
+    pub has_lines: bool,
+    /// Whether the first bytes are one text and the beginning of another.
+    pub has_more: bool,
+}
+
+/// Returns what helps with an input that was rejected, whose first bytes these are.
+pub fn hint_for(rejected: Rejected, head: &[u8]) -> Option<Hint>
+    ensures { result ≡ hint_of rejected head.now }
+{
+    if let Some(hint) = compression_of(head) {
+        return Some(hint);
+    }
+    match rejected.input {
+        Input::Text => match encoding_of(head) {
+            Some(hint) => Some(hint),
+            None => hint_for_one(rejected, head),
+        },
+        Input::Lines => match encoding_of(head) {
+            Some(hint) => Some(hint),
+            None => hint_for_lines(rejected, head),
+        },
+        Input::Documents => hint_for_dump(rejected, head),
+    }
+}
+
+// What helps where one text is expected.
+fn hint_for_one(rejected: Rejected, head: &[u8]) -> Option<Hint>
+    ensures { result ≡ hint_of_one rejected head.now }
+{
+    if rejected.is_standard && head.starts_with(b"\xef\xbb\xbf") {
+        return Some(Hint::Mark);
+    }
+    if rejected.has_lines {
+        return Some(Hint::TextPerLine);
+    }
+    doubles(rejected.has_double)
+}
+
+// What helps where a text per line is.
+fn hint_for_lines(rejected: Rejected, head: &[u8]) -> Option<Hint>
+    ensures { result ≡ hint_of_lines rejected head.now }
+{
+    let (line, rest) = split_line(head);
+    if !opens(line) || !has_content(rest) {
+        return doubles(rejected.has_double);
+    }
+    if rejected.has_more {
+        return Some(Hint::LongTexts);
+    }
+    if rejected.encodes {
+        Some(Hint::OneTextToEncode)
+    } else {
+        Some(Hint::OneText)
+    }
+}
+
+// What helps where documents of BSON are.
+fn hint_for_dump(rejected: Rejected, head: &[u8]) -> Option<Hint>
+    ensures { result ≡ hint_of_dump rejected head.now }
+{
+    if starts_text(head) && !is_dump(head) {
+        return Some(Hint::Text);
+    }
+    doubles(rejected.has_double)
+}
+
+fn doubles(has_double: bool) -> Option<Hint>
+    ensures { result ≡ doubles has_double }
+{
+    if has_double {
+        Some(Hint::Doubles)
+    } else {
+        None
+    }
+}
+
+// The program that packed the bytes, by the bytes with which its files begin.
+fn compression_of(head: &[u8]) -> Option<Hint>
+    ensures { result ≡ compression_of head.now }
+{
+    if head.starts_with(b"\x1f\x8b") {
+        return Some(Hint::Gzip);
+    }
+    if head.starts_with(b"\x28\xb5\x2f\xfd") {
+        return Some(Hint::Zstd);
+    }
+    if head.starts_with(b"BZh") {
+        return Some(Hint::Bzip2);
+    }
+    if head.starts_with(b"\xfd7zX") {
+        return Some(Hint::Xz);
+    }
+    if head.starts_with(b"\x6d\xe2\x99\x81") {
+        return Some(Hint::Archive);
+    }
+    None
+}
+
+// How a text is encoded that is no UTF-8, or that it is no text.
+fn encoding_of(head: &[u8]) -> Option<Hint>
+    ensures { result ≡ hint_of_encoding head.now }
+{
+    if head.starts_with(b"\xff\xfe") || head.starts_with(b"\xfe\xff") {
+        return Some(Hint::Utf16);
+    }
+    if is_low_first(head) {
+        return Some(Hint::Utf16LittleEndian);
+    }
+    if is_high_first(head) {
+        return Some(Hint::Utf16BigEndian);
+    }
+    if is_dump(head) {
+        return Some(Hint::Dump);
+    }
+    None
+}
+
+// Whether a text begins there in UTF-16, the lower byte of each unit first.
+fn is_low_first(head: &[u8]) -> bool
+    ensures { result ≡ is_low_first head.now }
+{
+    if head.len() < 4 {
+        return false;
+    }
+    let is_text = is_opening(head[0]) && head[2] != 0;
+    is_text && head[1] == 0 && head[3] == 0 && (head.len() < 6 || head[5] == 0)
+}
+
+// The same with the higher byte first.
+fn is_high_first(head: &[u8]) -> bool
+    ensures { result ≡ is_high_first head.now }
+{
+    if head.len() < 4 {
+        return false;
+    }
+    head[0] == 0 && is_opening(head[1]) && head[2] == 0 && head[3] != 0
+}
+
+// Whether a document of BSON begins there: its length, and the type of its first element; where all
+// of it is there, also the 0 byte that ends it.
+fn is_dump(head: &[u8]) -> bool
+    ensures { result ≡ is_dump head.now }
+{
+    if head.len() < 5 {
+        return false;
+    }
+    let length = little(head[0], head[1], head[2], head[3]);
+    is_length(length, head[4]) && ends_in_zero(length, head)
+}
+
+// The number of these bytes, the lowest first.
+fn little(a: u8, b: u8, c: u8, d: u8) -> usize
+    ensures { result ≡ little a b c d }
+{
+    let high = usize::from(c) + 256 * usize::from(d);
+    usize::from(a) + 256 * (usize::from(b) + 256 * high)
+}
+
+// Whether a document of this length may begin with an element of this type.
+fn is_length(length: usize, kind: u8) -> bool
+    ensures { result ≡ is_length length kind }
+{
+    if kind == 0 {
+        return length == 5;
+    }
+    (kind <= 0x13 || kind == 0x7f || kind == 0xff) && 5 < length && length <= MOST
+}
+
+// Whether the last of so many bytes is 0, or not there.
+fn ends_in_zero(length: usize, head: &[u8]) -> bool
+    ensures { result ≡ ends_in_zero length head.now }
+{
+    if length == 0 || head.len() < length {
+        return true;
+    }
+    head[length - 1] == 0
+}
+
+// Whether the first byte that is not blank opens an array or an object.
+fn starts_text(head: &[u8]) -> bool
+    ensures { result ≡ starts_text head.now }
+{
+    match first_content(head) {
+        Some(byte) => is_opening(byte),
+        None => false,
+    }
+}
+
+// Whether the line opens an array or an object, and ends with what opens another or with a comma.
+fn opens(line: &[u8]) -> bool
+    ensures { result ≡ opens_over_lines line.now }
+{
+    match last_content(line) {
+        Some(last) => (is_opening(last) || last == b',') && starts_text(line),
+        None => false,
+    }
+}
+
+/// Returns whether a byte is not blank.
+pub fn has_content(bytes: &[u8]) -> bool
+    ensures { result ≡ has_content bytes.now }
+{
+    first_content(bytes).is_some()
+}
+
+// The first byte that is not blank.
+fn first_content(bytes: &[u8]) -> Option<u8>
+    ensures { result ≡ find (λ byte. not (is_blank byte)) bytes.now }
+{
+    bytes.iter().find(|byte| !is_blank(**byte)).copied()
+}
+
+// The last byte that is not blank.
+fn last_content(bytes: &[u8]) -> Option<u8>
+    ensures { result ≡ find (λ byte. not (is_blank byte)) (reverse bytes.now) }
+{
+    bytes.iter().rev().find(|byte| !is_blank(**byte)).copied()
+}
+
+fn is_opening(byte: u8) -> bool
+    ensures { result ≡ is_opening byte }
+{
+    byte == b'[' || byte == b'{'
+}
+
+fn is_blank(byte: u8) -> bool
+    ensures { result ≡ is_blank byte }
+{
+    byte == b' ' || byte == b'\t' || byte == b'\r' || byte == b'\n'
+}
+
+/// The first line, with its newline, and what stands behind it.
+pub fn split_line(head: &[u8]) -> (&[u8], &[u8])
+    ensures line { result.0.now ≡ first_line head.now }
+    ensures rest { result.1.now ≡ behind_line head.now }
+{
+    head.split_at(line_len(head))
+}

@@ -1,0 +1,112 @@
+//! The program that `./bson` runs: it converts one document, the lines of files, or dumps, and writes
+//! dumps, all of them with the words that its user gave.
+//!
+//! The library `bson_run` converts. This crate has the arguments (`order`, `arguments`, `values`,
+//! `choices`, `fits`), the files (`run`, `streams`, `output`; `whole` for one text, `dump` for BSON
+//! documents), the line of progress (`progress`), the lines on standard error (`messages`, `misuse`,
+//! `hints`, `rejected`), the help (`words`) and the statuses.
+#![tactic(auto)]
+
+mod arguments;
+mod choices;
+mod dump;
+mod fits;
+mod hints;
+mod messages;
+mod misuse;
+mod order;
+mod output;
+mod progress;
+mod rejected;
+mod run;
+mod streams;
+mod values;
+mod whole;
+mod words;
+
+use crate::messages::{line_of, summary};
+use crate::misuse::misuse_line;
+use crate::order::{Asked, Command, Misuse, Order, STANDARD, Wrong, parse_arguments};
+use crate::run::{Stop, run};
+use crate::words::{OUT_OF_MEMORY, VERSION, help_of, usage_of};
+use bson_convert::fault::Fault;
+use bson_convert::program::{report_failure, words_given};
+use std::alloc::AllocError;
+use std::io::ErrorKind;
+use std::process::ExitCode;
+
+/// The status by which a shell tells that nobody reads the output any more: 128, and SIGPIPE.
+const NO_READER: u8 = 141;
+
+// Status 0: done, and no line was refused. Status 1: a line was refused, or the run could not go
+// on, which standard error tells. Status 2: other arguments, and nothing was read. Status 141:
+// nobody reads the output any more, and nothing is told.
+fn main(rt: HostRuntime) -> ExitCode {
+    match read_order(&rt) {
+        Ok(Asked::Run(order)) => run_order(&rt, &order),
+        Ok(Asked::Help(command)) => print_text(&rt, help_of(command)),
+        Ok(Asked::Version) => print_text(&rt, VERSION),
+        Ok(Asked::Wrong(wrong)) => reject(&rt, &wrong),
+        Err(_) => report_failure(&rt, OUT_OF_MEMORY, 1),
+    }
+}
+
+// Returns what the arguments ask for.
+fn read_order(rt: &HostRuntime) -> Result<Asked, Fault> {
+    let Some(words) = words_given(rt)? else {
+        return Ok(Asked::Wrong(Wrong {
+            misuse: Misuse::NotUtf8,
+            command: Command::All,
+            word: String::new(rt.alloc()),
+        }));
+    };
+    match parse_arguments(rt.alloc(), words) {
+        Ok(asked) => Ok(asked),
+        Err(_) => Err(Fault::OutOfMemory),
+    }
+}
+
+// Names what is wrong with the arguments, and then shows the usage.
+fn reject(rt: &HostRuntime, wrong: &Wrong) -> ExitCode {
+    match misuse_line(rt.alloc(), wrong) {
+        Ok(line) => {
+            let _ = rt.eprintln(&line);
+            report_failure(rt, usage_of(wrong.command), 2)
+        }
+        Err(_) => report_failure(rt, OUT_OF_MEMORY, 1),
+    }
+}
+
+// Runs, and tells what came of it, and what helps with the inputs that were rejected.
+fn run_order(rt: &HostRuntime, order: &Order) -> ExitCode {
+    let mut hints = Vec::new(rt.alloc());
+    let status = match run(rt, order, &mut hints) {
+        Ok(counts) if counts.refused == 0 => ExitCode::SUCCESS,
+        Ok(counts) => end_with(rt, summary(rt.alloc(), order.input, counts)),
+        Err(Stop::Output(_, Some(error))) if error.kind() == ErrorKind::BrokenPipe => {
+            ExitCode::from(NO_READER)
+        }
+        Err(stop) => end_with(rt, line_of(rt.alloc(), stop)),
+    };
+    for hint in hints.iter() {
+        let _ = rt.eprintln(hint.as_str());
+    }
+    status
+}
+
+// Status 1, once the line was given to standard error.
+fn end_with(rt: &HostRuntime, line: Result<String, AllocError>) -> ExitCode {
+    match line {
+        Ok(line) => report_failure(rt, &line, 1),
+        Err(_) => report_failure(rt, OUT_OF_MEMORY, 1),
+    }
+}
+
+// Writes what the program says of itself.
+fn print_text(rt: &HostRuntime, text: &str) -> ExitCode {
+    match rt.println(text) {
+        Ok(()) => ExitCode::SUCCESS,
+        Err(error) if error.kind() == ErrorKind::BrokenPipe => ExitCode::from(NO_READER),
+        Err(error) => end_with(rt, line_of(rt.alloc(), Stop::Output(STANDARD, Some(error)))),
+    }
+}

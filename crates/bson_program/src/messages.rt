@@ -1,0 +1,224 @@
+//! The lines on standard error.
+ghost use Rattle.std.specs.Prelude.{◌≡◌, ◌==◌, ◌++◌, IfOk, OnOk, position, string_bytes};
+ghost use Rattle.bson_program.specs.Messages.{all_under, document_words, escaped_name, head_of};
+ghost use Rattle.bson_program.specs.Messages.{input_kind, line_head, line_len, printable, shown_name, summary_of};
+ghost use Rattle.bson_program.specs.Messages.{text_head, text_message, told_of_document, under, IsCause, IsLineFor};
+
+use crate::order::{Input, STANDARD};
+use crate::run::Stop;
+use bson_codec::run_end::{RunEnd, RunFault};
+use bson_convert::error;
+use bson_run::lines::Counts;
+use std::alloc::{AllocError, Global};
+use std::io::Error;
+
+/// What a verdict begins with, before its line's number.
+const HEAD: &[u8] = b"bson: line ";
+
+/// Where bytes would go to a terminal.
+const TERMINAL: &str = "bson: BSON bytes are not written to a terminal; give -o FILE, or a pipe";
+
+/// How many lines or documents there were, and how many were refused.
+pub fn summary(alloc: Global, input: Input, counts: Counts) -> Result<String, AllocError>
+    ensures { IfOk result (λ line. string_bytes line ≡ summary_of input counts.lines counts.refused) }
+{
+    let what = kind_of(input);
+    format!(in alloc; "bson: {} {what}, {} refused", counts.lines, counts.refused)
+}
+
+// What the input has.
+fn kind_of(input: Input) -> &'static str
+    ensures { result.now ≡ input_kind input }
+{
+    match input {
+        Input::Lines | Input::Text => "lines",
+        Input::Documents => "documents",
+    }
+}
+
+/// What stopped the run, and where.
+pub fn line_of(alloc: Global, stop: Stop<'_>) -> Result<String, AllocError>
+    ensures { IfOk result (λ line. IsLineFor stop.entry (string_bytes line)) }
+{
+    match stop {
+        Stop::Input(name, error) => {
+            let (name, cause) = (show_name(alloc, name, "input")?, cause_of(alloc, error)?);
+            format!(in alloc; "bson: cannot read {name}{cause}")
+        }
+        Stop::Output(name, error) => {
+            let (name, cause) = (show_name(alloc, name, "output")?, cause_of(alloc, error)?);
+            format!(in alloc; "bson: cannot write {name}{cause}")
+        }
+        Stop::Both(name) => {
+            let name = show_name(alloc, name, "input")?;
+            format!(in alloc; "bson: {name} is both an input and the output")
+        }
+        Stop::Terminal => String::from_str(alloc, TERMINAL),
+        Stop::Text(name, number, fault, place) => at_text(alloc, name, number, &fault, &place),
+        Stop::Document(name, end) => at_document(alloc, name, end),
+    }
+}
+
+// At which document the run stopped, and why.
+fn at_document(alloc: Global, name: &str, end: RunEnd) -> Result<String, AllocError>
+    ensures { IfOk result (λ line. string_bytes line ≡ told_of_document name.now end) }
+{
+    let words = document_words(alloc, end)?;
+    let head = head_of(alloc, name)?;
+    let words = words.trim_end();
+    format!(in alloc; "{head}: {words}")
+}
+
+// Why it stopped there; of a stream alone without the document.
+fn document_words(alloc: Global, end: RunEnd) -> Result<String, AllocError>
+    ensures { IfOk result (λ words. string_bytes words ≡ document_words end.number end.start end.fault) }
+{
+    match end.fault {
+        RunFault::CannotRead | RunFault::CannotWrite => String::from_str(
+            alloc,
+            end.fault.message(),
+        ),
+        _ => end.to_line(alloc),
+    }
+}
+
+// Why a text was refused, and where in it.
+fn at_text(
+    alloc: Global,
+    name: &str,
+    number: u64,
+    fault: &error::Error,
+    place: &str,
+) -> Result<String, AllocError>
+    ensures { IfOk result (λ line. string_bytes line ≡ text_message name.now number fault.now place.now) }
+{
+    let words = fault.message();
+    let head = text_head(alloc, name, number)?;
+    format!(in alloc; "{head}: {words}{place}")
+}
+
+// What a message begins with: where the text is on a line, with its number.
+fn text_head(alloc: Global, name: &str, number: u64) -> Result<String, AllocError>
+    ensures { IfOk result (λ head. string_bytes head ≡ text_head name.now number) }
+{
+    if number == 0 {
+        head_of(alloc, name)
+    } else {
+        line_head(alloc, name, number)
+    }
+}
+
+/// What a message begins with: the file's name, or that of the program.
+pub fn head_of(alloc: Global, name: &str) -> Result<String, AllocError>
+    ensures { IfOk result (λ head. string_bytes head ≡ head_of name.now) }
+{
+    if name == STANDARD {
+        return String::from_str(alloc, "bson");
+    }
+    escape_name(alloc, name)
+}
+
+// The same with the number of a line.
+fn line_head(alloc: Global, name: &str, number: u64) -> Result<String, AllocError>
+    ensures { IfOk result (λ head. string_bytes head ≡ line_head name.now number) }
+{
+    if name == STANDARD {
+        return format!(in alloc; "bson: line {number}");
+    }
+    let name = escape_name(alloc, name)?;
+    format!(in alloc; "{name}:{number}")
+}
+
+/// A file as messages name it.
+pub fn show_name(alloc: Global, name: &str, stream: &str) -> Result<String, AllocError>
+    ensures { IfOk result (λ shown. string_bytes shown ≡ shown_name name.now stream.now) }
+{
+    if name == STANDARD {
+        return format!(in alloc; "standard {stream}");
+    }
+    escape_name(alloc, name)
+}
+
+/// Returns a name on one line, that steers no terminal.
+pub fn escape_name(alloc: Global, name: &str) -> Result<String, AllocError>
+    ensures { IfOk result (λ escaped. string_bytes escaped ≡ escaped_name name.now) }
+{
+    let mut escaped = String::new(alloc);
+    for letter in name.chars() {
+        push_printable(&mut escaped, letter)?;
+    }
+    Ok(escaped)
+}
+
+// Adds a letter, or its escape where it would break a line or steer a terminal.
+fn push_printable(text: &mut String, letter: char) -> Result<(), AllocError>
+    ensures { OnOk result (string_bytes text.new ≡ string_bytes text.old ++ printable letter) }
+{
+    let is_unprintable = letter.is_control() || letter == '\u{2028}' || letter == '\u{2029}';
+    if !is_unprintable {
+        return text.push(letter);
+    }
+    for part in letter.escape_default() {
+        text.push(part)?;
+    }
+    Ok(())
+}
+
+// The system's words for an error, behind a colon.
+fn cause_of(alloc: Global, error: Option<Error>) -> Result<String, AllocError>
+    ensures { IfOk result (λ cause. IsCause error (string_bytes cause)) }
+{
+    let Some(error) = error else {
+        return Ok(String::new(alloc));
+    };
+    let words = format!(in alloc; "{error}")?;
+    match words.split_once(" (os error ") {
+        Some((words, _)) => format!(in alloc; ": {words}"),
+        None => format!(in alloc; ": {words}"),
+    }
+}
+
+/// Verdicts on lines, with a file's name and the line's number in front, as editors and grep have
+/// them; on documents, with the name in front.
+pub fn name_verdicts(alloc: Global, name: &str, verdicts: &[u8]) -> Result<Vec<u8>, AllocError>
+    ensures { IfOk result (λ named. named.items ≡ all_under name.now verdicts.now) }
+{
+    let mut named = Vec::new(alloc);
+    let mut rest = verdicts;
+    while !rest.is_empty() {
+        let (verdict, others) = rest.split_at(line_len(rest));
+        push_named(&mut named, name, verdict)?;
+        rest = others;
+    }
+    Ok(named)
+}
+
+/// How long the first line is, with the newline behind it.
+pub fn line_len(bytes: &[u8]) -> usize
+    ensures { result ≡ line_len bytes.now }
+{
+    match newline_at(bytes) {
+        Some(at) => at + 1,
+        None => bytes.len(),
+    }
+}
+
+// Where the first newline stands.
+fn newline_at(bytes: &[u8]) -> Option<usize>
+    ensures { result ≡ position (λ byte. byte == 10) bytes.now }
+{
+    bytes.iter().position(|byte| *byte == b'\n')
+}
+
+// Adds a verdict behind the name.
+fn push_named(named: &mut Vec<u8>, name: &str, verdict: &[u8]) -> Result<(), AllocError>
+    ensures { OnOk result (named.new.items ≡ named.old.items ++ under name.now verdict.now) }
+{
+    named.extend_from_slice(name.as_bytes())?;
+    if verdict.starts_with(HEAD) {
+        named.push(b':')?;
+        return named.extend_from_slice(&verdict[HEAD.len()..]);
+    }
+    named.extend_from_slice(b": ")?;
+    named.extend_from_slice(verdict)
+}

@@ -1,0 +1,184 @@
+//! What is told of arguments that the program does not accept.
+ghost use Rattle.std.specs.Prelude.{◌≡◌, ℕ, List, IfOk, string_bytes};
+ghost use Rattle.bson_program.specs.Flags.{flag_name};
+ghost use Rattle.bson_program.specs.Misuses.{command_name, full_name, kind_of_word, mode_without, see, misuse_message};
+ghost use Rattle.bson_program.specs.Messages.{escaped_name};
+ghost use Rattle.bson_convert.specs.Words.{name_of};
+ghost use Rattle.bson_run.specs.Words.{task_name};
+ghost use Rattle.bson_run.specs.declared.order.Task.{Task};
+
+use crate::messages::escape_name;
+use crate::order::{Command, Flag, Misuse, Wrong};
+use bson_convert::mode::Mode;
+use bson_run::order::{Criterion, Task, Work};
+use std::alloc::{AllocError, Global};
+
+/// Returns the line that names what is wrong with the arguments.
+pub fn misuse_line(alloc: Global, wrong: &Wrong) -> Result<String, AllocError>
+    ensures { IfOk result (λ line. string_bytes line ≡ misuse_message wrong.now.command wrong.now.misuse (string_bytes wrong.now.word)) }
+{
+    let command = wrong.command;
+    match wrong.misuse {
+        Misuse::UnknownOption => unknown_option(alloc, command, wrong.word.as_str()),
+        Misuse::UnknownMode => unknown_mode(alloc, command, wrong.word.as_str()),
+        Misuse::Former => former(alloc, command, wrong.word.as_str()),
+        Misuse::Twice(flag) => {
+            let name = flag_name(flag);
+            format!(in alloc; "bson: {name} is given twice")
+        }
+        Misuse::NoValue(flag) => no_value(alloc, flag),
+        Misuse::Unfit(flag, task) => unfit(alloc, command, flag, task),
+        Misuse::NoMode => {
+            let kind = kind_of_word(command);
+            format!(in alloc; "bson: no {kind} is given")
+        }
+        Misuse::ManyFiles => String::from_str(
+            alloc,
+            "bson: one document is read from one file; `bson lines` reads several",
+        ),
+        Misuse::NotUtf8 => String::from_str(alloc, "bson: an argument is not UTF-8"),
+    }
+}
+
+// Names an option that no command has.
+fn unknown_option(alloc: Global, command: Command, word: &str) -> Result<String, AllocError>
+    ensures { IfOk result (λ line. string_bytes line ≡ misuse_message command Misuse.UnknownOption word.now) }
+{
+    let (word, see) = (escape_name(alloc, word)?, see(alloc, command)?);
+    format!(in alloc; "bson: unknown option '{word}'{see}")
+}
+
+// Names a word that is not a command or a mode.
+fn unknown_mode(alloc: Global, command: Command, word: &str) -> Result<String, AllocError>
+    ensures { IfOk result (λ line. string_bytes line ≡ misuse_message command Misuse.UnknownMode word.now) }
+{
+    let kind = kind_of_word(command);
+    let shown = escape_name(alloc, word)?;
+    let help = see(alloc, command)?;
+    format!(in alloc; "bson: unknown {kind} '{shown}'{help}")
+}
+
+// Names an option of an earlier version.
+fn former(alloc: Global, command: Command, word: &str) -> Result<String, AllocError>
+    ensures { IfOk result (λ line. string_bytes line ≡ misuse_message command Misuse.Former word.now) }
+{
+    let shown = escape_name(alloc, word)?;
+    let help = see(alloc, command)?;
+    format!(in alloc; "bson: {shown} is the default now{help}")
+}
+
+// Says which value an option needs.
+fn no_value(alloc: Global, flag: Flag) -> Result<String, AllocError>
+    ensures { (command : Command) → (word : List ℕ) → IfOk result (λ line. string_bytes line ≡ misuse_message command (Misuse.NoValue flag) word) }
+{
+    match flag {
+        Flag::Indent => String::from_str(alloc, "bson: --indent needs a number from 1 to 16"),
+        Flag::Jobs => String::from_str(alloc, "bson: --jobs needs a number from 1 to 9999"),
+        _ => {
+            let name = flag_name(flag);
+            format!(in alloc; "bson: {name} needs a file")
+        }
+    }
+}
+
+// Names a command and an option that it does not have.
+fn unfit(alloc: Global, command: Command, flag: Flag, task: Task) -> Result<String, AllocError>
+    ensures { (word : List ℕ) → IfOk result (λ line. string_bytes line ≡ misuse_message command (Misuse.Unfit flag task) word) }
+{
+    let name = full_name(alloc, command, mode_without(flag, task))?;
+    let option = flag_name(flag);
+    format!(in alloc; "bson: {name} does not accept {option}")
+}
+
+// Says where the help is.
+fn see(alloc: Global, command: Command) -> Result<String, AllocError>
+    ensures { IfOk result (λ text. string_bytes text ≡ see command) }
+{
+    let name = command_name(command);
+    format!(in alloc; " (see {name} --help)")
+}
+
+// Returns a mode with its command.
+fn full_name(alloc: Global, command: Command, mode: &str) -> Result<String, AllocError>
+    ensures { IfOk result (λ name. string_bytes name ≡ full_name command mode.now) }
+{
+    match command {
+        Command::Lines => format!(in alloc; "lines {mode}"),
+        Command::Decode => format!(in alloc; "decode {mode}"),
+        Command::All | Command::Text | Command::Encode => String::from_str(alloc, mode),
+    }
+}
+
+// Returns the words before a command's options.
+fn command_name(command: Command) -> &'static str
+    ensures { result.now ≡ command_name command }
+{
+    match command {
+        Command::All | Command::Text => "bson",
+        Command::Lines => "bson lines",
+        Command::Decode => "bson decode",
+        Command::Encode => "bson encode",
+    }
+}
+
+// Returns what a word is expected to be.
+fn kind_of_word(command: Command) -> &'static str
+    ensures { result.now ≡ kind_of_word command }
+{
+    match command {
+        Command::All => "command",
+        _ => "mode",
+    }
+}
+
+// Returns the mode that does not have an option, and behind it the option by which it does not.
+fn mode_without(flag: Flag, task: Task) -> &'static str
+    ensures { result.now ≡ mode_without flag task }
+{
+    match task {
+        Task::Check(Criterion::Canonical) if flag != Flag::Canonical => "check --canonical",
+        other => task_name(other),
+    }
+}
+
+/// Returns the name of a task.
+pub fn task_name(task: Task) -> &'static str
+    ensures { result.now ≡ task_name task }
+{
+    match task {
+        Task::Write(mode) | Task::WriteInOrder(mode) => mode_name(mode),
+        Task::Check(_) | Task::Taken(_, Work::Check) => "check",
+        Task::Encode | Task::EncodeInOrder => "encode",
+        Task::Taken(_, Work::Write(mode)) | Task::Taken(_, Work::WriteInOrder(mode)) => mode_name(
+            mode,
+        ),
+    }
+}
+
+// Returns the name of a mode.
+fn mode_name(mode: Mode) -> &'static str
+    ensures { result.now ≡ name_of mode }
+{
+    match mode {
+        Mode::Canonical => "canonical",
+        Mode::Relaxed => "relaxed",
+        Mode::Show => "show",
+    }
+}
+
+// Returns the name of an option.
+fn flag_name(flag: Flag) -> &'static str
+    ensures { result.now ≡ flag_name flag }
+{
+    match flag {
+        Flag::SortKeys => "--sort-keys",
+        Flag::Strict => "--strict",
+        Flag::Legacy => "--legacy",
+        Flag::NoDoubleKeys => "--no-double-keys",
+        Flag::Canonical => "--canonical",
+        Flag::Indent => "--indent",
+        Flag::KeepGoing => "--keep-going",
+        Flag::Jobs => "--jobs",
+        Flag::Output => "--output",
+    }
+}

@@ -1,0 +1,171 @@
+//! What the arguments ask for.
+ghost use Rattle.std.specs.Prelude.{◌≡◌, ◌⊎◌, ◌↔◌, IfOk, IsTrue, map, string_bytes};
+ghost use Rattle.bson_program.specs.Order.{IsAskedBy};
+ghost use Rattle.bson_run.specs.declared.order.Criterion.{Criterion};
+ghost use Rattle.bson_run.specs.declared.order.Taking.{Taking};
+
+use crate::arguments::{Given, Taken};
+use bson::extjson::Options;
+use bson_run::order::{OnRefusal, Task, Work};
+use std::alloc::{AllocError, Global};
+
+/// The name of standard input among the files that are read, and of standard output.
+pub const STANDARD: &str = "-";
+
+/// What the arguments ask for.
+#[derive(Drop)]
+pub enum Asked {
+    /// A run over files.
+    Run(Order),
+    /// The help of a command.
+    Help(Command),
+    /// The line of `--version`.
+    Version,
+    /// Something that the program does not do.
+    Wrong(Wrong),
+}
+
+/// The commands, each with its usage and its help.
+#[derive(Clone, Copy, PartialEq, Eq)]
+pub enum Command {
+    /// Every command: no word has named one.
+    All,
+    /// One document, in a mode.
+    Text,
+    /// `lines`.
+    Lines,
+    /// `decode`.
+    Decode,
+    /// `encode`.
+    Encode,
+}
+
+/// What is wrong with the arguments.
+#[derive(Drop)]
+pub struct Wrong {
+    /// What is wrong.
+    pub misuse: Misuse,
+    /// The command that the words before name.
+    pub command: Command,
+    /// The word that is wrong, if it is one.
+    pub word: String,
+}
+
+/// What can be wrong with arguments.
+#[derive(Clone, Copy, PartialEq, Eq)]
+pub enum Misuse {
+    /// A word is an option that no command has.
+    UnknownOption,
+    /// A word is expected to be a command or a mode, and is not.
+    UnknownMode,
+    /// A word is an option of an earlier version, which is the default now.
+    Former,
+    /// An option is given twice.
+    Twice(Flag),
+    /// An option has no value, or not one that it can have.
+    NoValue(Flag),
+    /// The command does not have an option.
+    Unfit(Flag, Task),
+    /// No mode is given.
+    NoMode,
+    /// A single document is read from several files.
+    ManyFiles,
+    /// A word is not UTF-8.
+    NotUtf8,
+}
+
+/// The options, each once at most.
+#[derive(Clone, Copy, PartialEq, Eq)]
+pub enum Flag {
+    /// `--sort-keys`.
+    SortKeys,
+    /// `--strict`.
+    Strict,
+    /// `--legacy`.
+    Legacy,
+    /// `--no-double-keys`.
+    NoDoubleKeys,
+    /// `--canonical`.
+    Canonical,
+    /// `--indent N`.
+    Indent,
+    /// `--keep-going`.
+    KeepGoing,
+    /// `--jobs N`.
+    Jobs,
+    /// `-o FILE`.
+    Output,
+}
+
+/// What the input is.
+#[derive(Clone, Copy, PartialEq, Eq)]
+pub enum Input {
+    /// One text, on any number of lines.
+    Text,
+    /// A text per line.
+    Lines,
+    /// Concatenated BSON documents.
+    Documents,
+}
+
+/// A run over files.
+#[derive(Drop)]
+pub struct Order {
+    /// What is done with each line, or each document.
+    pub task: Task,
+    /// Which texts have a meaning, and which values a text.
+    pub options: Options,
+    /// What becomes of the run at a line or a document that is refused.
+    pub on_refusal: OnRefusal,
+    /// What the input is.
+    pub input: Input,
+    /// How many spaces indent the output for each bracket, where it is laid out over several lines.
+    pub indent: Option<usize>,
+    /// The file that the output goes to, or `-`.
+    pub output: String,
+    /// The files that are read, in this order; `-` is standard input.
+    pub inputs: Vec<String>,
+}
+
+impl Order {
+    /// Whether BSON bytes are written, and no text.
+    pub fn writes_bytes(&self) -> bool
+        ensures { IsTrue result ↔ ((self.now.task ≡ Task.Encode) ⊎ (self.now.task ≡ Task.EncodeInOrder)) }
+    {
+        self.task == Task::Encode || self.task == Task::EncodeInOrder
+    }
+
+    /// Whether what is read is only judged.
+    pub fn writes_nothing(&self) -> bool
+        ensures { IsTrue result
+            ↔ (((criterion : Criterion) × (self.now.task ≡ Task.Check criterion))
+            ⊎ ((taking : Taking) × (self.now.task ≡ Task.Taken taking Work.Check))) }
+    {
+        matches!(self.task, Task::Check(_) | Task::Taken(_, Work::Check))
+    }
+}
+
+/// Returns what the words after the program's name ask for: a command, a mode, then names of files,
+/// with options anywhere before a word `--`, each once at most.
+pub fn parse_arguments(alloc: Global, words: Vec<String>) -> Result<Asked, AllocError>
+    ensures { IfOk result (λ asked. IsAskedBy (map string_bytes words.items) asked) }
+{
+    let mut given = Given::new(alloc);
+    for word in words.iter() {
+        let command = given.command();
+        match given.take(word.as_str())? {
+            Taken::Word => {}
+            Taken::Help => return Ok(Asked::Help(command)),
+            Taken::Version => return Ok(Asked::Version),
+            Taken::Wrong(misuse) => {
+                let word = String::from_str(alloc, word.as_str())?;
+                return Ok(Asked::Wrong(Wrong {
+                    misuse,
+                    command,
+                    word,
+                }));
+            }
+        }
+    }
+    given.answer()
+}

@@ -1,0 +1,200 @@
+//! How far a run is, on a terminal: a line that is renewed in place while files are read.
+ghost use Rattle.std.specs.Prelude.{◌≡◌, ◌==◌, count_by, OnOk};
+ghost use Rattle.std.specs.Io.KnownBytes.{Appends};
+ghost use Rattle.bson_program.specs.Stops.{told_under};
+
+use crate::messages::name_verdicts;
+use std::alloc::Global;
+use std::cell::Cell;
+use std::io::{Read, Write};
+use std::time::{Duration, Instant};
+use std::{io, str};
+
+/// Milliseconds from one line to the next.
+const LEAST_PAUSE: u64 = 100;
+
+/// Takes what is written there off the terminal's line.
+const CLEARED: &str = "\r\x1b[K";
+
+/// What verdicts have of a number that is no 64-bit integer, and of a document with a finite double.
+const NO_INTEGER: &str = " (not a 64-bit integer; found ";
+
+const FINITE_DOUBLE: &str = ": a finite double";
+
+/// How far a run is.
+#[derive(Drop)]
+pub struct Progress<'a> {
+    rt: &'a HostRuntime,
+    /// How many bytes the files have; none where no progress is told.
+    total: Option<u64>,
+    /// Whether they have lines.
+    has_lines: bool,
+    read: Cell<u64>,
+    lines: Cell<u64>,
+    refused: Cell<u64>,
+    renewed: Cell<Option<Instant>>,
+    stands: Cell<bool>,
+}
+
+impl<'a> Progress<'a> {
+    pub fn new(rt: &'a HostRuntime, total: Option<u64>, has_lines: bool) -> Progress<'a>
+        ensures total { result.total ≡ total }
+        ensures lines { result.has_lines ≡ has_lines }
+    {
+        Progress {
+            rt,
+            total,
+            has_lines,
+            read: Cell::new(0),
+            lines: Cell::new(0),
+            refused: Cell::new(0),
+            renewed: Cell::new(None),
+            stands: Cell::new(false),
+        }
+    }
+
+    // Counts bytes that were read.
+    fn add_bytes(&self, bytes: &[u8]) {
+        if let Some(total) = self.total {
+            self.read
+                .set(self.read.get().saturating_add(bytes.len() as u64));
+            self.lines
+                .set(self.lines.get().saturating_add(newlines(bytes)));
+            self.renew(total);
+        }
+    }
+
+    // Writes the line anew, unless it was written a moment ago.
+    fn renew(&self, total: u64) {
+        let Ok(now) = Instant::now(self.rt) else {
+            return;
+        };
+        if let Some(renewed) = self.renewed.get() {
+            if now.duration_since(renewed) < Duration::from_millis(LEAST_PAUSE) {
+                return;
+            }
+        }
+        self.renewed.set(Some(now));
+        self.stands.set(true);
+        let (read, of) = (self.read.get() / 1_000_000, total / 1_000_000);
+        let refused = self.refused.get();
+        if self.has_lines {
+            let lines = self.lines.get();
+            let _ = eprint!(self.rt; "\r{read} of {of} MB, {lines} lines, {refused} refused\x1b[K");
+        } else {
+            let _ = eprint!(self.rt; "\r{read} of {of} MB, {refused} refused\x1b[K");
+        }
+    }
+
+    /// Takes the line away, where it stands.
+    pub fn clear(&self) {
+        if self.stands.get() {
+            self.stands.set(false);
+            self.renewed.set(None);
+            let _ = eprint!(self.rt; "{CLEARED}");
+        }
+    }
+}
+
+// Whether verdicts tell of a number that is read without `--strict`.
+fn reports_duplicate(verdicts: &[u8]) -> bool {
+    match str::from_utf8(verdicts) {
+        Ok(text) => text.contains(NO_INTEGER) || text.contains(FINITE_DOUBLE),
+        Err(_) => false,
+    }
+}
+
+fn newlines(bytes: &[u8]) -> u64
+    ensures { result ≡ count_by (λ byte. byte == 10) bytes.now }
+{
+    bytes.iter().filter(|byte| **byte == b'\n').count() as u64
+}
+
+/// As many first bytes of an input are kept, or a few more.
+const HEAD: usize = 65536;
+
+/// A reader whose bytes count as progress, which keeps the first bytes, and why a read failed.
+#[derive(Drop)]
+pub struct Counted<'a, R> {
+    pub reader: R,
+    pub progress: &'a Progress<'a>,
+    pub head: Vec<u8>,
+    pub error: Option<io::Error>,
+}
+
+impl<R> Counted<'_, R> {
+    // Keeps bytes that are among the first. Where memory is wanting there are fewer.
+    fn keep(&mut self, bytes: &[u8]) {
+        if self.head.len() < HEAD {
+            let _ = self.head.extend_from_slice(bytes);
+        }
+    }
+}
+
+impl<R: Read> Read for Counted<'_, R> {
+    fn read(&mut self, buf: &mut [u8]) -> io::Result<usize> {
+        match self.reader.read(buf) {
+            Ok(count) => {
+                self.progress.add_bytes(&buf[..count]);
+                self.keep(&buf[..count]);
+                Ok(count)
+            }
+            Err(error) => {
+                self.error = Some(error);
+                Err(error)
+            }
+        }
+    }
+}
+
+/// A writer of verdicts, a line for each refused line, with the name of their file where it has
+/// one, which keeps why a write failed.
+#[derive(Drop)]
+pub struct Verdicts<'a, T> {
+    pub alloc: Global,
+    pub writer: T,
+    pub name: Option<String>,
+    pub progress: &'a Progress<'a>,
+    pub has_double: bool,
+    pub error: Option<io::Error>,
+}
+
+impl<T: Write> Verdicts<'_, T> {
+    // Writes whole verdicts.
+    fn put(&mut self, verdicts: &[u8]) -> io::Result<()>
+        ensures { OnOk result (Appends (T.contents self.old.writer) (T.contents self.new.writer)
+            (told_under self.old.name verdicts.now)) }
+    {
+        match &self.name {
+            None => self.writer.write_all(verdicts),
+            Some(name) => {
+                let verdicts = name_verdicts(self.alloc, name.as_str(), verdicts)?;
+                self.writer.write_all(&verdicts)
+            }
+        }
+    }
+}
+
+impl<T: Write> Write for Verdicts<'_, T> {
+    fn write(&mut self, buf: &[u8]) -> io::Result<usize> {
+        self.progress.clear();
+        self.has_double = self.has_double || reports_duplicate(buf);
+        match self.put(buf) {
+            Ok(()) => {
+                let refused = self.progress.refused.get();
+                self.progress
+                    .refused
+                    .set(refused.saturating_add(newlines(buf)));
+                Ok(buf.len())
+            }
+            Err(error) => {
+                self.error = Some(error);
+                Err(error)
+            }
+        }
+    }
+
+    fn flush(&mut self) -> io::Result<()> {
+        self.writer.flush()
+    }
+}

@@ -1,0 +1,293 @@
+//! A run over files: what is opened, and what is told where that can't be done.
+ghost use Rattle.std.specs.Prelude.{◌≡◌, ◌⊎◌, [], IfErr, IfOk, string_bytes};
+ghost use Rattle.bson_run.specs.Lines.{text_held};
+ghost use Rattle.bson_run.specs.Place.{IsWhere};
+ghost use Rattle.bson_program.specs.Stops.{IsTitle, IsUnread, IsUnwritten};
+
+use crate::dump::run_dump;
+use crate::messages::head_of;
+use crate::order::{Input, Order, STANDARD};
+use crate::output::Output;
+use crate::progress::{Counted, Progress, Verdicts};
+use crate::rejected::{ends_at_double, is_rejected, rejection_help};
+use crate::streams::{Sink, Source};
+use crate::whole::convert_whole;
+use bson_codec::run_end::RunEnd;
+use bson_convert::error;
+use bson_run::lines::{Counts, LineRun};
+use bson_run::order::{Criterion, Task};
+use std::alloc::Global;
+use std::fs;
+use std::fs::{File, Metadata};
+use std::io::{Error, IsTerminal};
+use std::os::unix::fs::MetadataExt;
+use std::rt::Stderr;
+
+/// What may stand before the one text of a named file, unless that has to be canonical.
+const BYTE_ORDER_MARK: &[u8] = b"\xef\xbb\xbf";
+
+/// Why a run could not go on, with the name of the file that it happened at; `-` is a standard
+/// stream.
+#[derive(Drop)]
+pub enum Stop<'a> {
+    /// The file can't be read.
+    Input(&'a str, Option<Error>),
+    /// The file can't be written.
+    Output(&'a str, Option<Error>),
+    /// The file is both an input and the output.
+    Both(&'a str),
+    /// Bytes would go to a terminal.
+    Terminal,
+    /// At a text of the file that is refused: at the line of this number, or at no line (0), why,
+    /// and where in the text, in words.
+    Text(&'a str, u64, error::Error, String),
+    /// At a document of the file.
+    Document(&'a str, RunEnd),
+}
+
+/// Converts the lines of all files in their order. It stops where a file can't be read or written,
+/// or as a run over lines does. Nothing is read or written before each file was found to be one that
+/// opens, and none that is written, and no bytes of BSON go to a terminal. Where an input is rejected
+/// for what it holds instead, a hint is added.
+pub fn run<'a>(
+    rt: &HostRuntime,
+    order: &'a Order,
+    hints: &mut Vec<String>,
+) -> Result<Counts, Stop<'a>> {
+    if order.writes_bytes() && order.output.as_str() == STANDARD && rt.stdout().is_terminal() {
+        return Err(Stop::Terminal);
+    }
+    for name in order.inputs.iter() {
+        try_input(rt, order, name.as_str())?;
+    }
+    let name = order.output.as_str();
+    let mut output = match Output::open(rt, name) {
+        Ok(output) => output,
+        Err(error) => return Err(Stop::Output(name, Some(error))),
+    };
+    let progress = Progress::new(rt, total(rt, order), order.input != Input::Documents);
+    let counts = run_all(rt, order, &mut output.sink, &progress, hints);
+    progress.clear();
+    match counts {
+        Ok(counts) => match output.finish(rt) {
+            Ok(()) => Ok(counts),
+            Err(error) => Err(Stop::Output(name, Some(error))),
+        },
+        Err(stop) => {
+            output.discard(rt);
+            Err(stop)
+        }
+    }
+}
+
+fn run_all<'a>(
+    rt: &HostRuntime,
+    order: &'a Order,
+    sink: &mut Sink,
+    progress: &Progress<'_>,
+    hints: &mut Vec<String>,
+) -> Result<Counts, Stop<'a>> {
+    let mut all = Counts {
+        lines: 0,
+        refused: 0,
+    };
+    for name in order.inputs.iter() {
+        let counts = run_one(rt, order, name.as_str(), sink, progress, hints)?;
+        all.lines = all.lines.saturating_add(counts.lines);
+        all.refused = all.refused.saturating_add(counts.refused);
+    }
+    Ok(all)
+}
+
+// Converts the lines of one file.
+fn run_one<'a>(
+    rt: &HostRuntime,
+    order: &'a Order,
+    name: &'a str,
+    sink: &mut Sink,
+    progress: &Progress<'_>,
+    hints: &mut Vec<String>,
+) -> Result<Counts, Stop<'a>> {
+    let mut reader = Counted {
+        reader: source(rt, name)?,
+        progress,
+        head: Vec::new(rt.alloc()),
+        error: None,
+    };
+    let mut report = Verdicts {
+        alloc: rt.alloc(),
+        writer: rt.stderr(),
+        name: title(rt, order, name)?,
+        progress,
+        has_double: false,
+        error: None,
+    };
+    let ended = match order.input {
+        Input::Lines => run_each(rt, order, name, &mut reader, sink, &mut report),
+        Input::Text => run_text(rt, order, name, &mut reader, sink),
+        Input::Documents => run_dump(rt, order, name, &mut reader, sink, &mut report),
+    };
+    let has_double = report.has_double || ends_at_double(order.options, &ended);
+    if is_rejected(&ended) {
+        if let Some(hint) = rejection_help(rt.alloc(), order, name, &reader.head, has_double) {
+            let _ = hints.push(hint);
+        }
+    }
+    ended
+}
+
+// Converts each line of a file.
+fn run_each<'a>(
+    rt: &HostRuntime,
+    order: &'a Order,
+    name: &'a str,
+    reader: &mut Counted<'_, Source>,
+    sink: &mut Sink,
+    report: &mut Verdicts<'_, Stderr>,
+) -> Result<Counts, Stop<'a>> {
+    let mut run = LineRun::new(rt.alloc(), order.task, order.on_refusal);
+    run.options = order.options;
+    match run.run(rt.alloc(), reader, sink, report) {
+        Ok(counts) => Ok(counts),
+        Err(error::Error::CannotRead) => Err(Stop::Input(name, reader.error)),
+        Err(error::Error::CannotWrite) => Err(write_stop(order, sink, report)),
+        Err(fault) => {
+            let place = place_in(rt.alloc(), &run, &fault);
+            Err(Stop::Text(name, run.number(), fault, place))
+        }
+    }
+}
+
+// Where the fault lies in the line at which the run stopped; nothing where memory is wanting for
+// the words.
+fn place_in(alloc: Global, run: &LineRun, fault: &error::Error) -> String
+    ensures { IsWhere (text_held run.now.collected) fault.now (string_bytes result) ⊎ (string_bytes result ≡ []) }
+{
+    match run.place(alloc, fault) {
+        Ok(place) => place,
+        Err(_) => String::new(alloc),
+    }
+}
+
+/// What could not be written: verdicts, or else the output.
+pub fn write_stop<'a>(order: &'a Order, sink: &Sink, report: &Verdicts<'_, Stderr>) -> Stop<'a>
+    ensures { IsUnwritten order.now report.now.error sink.now.error result }
+{
+    match report.error {
+        Some(error) => Stop::Output(STANDARD, Some(error)),
+        None => Stop::Output(order.output.as_str(), sink.error),
+    }
+}
+
+// Converts the one text of a file.
+fn run_text<'a>(
+    rt: &HostRuntime,
+    order: &'a Order,
+    name: &'a str,
+    reader: &mut Counted<'_, Source>,
+    sink: &mut Sink,
+) -> Result<Counts, Stop<'a>> {
+    let mark = if name == STANDARD || order.task == Task::Check(Criterion::Canonical) {
+        b"".as_slice()
+    } else {
+        BYTE_ORDER_MARK
+    };
+    match convert_whole(rt.alloc(), order, name, mark, reader, sink) {
+        Ok(()) => Ok(Counts {
+            lines: 1,
+            refused: 0,
+        }),
+        Err(Stop::Input(name, _)) => Err(Stop::Input(name, reader.error)),
+        Err(Stop::Output(name, _)) => Err(Stop::Output(name, sink.error)),
+        Err(stop) => Err(stop),
+    }
+}
+
+// What is read by the name.
+fn source<'a>(rt: &HostRuntime, name: &'a str) -> Result<Source, Stop<'a>>
+    ensures { IfErr result (IsUnread name.now) }
+{
+    if name == STANDARD {
+        return Ok(Source::Stdin(rt.stdin()));
+    }
+    match File::open(rt, name) {
+        Ok(file) => Ok(Source::File(file)),
+        Err(error) => Err(Stop::Input(name, Some(error))),
+    }
+}
+
+// The name that stands before verdicts, but those on lines of standard input.
+fn title<'a>(rt: &HostRuntime, order: &Order, name: &'a str) -> Result<Option<String>, Stop<'a>>
+    ensures title { IfOk result (IsTitle order.now.input name.now) }
+    ensures stop { IfErr result (IsUnread name.now) }
+{
+    if name == STANDARD && order.input != Input::Documents {
+        return Ok(None);
+    }
+    match head_of(rt.alloc(), name) {
+        Ok(title) => Ok(Some(title)),
+        Err(error) => Err(Stop::Input(name, Some(Error::from(error)))),
+    }
+}
+
+// A file to read opens, and is none of those that are written.
+fn try_input<'a>(rt: &HostRuntime, order: &Order, name: &'a str) -> Result<(), Stop<'a>> {
+    let input = if name == STANDARD {
+        fs::metadata(rt, "/dev/stdin")
+    } else {
+        match File::open(rt, name) {
+            Ok(file) => file.metadata(),
+            Err(error) => return Err(Stop::Input(name, Some(error))),
+        }
+    };
+    let Ok(input) = input else {
+        return Ok(());
+    };
+    if is_written(rt, &input, "/dev/stderr") {
+        return Err(Stop::Both(name));
+    }
+    let output = order.output.as_str();
+    let output = if output == STANDARD {
+        "/dev/stdout"
+    } else {
+        output
+    };
+    if !order.writes_nothing() && is_written(rt, &input, output) {
+        return Err(Stop::Both(name));
+    }
+    Ok(())
+}
+
+// Whether a file is what this name stands for.
+fn is_written(rt: &HostRuntime, file: &Metadata, name: &str) -> bool {
+    match fs::metadata(rt, name) {
+        Ok(output) => { file.is_file() && file.dev() == output.dev() && file.ino() == output.ino() }
+        Err(_) => false,
+    }
+}
+
+// How many bytes are to be read, where progress is told: standard error is a terminal to which no
+// output goes, and all that is read is files.
+fn total(rt: &HostRuntime, order: &Order) -> Option<u64> {
+    let is_apart = order.output.as_str() != STANDARD
+        || order.writes_nothing()
+        || !rt.stdout().is_terminal();
+    if !rt.stderr().is_terminal() || !is_apart {
+        return None;
+    }
+    let mut total = 0u64;
+    for name in order.inputs.iter() {
+        let name = name.as_str();
+        let name = if name == STANDARD { "/dev/stdin" } else { name };
+        total = total.saturating_add(size(rt, name)?);
+    }
+    Some(total)
+}
+
+// How many bytes a file has.
+fn size(rt: &HostRuntime, name: &str) -> Option<u64> {
+    match fs::metadata(rt, name) {
+        Ok(file) if file.is_file() => Some(file.len()),
+        _ => None,
+    }
+}

@@ -1,0 +1,362 @@
+//! The line that is being collected, and what the lines before it gave.
+ghost use Rattle.std.specs.Prelude.{◌≡◌, ◌⊎◌, ◌++◌, ◌+◌, [], ◌∷◌, ◌<◌, length, IfOk, IfErr, take};
+ghost use Rattle.std.specs.Prelude.{OnOk, OnErr, None, Ok, IsTrue, ◌↔◌, string_bytes};
+ghost use Rattle.std.specs.Prelude.{MatchOption, IfSome, IsUtf8, ◌≢◌, slice_index};
+ghost use Rattle.bson_run.specs.Lines.{IsBlank, IsBadLineIn, IsStoppedIn, Tells, WritesIn};
+ghost use Rattle.bson_convert.specs.Convert.{IsRefusedIn};
+ghost use Rattle.bson_run.specs.Lines.{told_at, text_held, line_text, ChecksIn, WorksIn, WritesText};
+ghost use Rattle.bson_run.specs.LinesSteps.{Ends, CountsFit, HaveSameOutcomes, IsCountedOut};
+ghost use Rattle.bson_run.specs.LinesSteps.{IsJudged, HasNoNewline, IsStart, IsTold, StopsLast, StopsWithin};
+ghost use Rattle.bson_run.specs.LinesSteps.{Takes, TakesLine};
+ghost use Rattle.bson_run.specs.declared.order.OnRefusal.TheVariants.{Stop};
+ghost use Rattle.bson_run.specs.Place.{IsWhere};
+ghost use Rattle.bson_run.specs.declared.order.Task.{Task};
+ghost use Rattle.bson_run.specs.declared.order.Task.TheVariants.{Check, Taken};
+ghost use Rattle.bson.specs.declared.extjson.options.Options.{Options};
+
+use crate::convert::convert_line_in_order;
+use crate::encode::{encode_line_ordered, encode_sorted};
+use crate::explain::explain_under;
+use crate::order::{Criterion, OnRefusal, Taking, Task, Work};
+use crate::taken::take_as;
+use bson::extjson::Options;
+use bson_convert::canonical::check_canonical_line;
+use bson_convert::convert::convert_line;
+use bson_convert::error::Error;
+use bson_convert::mode::Mode;
+use json::Scratch;
+use memchr::memchr;
+use std::alloc::{AllocError, Global};
+
+/// What a step over a line answers.
+type Step = Result<(), Error>;
+
+/// U+FEFF in UTF-8.
+const BYTE_ORDER_MARK: [u8; 3] = [0xef, 0xbb, 0xbf];
+
+/// An output of more bytes is long.
+const LONG: usize = 1 << 20;
+
+/// What is asked of a run.
+#[derive(Clone, Copy)]
+pub struct Asked {
+    pub options: Options,
+    pub task: Task,
+    pub on_refusal: OnRefusal,
+}
+
+/// The line that is being collected, and what the lines before it gave since it was last written.
+#[derive(Drop)]
+pub struct Collected {
+    pub line: Vec<u8>,
+    pub output: Vec<u8>,
+    pub told: Vec<u8>,
+    pub lines: u64,
+    pub refused: u64,
+    /// The memory for reading a line, made once in a run.
+    pub scratch: Scratch,
+}
+
+// Where the first newline stands.
+fn newline_at(bytes: &[u8]) -> Option<usize>
+    ensures { MatchOption result (HasNoNewline bytes.now) (λ at. (at < length bytes.now) × HasNoNewline (take at bytes.now)
+        × (slice_index bytes.now at ≡ 10)) }
+{
+    memchr(b'\n', bytes)
+}
+
+// The text of a line that stands after so many others.
+fn text(before: u64, line: &[u8]) -> &[u8]
+    ensures { result.now ≡ line_text before line.now }
+{
+    if before == 0 && line.starts_with(&BYTE_ORDER_MARK) {
+        &line[3..]
+    } else {
+        line
+    }
+}
+
+// Whether there are only spaces, tabs and carriage returns.
+fn is_blank(text: &[u8]) -> bool
+    ensures { IsTrue result ↔ IsBlank text.now }
+{
+    text.iter()
+        .all(|byte| *byte == b' ' || *byte == b'\t' || *byte == b'\r')
+}
+
+// What is written of the text, or nothing for one that is blank.
+fn judge(
+    alloc: Global,
+    asked: Asked,
+    text: &[u8],
+    scratch: &mut Scratch,
+) -> Result<Option<Vec<u8>>, Error>
+    ensures blank { result ≡ Ok None → IsBlank text.now }
+    ensures ok { IfOk result (λ some. IfSome some (λ output. WritesIn asked.options asked.task text.now output.items)) }
+    ensures utf8 { WritesText asked.task → IfOk result (λ some. IfSome some (λ output. IsUtf8 output.items)) }
+    ensures fault { IfErr result (λ fault. IsJudged asked.options asked.task fault text.now) }
+{
+    if is_blank(text) {
+        return Ok(None);
+    }
+    let options = asked.options;
+    match asked.task {
+        Task::Write(mode) => Ok(Some(convert_line(alloc, options, mode, text, scratch)?)),
+        Task::WriteInOrder(mode) => {
+            Ok(Some(convert_line_in_order(alloc, options, mode, text, scratch)?))
+        }
+        Task::Check(criterion) => {
+            check(alloc, options, criterion, text, scratch)?;
+            Ok(Some(Vec::new(alloc)))
+        }
+        Task::Encode => Ok(Some(encode_sorted(alloc, options, text)?)),
+        Task::EncodeInOrder => Ok(Some(encode_line_ordered(alloc, options, text, scratch)?)),
+        Task::Taken(taking, work) => {
+            Ok(Some(judge_taken(alloc, options, taking, work, text, scratch)?))
+        }
+    }
+}
+
+// Checks a text that is not blank by a criterion.
+fn check(
+    alloc: Global,
+    options: Options,
+    criterion: Criterion,
+    text: &[u8],
+    scratch: &mut Scratch,
+) -> Result<(), Error>
+    requires { ¬ IsBlank text.now }
+    ensures ok { OnOk result (ChecksIn options criterion text.now) }
+    ensures fault { IfErr result (λ fault. IsJudged options (Check criterion) fault text.now) }
+{
+    match criterion {
+        Criterion::Valid => {
+            convert_line(alloc, options, Mode::Canonical, text, scratch)?;
+            Ok(())
+        }
+        Criterion::Canonical => check_canonical_line(alloc, options, text, scratch),
+    }
+}
+
+// What is written of a text that is not blank, once it was taken.
+fn judge_taken(
+    alloc: Global,
+    options: Options,
+    taking: Taking,
+    work: Work,
+    text: &[u8],
+    scratch: &mut Scratch,
+) -> Result<Vec<u8>, Error>
+    requires { ¬ IsBlank text.now }
+    ensures ok { IfOk result (λ output. WritesIn options (Taken taking work) text.now output.items) }
+    ensures utf8 { IfOk result (λ output. IsUtf8 output.items) }
+    ensures fault { IfErr result (λ fault. IsJudged options (Taken taking work) fault text.now) }
+{
+    match take_as(alloc, taking, text)? {
+        Some(upgraded) => work_on(alloc, options, work, upgraded.as_bytes(), scratch),
+        None => work_on(alloc, options, work, text, scratch),
+    }
+}
+
+fn work_on(
+    alloc: Global,
+    options: Options,
+    work: Work,
+    text: &[u8],
+    scratch: &mut Scratch,
+) -> Result<Vec<u8>, Error>
+    ensures ok { IfOk result (λ output. WorksIn options work text.now output.items) }
+    ensures utf8 { IfOk result (λ output. IsUtf8 output.items) }
+    ensures fault { IfErr result (λ fault. IsRefusedIn options fault text.now) }
+{
+    match work {
+        Work::Write(mode) => convert_line(alloc, options, mode, text, scratch),
+        Work::WriteInOrder(mode) => convert_line_in_order(alloc, options, mode, text, scratch),
+        Work::Check => {
+            convert_line(alloc, options, Mode::Canonical, text, scratch)?;
+            Ok(Vec::new(alloc))
+        }
+    }
+}
+
+// What is told of a line that is refused: its number, the words for the fault, and its place.
+fn verdict(alloc: Global, number: u64, fault: &Error, place: &str) -> Result<String, AllocError>
+    ensures { IfOk result (λ told. string_bytes told ≡ told_at number fault.now place.now) }
+{
+    let words = fault.message();
+    format!(in alloc; "bson: line {number}: {words}{place}\n")
+}
+
+/// Removes the bytes, and frees the memory of many.
+pub(crate) fn empty(bytes: &mut Vec<u8>)
+    ensures { bytes.new.items ≡ [] }
+{
+    let is_long = bytes.len() > LONG;
+    bytes.clear();
+    if is_long {
+        bytes.shrink_to_fit();
+    }
+}
+
+// Adds more bytes.
+fn append(bytes: &mut Vec<u8>, more: &[u8]) -> Step
+    ensures ok { OnOk result (bytes.new.items ≡ bytes.old.items ++ more.now) }
+    ensures err { OnErr result (bytes.new.items ≡ bytes.old.items) }
+    ensures fault { IfErr result (λ e. e ≡ Error.OutOfMemory) }
+{
+    match bytes.extend_from_slice(more) {
+        Ok(()) => Ok(()),
+        Err(_) => Err(Error::OutOfMemory),
+    }
+}
+
+impl Collected {
+    /// Makes the state before the first line.
+    pub fn new(alloc: Global) -> Collected
+        ensures start { IsStart result }
+        ensures room { CountsFit result }
+    {
+        Collected {
+            line: Vec::new(alloc),
+            output: Vec::new(alloc),
+            told: Vec::new(alloc),
+            lines: 0,
+            refused: 0,
+            scratch: Scratch::new(alloc),
+        }
+    }
+
+    /// Returns where the line that is being read is wrong, in the words of `explain_under`.
+    ///
+    /// # Errors
+    ///
+    /// `AllocError` if an allocation fails.
+    pub fn place(&self, alloc: Global, task: Task, fault: &Error) -> Result<String, AllocError>
+        ensures { IfOk result (λ place. IsWhere (text_held self.now) fault.now (string_bytes place)) }
+    {
+        explain_under(alloc, task, fault, text(self.lines, &self.line))
+    }
+
+    // Adds a piece of the line.
+    fn extend_line(&mut self, span: &[u8]) -> Step
+        ensures ok { OnOk result (self.new.line.items ≡ self.old.line.items ++ span.now) }
+        ensures same { HaveSameOutcomes self.old self.new }
+        ensures fault { IfErr result (λ e. e ≡ Error.OutOfMemory) }
+    {
+        append(&mut self.line, span)
+    }
+
+    // Takes the line that was collected: what it gives is added, and the next line is empty.
+    fn end_line(&mut self, alloc: Global, asked: Asked) -> Step
+        requires room { CountsFit self.old }
+        ensures room { CountsFit self.new }
+        ensures ok { OnOk result (TakesLine asked.options asked.task asked.on_refusal self.old self.new) }
+        ensures same { OnErr result (HaveSameOutcomes self.old self.new) }
+        ensures held { OnErr result (self.new.line ≡ self.old.line) }
+        ensures fault { IfErr result
+            (λ e. IsStoppedIn asked.options asked.task asked.on_refusal e (line_text self.old.lines self.old.line.items)) }
+        ensures count { IfErr result (λ e. IsCountedOut e self.old.lines) }
+    {
+        if self.lines + 1 == u64::MAX {
+            // A count that no run reaches.
+            return Err(Error::CannotRead);
+        }
+        let line = text(self.lines, &self.line);
+        match judge(alloc, asked, line, &mut self.scratch) {
+            Ok(None) => {}
+            Ok(Some(output)) => self.add(output)?,
+            Err(fault) => self.refuse(alloc, asked, fault)?,
+        }
+        self.line.clear();
+        self.lines += 1;
+        Ok(())
+    }
+
+    // Adds the output of a line. A long output is moved, so that it is not in memory twice.
+    fn add(&mut self, output: Vec<u8>) -> Step
+        ensures ok { OnOk result (self.new.output.items ≡ self.old.output.items ++ output.items) }
+        ensures err { OnErr result (self.new.output.items ≡ self.old.output.items) }
+        ensures same { (self.new.line ≡ self.old.line) × (self.new.told ≡ self.old.told)
+            × (self.new.lines ≡ self.old.lines) × (self.new.refused ≡ self.old.refused) }
+        ensures fault { IfErr result (λ e. e ≡ Error.OutOfMemory) }
+    {
+        if self.output.is_empty() && output.len() > LONG {
+            self.output = output;
+            return Ok(());
+        }
+        append(&mut self.output, &output)
+    }
+
+    // Tells of the line, where refused lines don't stop the run.
+    fn refuse(&mut self, alloc: Global, asked: Asked, fault: Error) -> Step
+        requires room { CountsFit self.old }
+        ensures ok { OnOk result ((fault ≢ Error.OutOfMemory) × (asked.on_refusal ≢ Stop)
+            × (self.new.refused ≡ self.old.refused + 1)
+            × ((options : Options) (task : Task) → IsTold options task (self.old.lines + 1) fault
+            (line_text self.old.lines self.old.line.items) self.old.told.items self.new.told.items)) }
+        ensures err { OnErr result ((self.new.told.items ≡ self.old.told.items)
+            × (self.new.refused ≡ self.old.refused)) }
+        ensures same { (self.new.line ≡ self.old.line) × (self.new.output ≡ self.old.output)
+            × (self.new.lines ≡ self.old.lines) }
+        ensures fault { IfErr result (λ e. (e ≡ Error.OutOfMemory) ⊎ ((asked.on_refusal ≡ Stop) × (e ≡ fault))) }
+    {
+        if fault.is_memory() {
+            return Err(fault);
+        }
+        if asked.on_refusal == OnRefusal::Stop {
+            return Err(fault);
+        }
+        match self.tell(alloc, asked.task, &fault) {
+            Ok(()) => {}
+            Err(_) => return Err(Error::OutOfMemory),
+        }
+        self.refused += 1;
+        Ok(())
+    }
+
+    // Adds the verdict on the line.
+    fn tell(&mut self, alloc: Global, task: Task, fault: &Error) -> Result<(), AllocError>
+        requires room { CountsFit self.old }
+        ensures ok { OnOk result
+            ((options : Options) (task : Task) → IsTold options task (self.old.lines + 1) fault.now
+            (line_text self.old.lines self.old.line.items) self.old.told.items self.new.told.items) }
+        ensures err { OnErr result (self.new.told.items ≡ self.old.told.items) }
+        ensures same { (self.new.line ≡ self.old.line) × (self.new.output ≡ self.old.output)
+            × (self.new.lines ≡ self.old.lines) × (self.new.refused ≡ self.old.refused) }
+    {
+        let place = self.place(alloc, task, fault)?;
+        let verdict = verdict(alloc, self.lines + 1, fault, &place)?;
+        self.told.extend_from_slice(verdict.as_bytes())
+    }
+
+    /// Takes bytes: each line that ends in them, and what comes of the next.
+    pub fn take(&mut self, alloc: Global, asked: Asked, bytes: &[u8]) -> Step
+        requires room { CountsFit self.old }
+        ensures room { CountsFit self.new }
+        ensures ok { OnOk result (Takes asked.options asked.task asked.on_refusal bytes.now self.old self.new) }
+        ensures fault { IfErr result (λ e. StopsWithin asked.options asked.task asked.on_refusal bytes.now e self.old self.new) }
+        ensures count { IfErr result (λ e. IsCountedOut e self.new.lines) }
+    {
+        let mut rest = bytes;
+        while let Some(at) = newline_at(rest) {
+            self.extend_line(&rest[..at])?;
+            self.end_line(alloc, asked)?;
+            rest = &rest[at + 1..];
+        }
+        self.extend_line(rest)
+    }
+
+    /// Takes a last line that no newline ends, unless it is empty.
+    pub fn take_last(&mut self, alloc: Global, asked: Asked) -> Step
+        requires room { CountsFit self.old }
+        ensures room { CountsFit self.new }
+        ensures ok { OnOk result (Ends asked.options asked.task asked.on_refusal self.old self.new) }
+        ensures fault { IfErr result (λ e. StopsLast asked.options asked.task asked.on_refusal e self.old self.new) }
+        ensures count { IfErr result (λ e. IsCountedOut e self.new.lines) }
+    {
+        if self.line.is_empty() {
+            return Ok(());
+        }
+        self.end_line(alloc, asked)
+    }
+}

@@ -1,4 +1,0 @@
-pub mod Loop
-pub mod Apart
-pub mod Sending
-pub mod Offered

@@ -1,0 +1,264 @@
+-- The texts of members, as they come.
+use Rattle.std.proofs.Common.{◌≡◌, ℕ, suc, ◌+◌, ◌-◌, ◌<◌, ◌≤◌, ◌==◌, Bool, true, false, cond, List, [], ◌∷◌, ◌++◌, length}
+use Rattle.std.proofs.Common.{Bor, drop, take, map, refl, sym, ap, ◌∙◌, subst, arith, append_assoc, append-nil}
+use Rattle.std.proofs.lemmas.Bool.{eq-eqb, ne_eqb}
+use Rattle.std.proofs.lemmas.List.{take-append-le, length-append}
+use Rattle.std.proofs.lemmas.List.Elements.{All-nil, All-head, All-tail, All-cons, All-weaker}
+use Rattle.std.proofs.Math.Seq.{drop-append_seam, take-length}
+use Rattle.std.specs.List.{All}
+use Rattle.serde_json.specs.Written.{comma_if}
+use Rattle.bson_model.specs.Sorted.{put_pair, sorted, sorted_pairs}
+use Rattle.bson_model.specs.Value.{Value, Pairs, no_pairs, pair, document}
+use Rattle.bson_text.specs.MemberSpans.{span_key, span_text, end_before, spans_from, open_text}
+use Rattle.bson_text.specs.MemberSpans.{SpanValues, value_at, IsObjectWritten, IsOpenObject, IsMemberSpan, IsSpanWithin}
+use Rattle.bson_model.specs.Stable.{put_each}
+use Rattle.bson_text.specs.Walked.{keys_of, once}
+use Rattle.bson_text.specs.declared.spans.MemberSpan.{MemberSpan}
+use Rattle.bson_text.specs.declared.sorted_text.Begun.{Begun}
+use Rattle.bson_text.proofs.SpansInOrder.{HasMembers, object_in_order}
+use Rattle.bson_text.proofs.SortedPairs.{put_in_turn, once_sorted}
+
+abbrev Key : Type 0
+Key = Bor (List ℕ)
+
+-- the text between a front and a rest
+slice_between : (text front s rest : List ℕ) (start end : ℕ) → text ≡ front ++ (s ++ rest) → start ≡ length front
+    → end ≡ length front + length s → take (end - start) (drop start text) ≡ s
+slice_between text front s rest start end is first last =
+    let long : end - start ≡ length s = omega (arith, first, last) in
+    ap (λ n. take n (drop start text)) long
+    ∙ ap (λ n. take (length s) (drop n text)) first
+    ∙ ap (λ l. take (length s) (drop (length front) l)) is
+    ∙ ap (take (length s)) (drop-append_seam front (s ++ rest))
+    ∙ take-append-le (length s) s rest (omega arith) ∙ take-length s
+
+-- ---- one value before others
+
+module _ (values : SpanValues) (v : Value) (at : ℕ) where
+  abbrev with_value : SpanValues
+  with_value i = cond (i == at) v (values i)
+
+  value_here : with_value at ≡ v
+  value_here = ap (λ b. cond b v (values at)) (eq-eqb at at refl)
+
+  value_there : (i : ℕ) → at < i → with_value i ≡ values i
+  value_there i less = ap (λ b. cond b v (values i)) (ne_eqb i at (λ e. omega (arith, e, less)))
+
+  put_there : (ps : List MemberSpan) (qs : Pairs) → All (λ p. at < p.start) ps
+      → put_each span_key (value_at with_value) ps qs ≡ put_each span_key (value_at values) ps qs
+  put_there [] qs h = refl
+  put_there (p ∷ ps) qs h =
+      let first = All-head (λ q. at < q.start) p ps h in
+      put_there ps (put_pair (span_key p) (with_value p.start) qs) (All-tail (λ q. at < q.start) p ps h)
+      ∙ ap (λ w. put_each span_key (value_at values) ps (put_pair (span_key p) w qs)) (value_there p.start first)
+
+-- ---- members that are added
+
+-- what is seen of a writer: the text, the starts of the members of open documents, and whether a value stands before
+-- what comes next
+pub record Seen : Type 0 where
+  pub text : List ℕ
+  pub starts : List ℕ
+  pub behind : Bool
+
+-- the text up to a member that comes next
+abbrev pub front_of : Seen → List ℕ
+front_of w = w.text ++ comma_if w.behind
+
+-- a text of the key and the sorted value was added as a member
+pub record MemberAdded (IsText : List ℕ → Value → List ℕ → Type 0) (k : List ℕ) (v : Value) (old new : Seen)
+    : Type 0 where
+  pub own : List ℕ
+  pub is_text : IsText k (sorted v) own
+  pub some : 0 < length own
+  pub text : new.text ≡ front_of old ++ own
+  pub starts : new.starts ≡ old.starts ++ length (front_of old) ∷ []
+  pub behind : new.behind ≡ true
+
+abbrev pub MembersAdded : (List ℕ → Value → List ℕ → Type 0) → Pairs → Seen → Seen → Type 0
+MembersAdded IsText no_pairs old new = old ≡ new
+MembersAdded IsText (pair k v ps) old new =
+    (mid : Seen) × MemberAdded IsText k v old mid × MembersAdded IsText ps mid new
+
+first_of : (k l : List ℕ) (ks ls : List (List ℕ)) → k ∷ ks ≡ l ∷ ls → k ≡ l
+first_of k l ks ls e = cc
+
+rest_of : (k l : List ℕ) (ks ls : List (List ℕ)) → k ∷ ks ≡ l ∷ ls → ks ≡ ls
+rest_of k l ks ls e = cc
+
+pub text_before : (old more text : List ℕ) (start : ℕ) → text ≡ old ++ more → start ≡ length old → take start text ≡ old
+text_before old more text start is end =
+    ap (take start) is ∙ ap (λ n. take n (old ++ more)) end ∙ take-append-le (length old) old more (omega arith)
+    ∙ take-length old
+
+module _ (IsText : List ℕ → Value → List ℕ → Type 0) where
+  -- ---- the members of a document
+
+  -- the piece is one of a value in the text, and starts behind the front
+  abbrev StandsBehind : List ℕ → ℕ → SpanValues → MemberSpan → Type 0
+  StandsBehind text front values p = (front ≤ p.start) × IsMemberSpan IsText text values p
+
+  -- the text behind the front is that of the pieces of pairs, whose values are put sorted
+  pub record Stand (text front : List ℕ) (behind : Bool) (ks : List Key) (starts : List ℕ) (ps : Pairs) : Type 0 where
+    pub values : SpanValues
+    pub all : All (StandsBehind text (length front) values) (spans_from ks starts (length text))
+    pub put : (qs : Pairs)
+        → put_each span_key (value_at values) (spans_from ks starts (length text)) qs ≡ put_in_turn ps qs
+    pub opened : text ≡ front ++ open_text text behind (spans_from ks starts (length text))
+    pub paired : length ks ≡ length starts
+    pub ends : behind ≡ true → end_before starts (length text) ≡ length front
+
+  none_stand : (text : List ℕ) (behind : Bool) → Stand text text behind [] [] no_pairs
+  none_stand text behind = record {
+    values = λ i. document no_pairs;
+    all = All-nil _;
+    put = λ qs. refl;
+    opened = sym (append-nil text);
+    paired = refl;
+    ends = λ is. refl;
+  }
+
+  one_stands : (text : List ℕ) (old mid : Seen) (k : Key) (ks : List Key) (starts : List ℕ) (v : Value) (ps : Pairs)
+      → MemberAdded IsText k.now v old mid → Stand text mid.text true ks starts ps
+      → Stand text old.text old.behind (k ∷ ks) (length (front_of old) ∷ starts) (pair k.now v ps)
+  one_stands text old mid k ks starts v ps one rest =
+      let front = old.text in
+      let comma = comma_if old.behind in
+      let start = length (front ++ comma) in
+      let s = one.own in
+      let end = end_before starts (length text) in
+      let spans = spans_from ks starts (length text) in
+      let others = open_text text true spans in
+      let p : MemberSpan = record { key = k; start = start; end = end } in
+      let some : 0 < length s = one.some in
+      let long : length mid.text ≡ start + length s = ap length one.text ∙ length-append (front ++ comma) s in
+      let whole : text ≡ (front ++ comma) ++ (s ++ others) =
+      rest.opened ∙ ap (λ l. l ++ others) one.text ∙ append_assoc (front ++ comma) s others in
+      let total : length text ≡ start + length (s ++ others) =
+      ap length whole ∙ length-append (front ++ comma) (s ++ others) in
+      let ended : end ≡ length mid.text = rest.ends refl in
+      let own : span_text text p ≡ s =
+      slice_between text (front ++ comma) s others start end whole refl (ended ∙ long) in
+      let longer = length-append front comma in
+      let values = with_value rest.values (sorted v) start in
+      let value : values start ≡ sorted v = value_here rest.values (sorted v) start in
+      let higher : All (λ q. start < q.start) spans = All-weaker (StandsBehind text (length mid.text) rest.values)
+      (λ q. start < q.start) (λ q h. omega (arith, h.0, long, some)) spans rest.all in
+      let this : IsMemberSpan IsText text values p = (
+        (omega (arith, ended, long, some), omega (arith, ended, long, total, length-append s others)),
+        subst (λ w. IsText k.now w (span_text text p)) (sym value) (subst (IsText k.now (sorted v)) (sym own) one.is_text),
+      ) in
+      let behind_it = All-weaker (StandsBehind text (length mid.text) rest.values)
+      (StandsBehind text (length front) values)
+      (λ q h. (
+        omega (arith, h.0, long, longer),
+        subst (λ w. IsSpanWithin text q × IsText (span_key q) w (span_text text q))
+            (sym (value_there rest.values (sorted v) start q.start (omega (arith, h.0, long, some)))) h.1,
+      )) spans rest.all in
+      record {
+        values = values;
+        all = All-cons (StandsBehind text (length front) values) p spans (omega (arith, longer), this) behind_it;
+        put = λ qs. put_there rest.values (sorted v) start spans (put_pair k.now (values start) qs) higher
+            ∙ ap (λ w. put_each span_key (value_at rest.values) spans (put_pair k.now w qs)) value
+            ∙ rest.put (put_pair k.now (sorted v) qs);
+        opened = whole ∙ append_assoc front comma (s ++ others)
+            ∙ ap (λ l. front ++ (comma ++ (l ++ others))) (sym own);
+        paired = ap suc rest.paired;
+        ends = λ is_behind. omega (arith, longer, ap (λ b. length (comma_if b)) is_behind);
+      }
+
+  -- the members that were written are pieces
+  pairs_stand : (ps : Pairs) (ks : List Key) (old new : Seen) → MembersAdded IsText ps old new
+      → keys_of ps ≡ map (λ k. k.now) ks
+      → (starts : List ℕ) × (new.starts ≡ old.starts ++ starts) × Stand new.text old.text old.behind ks starts ps
+  pairs_stand no_pairs [] old new is named =
+      subst (λ w. (starts : List ℕ) × (w.starts ≡ old.starts ++ starts)
+      × Stand w.text old.text old.behind [] starts no_pairs) is
+      ([], sym (append-nil old.starts), none_stand old.text old.behind)
+  pairs_stand no_pairs (k ∷ ks) old new is named = cc
+  pairs_stand (pair k v ps) [] old new written named = cc
+  pairs_stand (pair l v ps) (k ∷ ks) old new (mid, one, more) named =
+      let first : l ≡ k.now = first_of l k.now (keys_of ps) (map (λ k. k.now) ks) named in
+      let at = length (front_of old) in
+      let (starts, begun, rest) = pairs_stand ps ks mid new more
+      (rest_of l k.now (keys_of ps) (map (λ k. k.now) ks) named) in (
+        at ∷ starts,
+        begun ∙ ap (λ s. s ++ starts) one.starts ∙ append_assoc old.starts (at ∷ []) starts,
+        subst (λ j. Stand new.text old.text old.behind (k ∷ ks) (at ∷ starts) (pair j v ps)) (sym first)
+            (one_stands new.text old mid k ks starts v ps (subst (λ j. MemberAdded IsText j v old mid) first one)
+            (subst (λ b. Stand new.text mid.text b ks starts ps) one.behind rest)),
+      )
+
+  -- ---- a whole document
+
+  -- the open document's text stands behind that before it, and its starts behind those that were held
+  pub record DocumentStands (before held : List ℕ) (now : Seen) (begun : Begun) (ks : List Key) (ps : Pairs)
+      : Type 0 where
+    pub starts : List ℕ
+    pub starts_are : now.starts ≡ held ++ starts
+    pub held_are : begun.held ≡ length held
+    pub stands_before : take begun.start now.text ≡ before
+    pub paired : length ks ≡ length starts
+    pub opened : IsOpenObject before now.text (spans_from ks starts (length now.text))
+    pub values : SpanValues
+    pub all : All (IsMemberSpan IsText now.text values) (spans_from ks starts (length now.text))
+    pub put : put_each span_key (value_at values) (spans_from ks starts (length now.text)) no_pairs
+        ≡ put_in_turn ps no_pairs
+
+  pub opened_document : (before held : List ℕ) (mid now : Seen) (begun : Begun) (ps : Pairs) (ks : List Key)
+      → begun.start ≡ length before → begun.held ≡ length held → mid.text ≡ before ++ 123 ∷ [] → mid.starts ≡ held
+      → mid.behind ≡ false → MembersAdded IsText ps mid now → keys_of ps ≡ map (λ k. k.now) ks
+      → DocumentStands before held now begun ks ps
+  opened_document before held mid now begun ps ks here many begins kept off written named =
+      let (starts, held_are, stand) = pairs_stand ps ks mid now written named in
+      let spans = spans_from ks starts (length now.text) in
+      let members = open_text now.text false spans in
+      let whole : now.text ≡ before ++ 123 ∷ members =
+      stand.opened ∙ ap (λ b. mid.text ++ open_text now.text b spans) off ∙ ap (λ l. l ++ members) begins
+      ∙ append_assoc before (123 ∷ []) members in
+      record {
+        starts = starts;
+        starts_are = held_are ∙ ap (λ l. l ++ starts) kept;
+        held_are = many;
+        stands_before = text_before before (123 ∷ members) now.text begun.start whole here;
+        paired = stand.paired;
+        opened = whole;
+        values = stand.values;
+        all = All-weaker (StandsBehind now.text (length mid.text) stand.values) (IsMemberSpan IsText now.text stand.values)
+            (λ p h. h.1) spans stand.all;
+        put = stand.put no_pairs;
+      }
+
+module _ {IsText : List ℕ → Value → List ℕ → Type 0} {before held : List ℕ} {now : Seen} {begun : Begun}
+    {ks : List Key} {ps : Pairs} (d : DocumentStands IsText before held now begun ks ps) where
+  -- the document's own starts
+  pub own_starts : (all : List ℕ) → all ≡ now.starts → take (length all - begun.held) (drop begun.held all) ≡ d.starts
+  own_starts all is =
+      let whole : all ≡ held ++ (d.starts ++ []) =
+      is ∙ d.starts_are ∙ ap (λ l. held ++ l) (sym (append-nil d.starts)) in
+      slice_between all held d.starts [] begun.held (length all) whole d.held_are
+      (ap length (is ∙ d.starts_are) ∙ length-append held d.starts)
+
+  pub are_held : (all : List ℕ) → all ≡ now.starts → begun.held ≤ length all
+  are_held all is = omega (arith, d.held_are, ap length (is ∙ d.starts_are), length-append held d.starts)
+
+  pub others_held : take begun.held now.starts ≡ held
+  others_held = text_before held d.starts now.starts begun.held d.starts_are d.held_are
+
+  pub all_within : All (IsSpanWithin now.text) (spans_from ks d.starts (length now.text))
+  all_within = All-weaker (IsMemberSpan IsText now.text d.values) (IsSpanWithin now.text) (λ p h. h.0)
+      (spans_from ks d.starts (length now.text)) d.all
+
+  pub stands_open : IsOpenObject (take begun.start now.text) now.text (spans_from ks d.starts (length now.text))
+  stands_open =
+      subst (λ old. IsOpenObject old now.text (spans_from ks d.starts (length now.text))) (sym d.stands_before) d.opened
+
+  -- the document's members, once they were put in order
+  pub has_members : (new : List ℕ)
+      → IsObjectWritten (spans_from ks d.starts (length now.text)) (take begun.start now.text) now.text new
+      → HasMembers IsText before now.text new (sorted_pairs (once ps))
+  has_members new ended =
+      let put = d.put ∙ sym (once_sorted ps) in
+      subst (λ qs. HasMembers IsText before now.text new qs) put
+      (object_in_order IsText before now.text new d.values (spans_from ks d.starts (length now.text)) d.all
+      (subst (λ old. IsObjectWritten (spans_from ks d.starts (length now.text)) old now.text new) d.stands_before ended))

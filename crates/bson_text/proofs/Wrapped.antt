@@ -1,0 +1,200 @@
+-- The first fault of scalars, wrappers and documents.
+use Rattle.std.proofs.Common.{◌≡◌, ℕ, zero, suc, ◌-◌, ◌<◌, List, ◌∷◌, length, Option, Some, None}
+use Rattle.std.proofs.Common.{Ok, Bool, true, false, option_and_then, refl, sym, ap, ◌∙◌, subst}
+use Rattle.std.proofs.Common.{codes, ◌&&◌, ◌||◌, bytes_eq, is_some, cond}
+use Rattle.std.proofs.lemmas.Option.{same_Some}
+use Rattle.json.specs.Json as json
+use Rattle.json.specs.Json.{Parse, read_key, items, members, members_step, value}
+use Rattle.json.specs.Token as token
+use Rattle.json.specs.Token.{Token}
+use Rattle.json.proofs.Grammar.{value_is, value-begin_array, value-begin_object}
+use Rattle.serde_json.specs.Data.{Data, Num, Members, no_members, member, object}
+use Rattle.serde_json.specs.Data as tree
+use Rattle.serde_json.specs.Read.{of_json, converted, number_of}
+use Rattle.bson_scalar.specs.Faults.{Fault}
+use Rattle.bson_scalar.specs.Reading.{number_read_in, single_at_in, single_in}
+use Rattle.bson_scalar.specs.Table.{wrapper_of, has_wrapper}
+use Rattle.bson_scalar.specs.declared.form.Doubles.{Doubles}
+use Rattle.bson_scalar.specs.declared.wrapper.Wrapper.{Wrapper}
+use Rattle.bson_tree.specs.Place.{key, PathSegment, path_of, FaultAtIn, HasValueIn, IsFirstFaultIn}
+use Rattle.bson_tree.proofs.Offered.{first_found}
+use Rattle.bson_tokens.proofs.Offered.{Is, is_found}
+use Rattle.bson_tree.specs.declared.place.Place.{Place}
+use Rattle.bson_tokens.specs.FirstFault.{Verdict, found, found_members, found_wrapper, or, within, here, of_scalar}
+use Rattle.bson_tokens.specs.Held.{IsHeldAs}
+use Rattle.bson_tokens.proofs.Offered.{was_read as from_tree}
+use Rattle.bson_text.specs.Walked.{inside, from_key}
+use Rattle.bson_text.proofs.Objects.{begins}
+use Rattle.bson_text.proofs.Denials.{then_parsed, split_kept, mapped}
+use Rattle.bson_text.proofs.Parsed.{same_parse, after_first, none_behind}
+use Rattle.bson_text.specs.Placed.{trees_of, FirstPlain, At, IsOf, IsScalarFault}
+use Rattle.bson_text.specs.Placed.{IsBeside, Keyed, NoFault, ValuePlaced, ItemsPlaced, MembersPlaced, ObjectPlaced}
+use Rattle.json.specs.declared.error.Error.{Error}
+use Rattle.json.specs.declared.error.Error.TheVariants as json_error
+use Rattle.bson_text.specs.Stops.{stop_of}
+use Rattle.bson_text.specs.declared.stop.Stop.{Stop}
+use Rattle.bson_text.specs.declared.stop.Stop.TheVariants as stop
+use Rattle.bson_text.proofs.Passing.{at_map, members_off}
+use Rattle.bson_text.proofs.Faults.{placed_within, placed_here, MembersFrom, wrapped, array_placed, object_placed}
+
+pub no_fault : (e : Stop) (P : Place → Type 0) → NoFault e → At e P
+no_fault stop.OutOfMemory P h = tt
+no_fault stop.DuplicateKey P h = tt
+no_fault stop.GaveUp P h = tt
+no_fault stop.Syntax P h = tt
+no_fault (stop.Fault q) P h = absurd h
+
+pub reader_stop : (e : Error) (P : Place → Type 0) → At (stop_of e) P
+reader_stop json_error.Invalid P = tt
+reader_stop json_error.OutOfMemory P = tt
+reader_stop json_error.TooLong P = tt
+reader_stop json_error.DuplicateKey P = tt
+
+pub or_nothing : (v : Verdict) → v ≡ or v None
+or_nothing None = refl
+or_nothing (Some f) = refl
+
+-- ---- what was parsed
+
+pub one_behind : (p : Parse json.Json) (n : ℕ) (r q rest : List Token) (l : List ℕ) (ns : json.Members)
+    → read_key r ≡ Some (Some l, q) → members p n r ≡ Some (ns, rest)
+    → (m : ℕ) × (members_step p (members p m) (Some l) q ≡ Some (ns, rest))
+unfolding members
+one_behind p zero r q rest l ns named is = cc
+one_behind p (suc n) r q rest l ns named is =
+    (n, sym (ap (option_and_then (λ x. members_step p (members p n) x.0 x.1)) named) ∙ is)
+
+first_plain : (depth : ℕ) (first : Option (List ℕ)) (s r : List Token) (ms : json.Members)
+    → from_key depth first s ≡ Some (ms, r) → ((k : List ℕ) → first ≡ Some k → wrapper_of k ≡ None) → FirstPlain ms
+first_plain depth None s r ms is plain =
+    let same : (json.no_members, s) ≡ (ms, r) = same_Some {A = json.Members × List Token} (json.no_members, s) (ms, r) is in
+    subst FirstPlain (ap (λ p. p.0) same) tt
+first_plain depth (Some k) s r ms is plain =
+    let g = then_parsed (json.member k) (members (value depth) (length s)) (value depth s) ms r is in
+    subst FirstPlain (sym g.5) (plain k refl)
+
+module _ (D : Doubles) where
+  -- ---- numbers
+
+  pub number_placed : (e : Stop) (depth : ℕ) (s : List ℕ) (ts r : List Token) → ts ≡ token.number s ∷ r
+      → ((n : Num) → number_of s ≡ Some n → IsScalarFault (number_read_in D n) e) → ValuePlaced D e (value depth ts) r
+  number_placed stop.OutOfMemory depth s ts r starts at = tt
+  number_placed stop.DuplicateKey depth s ts r starts at = tt
+  number_placed stop.GaveUp depth s ts r starts at = tt
+  number_placed stop.Syntax depth s ts r starts at = tt
+  number_placed (stop.Fault q) depth s ts r starts at = λ j rest t is rise of.
+      let read : value depth ts ≡ Some (json.number s, r) = ap (value depth) starts ∙ value_is depth (token.number s ∷ r) in
+      let same = same_parse (value depth ts) j (json.number s) rest r is read in
+      let a = mapped tree.number (number_of s) t (subst (λ x. of_json x ≡ Some t) same.0 of) in
+      (sym same.1, subst (λ x. IsOf (found D x) q.value) (sym a.2) (at a.0 a.1))
+
+  -- ---- documents
+
+  pub document_placed : (e : Stop) (depth : ℕ) (first : Option (List ℕ)) (ts s rest : List Token)
+      → read_key ts ≡ Some (first, s) → ((k : List ℕ) → first ≡ Some k → wrapper_of k ≡ None)
+      → MembersPlaced D e true (from_key depth first s) rest → ObjectPlaced D e (inside depth ts) rest
+  document_placed e depth first ts s rest named plain = at_map e _ _ (λ q at ms r ds is rise of.
+      let now : from_key depth first s ≡ Some (ms, r) = sym (begins depth first ts s named) ∙ is in
+      at ms r ds now rise of (λ yes. first_plain depth first s r ms now plain))
+
+  pub misplaced_placed : (e : Stop) (b : Bool) (whole : Option (json.Members × List Token)) (depth n : ℕ) (k : List ℕ)
+      (ts rest : List Token) → (b && is_some (wrapper_of k)) ≡ true
+      → MembersFrom D b whole (members_step (value depth) (members (value depth) n) (Some k) ts)
+      → IsBeside depth ts e rest → MembersPlaced D e b whole rest
+  misplaced_placed e false whole depth n k ts rest bad from out = cc
+  misplaced_placed e true whole depth n k ts rest bad from out = at_map e _ _ (λ q (shape, passed) ms r ds is rise of first.
+      let g = from ms r ds is rise of in
+      let m = then_parsed (json.member k) (members (value depth) n) (value depth ts) g.0 r g.2 in
+      let a = split_kept (member k) (of_json m.0) (trees_of m.2) g.1 (subst (λ x. trees_of x ≡ Some g.1) m.5 g.4) in
+      let has : has_wrapper ds ≡ true = g.6 refl ∙ ap has_wrapper a.4 ∙ ap (λ x. x || has_wrapper a.1) bad in
+      (passed n k g.0 r g.2, placed_here (found D (object ds)) q shape (wrapped D ms ds of (first refl) has))) out
+
+  -- ---- wrappers
+
+  pub by_wrapper : (k : List ℕ) (w : Wrapper) (d : Data) (us : Members) → wrapper_of k ≡ Some w
+      → found D (object (member k d us)) ≡ found_wrapper D (member k d us)
+  by_wrapper k w d us named =
+      ap (λ o. cond (is_some o || has_wrapper us) (found_wrapper D (member k d us)) (found_members D (member k d us))) named
+
+  lone : (k : List ℕ) (w : Wrapper) (d : Data) → wrapper_of k ≡ Some w
+      → found D (object (member k d no_members)) ≡ within (key k) (of_scalar (single_in D w d))
+  lone k w d named = by_wrapper k w d no_members named
+      ∙ ap (λ o. within (key k) (of_scalar (single_at_in D o d))) named
+
+  pub alone_placed : (e f : Stop) (depth : ℕ) (k : List ℕ) (w : Wrapper) (ts r s : List Token) (held : Data)
+      → wrapper_of k ≡ Some w → IsHeldAs (converted of_json (value depth ts)) held r → read_key r ≡ Some (None, s)
+      → IsScalarFault (single_in D w held) e → Keyed k e f → ObjectPlaced D f (from_key depth (Some k) ts) s
+  alone_placed e f depth k w ts r s held named read ended at out = at_map f _ _ (λ q (p, is, further) ms rest ds parsed rise of.
+      let P = value depth in
+      let j = from_tree of_json (P ts) read.0 r read.1 in
+      let m = after_first P (length ts) k ts r rest j.0 ms parsed j.1 in
+      let off = members_off P (length ts) r s rest m.0 ended m.1 in
+      let none = none_behind P (length ts) r s rest m.0 ended m.1 in
+      let all : ms ≡ json.member k j.0 json.no_members = m.2 ∙ ap (json.member k j.0) none in
+      let a = split_kept (member k) (of_json j.0) (trees_of json.no_members) ds (subst (λ x. trees_of x ≡ Some ds) all of) in
+      let end : a.1 ≡ no_members = sym (same_Some no_members a.1 a.3) in
+      let tree_is : a.0 ≡ read.0 = same_Some a.0 read.0 (sym a.2 ∙ j.2) in
+      let now = subst (IsScalarFault (single_in D w held)) is at in
+      let same : found D (object ds) ≡ within (key k) (of_scalar (single_in D w held)) =
+      ap (λ x. found D (object x)) (a.4 ∙ ap (member k a.0) end ∙ ap (λ x. member k x no_members) tree_is)
+      ∙ lone k w read.0 named ∙ ap (λ x. within (key k) (of_scalar x)) (sym (read.2.0 D (Some w))) in (
+        off.0,
+        placed_within (of_scalar (single_in D w held)) (found D (object ds)) (key k) None p.value q now further
+            (same ∙ or_nothing (within (key k) (of_scalar (single_in D w held)))),
+      )) out
+
+  cond_here : (b : Bool) (v : Verdict) → b ≡ false → cond b v here ≡ here
+  cond_here b v h = ap (λ x. cond x v here) h
+
+  two_found : (k l : List ℕ) (w : Wrapper) (d e : Data) (us : Members) → wrapper_of k ≡ Some w
+      → (bytes_eq k (codes "$code") && bytes_eq l (codes "$scope")) ≡ false
+      → found D (object (member k d (member l e us))) ≡ here
+  two_found k l w d e no_members named are = by_wrapper k w d (member l e no_members) named ∙ cond_here _ _ are
+  two_found k l w d e (member m f us) named are = by_wrapper k w d (member l e (member m f us)) named
+
+  pub strange_placed : (f : Stop) (depth : ℕ) (k l : List ℕ) (w : Wrapper) (ts r q rest : List Token) (held : Data)
+      → wrapper_of k ≡ Some w → IsHeldAs (converted of_json (value depth ts)) held r → read_key r ≡ Some (Some l, q)
+      → (bytes_eq k (codes "$code") && bytes_eq l (codes "$scope")) ≡ false → IsBeside depth q f rest
+      → ObjectPlaced D f (from_key depth (Some k) ts) rest
+  strange_placed f depth k l w ts r q rest held named read key_is are out = at_map f _ _ (λ x (shape, passed) ms end ds parsed rise of.
+      let P = value depth in
+      let j = from_tree of_json (P ts) read.0 r read.1 in
+      let m = after_first P (length ts) k ts r end j.0 ms parsed j.1 in
+      let o = one_behind P (length ts) r q end l m.0 key_is m.1 in
+      let n = then_parsed (json.member l) (members P o.0) (P q) m.0 end o.1 in
+      let all : ms ≡ json.member k j.0 (json.member l n.0 n.2) = m.2 ∙ ap (json.member k j.0) n.5 in
+      let a = split_kept (member k) (of_json j.0) (trees_of (json.member l n.0 n.2)) ds (subst (λ y. trees_of y ≡ Some ds) all of) in
+      let b = split_kept (member l) (of_json n.0) (trees_of n.2) a.1 a.3 in
+      let same : found D (object ds) ≡ here =
+      ap (λ y. found D (object y)) (a.4 ∙ ap (member k a.0) b.4) ∙ two_found k l w a.0 b.0 b.1 named are in
+      (passed o.0 l m.0 end o.1, placed_here (found D (object ds)) x shape same)) out
+
+  -- ---- values
+
+  pub array_at : (e : Stop) (depth : ℕ) (ts s rest : List Token) → ts ≡ token.begin_array ∷ s → 0 < depth
+      → ItemsPlaced D e (items (value (depth - 1)) (length s) s) rest → ValuePlaced D e (value depth ts) rest
+  array_at e depth ts s rest starts left at =
+      subst (λ x. ValuePlaced D e x rest) (sym (ap (value depth) starts ∙ value-begin_array depth s left))
+      (array_placed D e (items (value (depth - 1)) (length s) s) rest at)
+
+  pub object_at : (e : Stop) (depth : ℕ) (ts s rest : List Token) → ts ≡ token.begin_object ∷ s → 0 < depth
+      → ObjectPlaced D e (inside (depth - 1) s) rest → ValuePlaced D e (value depth ts) rest
+  object_at e depth ts s rest starts left at =
+      subst (λ x. ValuePlaced D e x rest) (sym (ap (value depth) starts ∙ value-begin_object depth s left))
+      (object_placed D e (inside (depth - 1) s) rest at)
+
+  -- ---- the place of the verdict is that of the first fault
+
+  at_verdict : (t : Data) (v : Verdict) (f : Fault) (path : List PathSegment)
+      → Is (HasValueIn D t) (λ g p. FaultAtIn D g t p) v → v ≡ Some (f, path) → FaultAtIn D f t path
+  at_verdict t None f path h is = cc
+  at_verdict t (Some g) f path h is =
+      subst (λ x. FaultAtIn D x.0 t x.1) (same_Some {A = Fault × List PathSegment} g (f, path) is) h
+
+  pub first_fault : (t : Data) (place : Place) → IsOf (found D t) place → IsFirstFaultIn D t place
+  first_fault t place is =
+      first_found D t (Ok (Some place)) (record {
+        fault = is.fault;
+        path = at_verdict t (found D t) is.fault (path_of place) (is_found D t) is.path;
+        reason = is.reason;
+      })

@@ -1,0 +1,40 @@
+use Rattle.std.specs.Prelude.{⊤}
+use Rattle.bson_scalar.specs.declared.form.Doubles.TheVariants.{Finite}
+use Rattle.std.proofs.lemmas.Result.{err_from_is_err_and}
+use Rattle.bson_text.proofs.TextDenials.{refused}
+use Rattle.std.proofs.Common.{◌≡◌, false, refl}
+use Rattle.std.proofs.lemmas.Str.{IsUtf8-from_is_utf8}
+use Rattle.bson_text.specs.declared.sorted_text.SortedWriter.{SortedWriter}
+use Rattle.bson_text.proofs.Sorting.{text_sorted}
+use Rattle.bson_text.proofs.Utf8Texts.{nothing_utf8}
+use Rattle.bson_text.proofs.filter.sort_text.Goals as goal
+
+pub invariant_of-writer : goal.invariant_of-writer
+invariant_of-writer c = record { utf8 = nothing_utf8 _ c.in_ok-with_capacity.ensures.items }
+
+pub returns : goal.returns
+returns c =
+    let D = c.args.doubles in
+    let f = c.args.form in
+    let old : SortedWriter = record {
+      alloc = c.args.alloc;
+      doubles = D;
+      form = f;
+      text = c.in_ok-with_capacity.field-0;
+      part = c.in_ok-with_capacity-2.field-0;
+      starts = c.in_ok-with_capacity-3.field-0;
+      behind = false;
+      most = c.memory_allowed.result;
+      utf8 = nothing_utf8 _ c.in_ok-with_capacity.ensures.items;
+    } in
+    record {
+      ok = text_sorted D f c.args.text.now old c.in_ok-written.written c.in_ok-written.ensures.ok refl refl refl
+          c.in_ok-with_capacity.ensures.items;
+      utf8 = IsUtf8-from_is_utf8 c.in_ok-written.written.text.items c.in_ok-written.written.utf8;
+      accepts = tt;
+    }
+
+pub returns-in_err-written-clause-accepts : goal.returns-in_err-written-clause-accepts
+returns-in_err-written-clause-accepts c =
+    let p = err_from_is_err_and c.from_residual-in_err-written.result c.from_residual-in_err-written.ensures.1 in
+    rw (p.1, p.2) (refused c.args.doubles (c.args.doubles ≡ Finite) ⊤ c.args.text.now _ c.in_err-written.ensures.stops)

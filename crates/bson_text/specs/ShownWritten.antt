@@ -1,0 +1,72 @@
+-- What a writer of the text that shows values has written: for private clauses.
+use Rattle.std.specs.Prelude.{◌≡◌, ◌++◌, ◌∷◌, [], ℕ, List, length, Bool, true, false, codes, if◌then◌else◌}
+use Rattle.serde_json.specs.Written.{comma_if}
+use Rattle.bson_model.specs.Displayed.{display_text}
+use Rattle.bson_model.specs.Sorted.{sorted_items, sorted_pairs}
+use Rattle.bson_model.specs.Value.{Value, Values, Pairs, scalar, code_scope, array, document}
+use Rattle.bson_tokens.specs.declared.arrangement.Arrangement.{Arrangement}
+use Rattle.bson_tokens.specs.declared.arrangement.Arrangement.TheVariants.{FirstPlaces, Ascending}
+use Rattle.bson_text.specs.declared.sorted_text.Begun.{Begun}
+use Rattle.bson_text.specs.declared.shown_text.ShownWriter.{ShownWriter}
+
+-- what is shown of a value and of parts of one: with its keys in their order, or ascending
+abbrev pub items_shown : Arrangement → Values → Values
+items_shown FirstPlaces vs = vs
+items_shown Ascending vs = sorted_items vs
+
+abbrev pub pairs_shown : Arrangement → Pairs → Pairs
+pairs_shown FirstPlaces ps = ps
+pairs_shown Ascending ps = sorted_pairs ps
+
+abbrev pub value_shown : Arrangement → Value → Value
+value_shown a (scalar x) = scalar x
+value_shown a (code_scope s ps) = code_scope s (pairs_shown a ps)
+value_shown a (array vs) = array (items_shown a vs)
+value_shown a (document ps) = document (pairs_shown a ps)
+
+-- what separates an element from one before it
+abbrev pub separator_if : Bool → List ℕ
+separator_if behind = if behind then codes ", " else []
+
+-- the brace that ends a document, behind its members or none
+abbrev pub brace_behind : Bool → List ℕ
+brace_behind behind = if behind then codes " }" else codes "}"
+
+-- the text so far, and the separator that comes before a value that stands next
+abbrev pub next_display : ShownWriter → List ℕ
+next_display w = w.text.items ++ separator_if w.behind
+
+-- this text comes after the old one, behind which a value stands or not, and nothing else is another
+abbrev pub DisplayAdded : ShownWriter → List ℕ → Bool → ShownWriter → Type 0
+DisplayAdded old s behind new =
+    (new.behind ≡ behind) × (new.arrangement ≡ old.arrangement) × (new.starts.items ≡ old.starts.items)
+    × (new.text.items ≡ old.text.items ++ s)
+
+-- the same with a separator where one is due
+abbrev pub DisplayNext : ShownWriter → List ℕ → Bool → ShownWriter → Type 0
+DisplayNext old s behind new = DisplayAdded old (separator_if old.behind ++ s) behind new
+
+abbrev pub DisplayValueAdded : ShownWriter → Value → ShownWriter → Type 0
+DisplayValueAdded old v new = DisplayNext old (display_text (value_shown old.arrangement v)) true new
+
+abbrev pub DisplayPairsAdded : ShownWriter → Pairs → ShownWriter → Type 0
+DisplayPairsAdded old ps new = DisplayNext old (display_text (document (pairs_shown old.arrangement ps))) true new
+
+-- a document was begun, whose text starts here and whose members' starts come behind those before it
+abbrev pub DisplayBegun : ShownWriter → Begun → ShownWriter → Type 0
+DisplayBegun old begun new = (begun.start ≡ length (next_display old)) × (begun.held ≡ length old.starts.items)
+    × DisplayNext old (codes "{") false new
+
+-- the text up to a member that comes next
+abbrev pub member_front : ShownWriter → List ℕ
+member_front w = w.text.items ++ comma_if w.behind
+
+-- a key was added, whose member starts here, with the blank in front of it
+abbrev pub DisplayKeyAdded : ShownWriter → List ℕ → ShownWriter → Type 0
+DisplayKeyAdded old k new = (new.behind ≡ false) × (new.arrangement ≡ old.arrangement)
+    × (new.starts.items ≡ old.starts.items ++ length (member_front old) ∷ [])
+    × (new.text.items ≡ member_front old ++ (codes " \"" ++ (k ++ codes "\": ")))
+
+-- code was added, and the text of its scope starts here
+abbrev pub IsCodeBegun : ShownWriter → List ℕ → Begun → ShownWriter → Type 0
+IsCodeBegun old s begun new = (begun.start ≡ length new.text.items) × DisplayNext old s false new

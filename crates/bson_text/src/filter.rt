@@ -1,0 +1,158 @@
+//! From text to text, token by token.
+ghost use Rattle.std.specs.Prelude.{◌≡◌, IfOk, IfErr, IsUtf8, ⊤};
+ghost use Rattle.bson_text.specs.Filtered.{IsFilteredText, IsShownText, IsShownTextBy, IsShownTextInOrder};
+ghost use Rattle.bson_text.specs.Filtered.{IsSortedText};
+ghost use Rattle.bson_text.specs.Refused.{IsRefusedText};
+ghost use Rattle.bson_scalar.specs.declared.form.Doubles.TheVariants.{Finite};
+
+use crate::shown_text::ShownWriter;
+use crate::sorted_text::SortedWriter;
+use crate::spans::memory_allowed;
+use crate::stop::Stop;
+use crate::text::TextWriter;
+use crate::traversal::write_text;
+use bson_scalar::form::{Doubles, Form};
+use bson_tokens::arrangement::Arrangement;
+use json::{Scratch, Writer};
+use std::alloc::Global;
+
+// The room of a part, which most values fit, and that of the starts of members: a short text needs
+// no more.
+const FIRST_PART: usize = 64;
+
+const FIRST_STARTS: usize = 16;
+
+/// Writes the compact text of the value that the text denotes in the form, with the keys of each
+/// document in the order of the text, at every depth. It is written as the text is read, with no
+/// value in memory.
+///
+/// # Errors
+///
+/// - `OutOfMemory`: a request for memory was refused.
+/// - `DuplicateKey`: an object has two equal keys. The text that
+///   [`normalize_text`](bson_tokens::normalize::normalize_text) returns by first places has none, and
+///   means the same.
+/// - `GaveUp`: an object begins with `$scope`, or the mode is `Finite` and a double has no text.
+/// - `Syntax`: the text is not JSON of at most 127 levels, or a number is out of range.
+/// - `Fault`: the text does not mean a value.
+pub fn filter_text(
+    alloc: Global,
+    doubles: Doubles,
+    form: Form,
+    text: &str,
+    scratch: &mut Scratch,
+) -> Result<Vec<u8>, Stop>
+    ensures ok { IfOk result (λ written. IsFilteredText doubles form text.now written.items) }
+    ensures utf8 { IfOk result (λ written. IsUtf8 written.items) }
+    ensures accepts { IfErr result (IsRefusedText doubles (doubles ≡ Finite) ⊥ text.now) }
+{
+    let writer = TextWriter {
+        alloc,
+        doubles,
+        form,
+        out: Writer::new(Vec::with_capacity(alloc, first_room(text))?),
+    };
+    let written = write_text(alloc, doubles, text, scratch, writer)?;
+    Ok(written.out.into_inner())
+}
+
+/// Writes what [`filter_text`] writes, with the keys of each document in ascending order of bytes;
+/// the last value of a duplicate key wins.
+///
+/// # Errors
+///
+/// The errors of [`filter_text`], except `DuplicateKey`. `GaveUp` is also the error if keys do not
+/// ascend and need more memory to be sorted than some nine times the text: not in the text that
+/// [`normalize_text`](bson_tokens::normalize::normalize_text) returns by ascending keys.
+pub fn sort_text(
+    alloc: Global,
+    doubles: Doubles,
+    form: Form,
+    text: &str,
+    scratch: &mut Scratch,
+) -> Result<Vec<u8>, Stop>
+    ensures ok { IfOk result (λ written. IsSortedText doubles form text.now written.items) }
+    ensures utf8 { IfOk result (λ written. IsUtf8 written.items) }
+    ensures accepts { IfErr result (IsRefusedText doubles (doubles ≡ Finite) ⊤ text.now) }
+{
+    let writer = SortedWriter {
+        alloc,
+        doubles,
+        form,
+        text: Vec::with_capacity(alloc, first_room(text))?,
+        part: Vec::with_capacity(alloc, FIRST_PART)?,
+        starts: Vec::with_capacity(alloc, FIRST_STARTS)?,
+        behind: false,
+        most: memory_allowed(text.len()),
+    };
+    let written = write_text(alloc, doubles, text, scratch, writer)?;
+    Ok(written.text)
+}
+
+/// Writes the text that shows the value that the text denotes by default, with the keys of each
+/// document in ascending order of bytes: it is written as the text is read, with no value in
+/// memory.
+///
+/// # Errors
+///
+/// The errors of [`sort_text`].
+pub fn show_text(
+    alloc: Global,
+    doubles: Doubles,
+    text: &str,
+    scratch: &mut Scratch,
+) -> Result<Vec<u8>, Stop>
+    ensures ok { IfOk result (λ written. IsShownText doubles text.now written.items) }
+    ensures utf8 { IfOk result (λ written. IsUtf8 written.items) }
+    ensures accepts { IfErr result (IsRefusedText doubles ⊥ ⊤ text.now) }
+{
+    show_by(alloc, doubles, Arrangement::Ascending, text, scratch)
+}
+
+/// Writes what [`show_text`] writes, with the keys of each document in the order of the text.
+///
+/// # Errors
+///
+/// The errors of [`filter_text`].
+pub fn show_text_in_order(
+    alloc: Global,
+    doubles: Doubles,
+    text: &str,
+    scratch: &mut Scratch,
+) -> Result<Vec<u8>, Stop>
+    ensures ok { IfOk result (λ written. IsShownTextInOrder doubles text.now written.items) }
+    ensures utf8 { IfOk result (λ written. IsUtf8 written.items) }
+    ensures accepts { IfErr result (IsRefusedText doubles ⊥ ⊤ text.now) }
+{
+    show_by(alloc, doubles, Arrangement::FirstPlaces, text, scratch)
+}
+
+fn show_by(
+    alloc: Global,
+    doubles: Doubles,
+    arrangement: Arrangement,
+    text: &str,
+    scratch: &mut Scratch,
+) -> Result<Vec<u8>, Stop>
+    ensures ok { IfOk result (λ written. IsShownTextBy doubles arrangement text.now written.items) }
+    ensures utf8 { IfOk result (λ written. IsUtf8 written.items) }
+    ensures accepts { IfErr result (IsRefusedText doubles ⊥ ⊤ text.now) }
+{
+    let writer = ShownWriter {
+        alloc,
+        arrangement,
+        text: Vec::with_capacity(alloc, first_room(text))?,
+        part: String::new(alloc),
+        starts: Vec::new(alloc),
+        behind: false,
+        most: memory_allowed(text.len()),
+    };
+    let written = write_text(alloc, doubles, text, scratch, writer)?;
+    Ok(written.text)
+}
+
+// As much as the text takes; none at first for a long one, so that the reader's scratch comes first
+// to the block that the one before it let go.
+fn first_room(text: &str) -> usize {
+    if text.len() < 1 << 20 { text.len() } else { 0 }
+}

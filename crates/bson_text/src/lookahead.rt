@@ -1,0 +1,104 @@
+//! Code that follows its scope, read ahead. The traversal compares it with the code that it reads
+//! later, so no clause says that it is right.
+ghost use Rattle.std.specs.Prelude.{◌≡◌, Some, codes, option_map, IfOk, IfSome};
+
+use bson_scalar::code::is_scope;
+use json::{Reader, Scratch, Token};
+use std::alloc::{AllocError, Global};
+use std::collections::BTreeMap;
+
+/// The codes of a text that follow their scopes. The text is read once more for them, at the first
+/// object that begins with `$scope`.
+#[derive(Drop)]
+pub(crate) struct Lookahead<'a> {
+    alloc: Global,
+    text: &'a str,
+    codes: Option<BTreeMap<usize, String>>,
+}
+
+impl<'a> Lookahead<'a> {
+    // Makes a reader that has read nothing of the text.
+    pub(crate) fn new(alloc: Global, text: &'a str) -> Lookahead<'a> {
+        Lookahead {
+            alloc,
+            text,
+            codes: None,
+        }
+    }
+
+    // Returns the code after its scope in an object with this first key, if the key is `$scope`. The
+    // value of the key begins at this offset of the text.
+    pub(crate) fn code_after_scope(
+        &mut self,
+        first: Option<&str>,
+        place: usize,
+    ) -> Result<Option<String>, AllocError>
+        ensures { IfOk result (λ code. IfSome code (λ _. option_map (λ k. k.now) first.entry ≡ Some (codes "$scope"))) }
+    {
+        let Some(key) = first else {
+            return Ok(None);
+        };
+        if !is_scope(key) {
+            return Ok(None);
+        }
+        self.code_at(place)
+    }
+
+    fn code_at(&mut self, place: usize) -> Result<Option<String>, AllocError> {
+        if self.codes.is_none() {
+            self.codes = Some(codes_of(self.alloc, self.text)?);
+        }
+        let Some(codes) = &mut self.codes else {
+            return Ok(None);
+        };
+        Ok(codes.remove(&place))
+    }
+}
+
+// An array or an object that is open, by the last key of it that was read.
+#[derive(Clone, Copy, Drop)]
+enum Open {
+    // None.
+    Brace,
+    // `$scope`, the first one: the scope begins at this place.
+    Scope(usize),
+    // `$code`, right after this scope.
+    Code(usize),
+    // Another, or the elements of an array.
+    Other,
+}
+
+// Returns the code right after each scope that is first in its object, by the offset of the scope.
+fn codes_of(alloc: Global, text: &str) -> Result<BTreeMap<usize, String>, AllocError> {
+    let mut scratch = Scratch::new(alloc);
+    let mut reader = Reader::new(text, &mut scratch)?;
+    let mut codes = BTreeMap::new(alloc);
+    let mut open = Vec::new(alloc);
+    'tokens: while let Some(token) = reader.next() {
+        match token {
+            Token::BeginObject => open.push(Open::Brace)?,
+            Token::BeginArray => open.push(Open::Other)?,
+            Token::EndObject | Token::EndArray => drop(open.pop()),
+            Token::Key(key) => {
+                let before = open.pop().unwrap_or(Open::Other);
+                open.push(after_key(before, key, reader.offset()))?;
+            }
+            Token::String(text) => {
+                if let Some(Open::Code(place)) = open.last() {
+                    drop(codes.insert(*place, String::from_str(alloc, text)?)?);
+                }
+            }
+            Token::Number(_) | Token::Bool(_) | Token::Null | Token::Bad => {}
+        }
+    }
+    Ok(codes)
+}
+
+// Returns what is open after this key of it was read. The value of the key begins at the offset.
+fn after_key(open: Open, key: &str, place: usize) -> Open {
+    match open {
+        Open::Brace if is_scope(key) => Open::Scope(place),
+        Open::Scope(scope) if key == "$code" => Open::Code(scope),
+        _ => Open::Other,
+    }
+}

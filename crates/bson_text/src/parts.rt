@@ -1,0 +1,146 @@
+//! Parts of a wrapper.
+ghost use Rattle.std.specs.Prelude.{◌≡◌, ◌<◌, ◌∷◌, ◌&&◌, length, false, is_some, codes, IfOk, IfErr, OnOk, OnErr, Ok};
+ghost use Rattle.std.specs.Prelude.{None, Some, string_bytes};
+ghost use Rattle.json.specs.Json.{read_key};
+ghost use Rattle.json.specs.Token as token;
+ghost use Rattle.bson_scalar.specs.Reading.{number_read_in};
+ghost use Rattle.bson_scalar.specs.Table.{wrapper_of};
+ghost use Rattle.bson_scalar.specs.View.{scalar_view};
+ghost use Rattle.serde_json.specs.Data.{Num, string};
+ghost use Rattle.serde_json.specs.Find.{as_str};
+ghost use Rattle.serde_json.specs.Read.{number_of};
+ghost use Rattle.serde_json.specs.View.{view};
+ghost use Rattle.bson_text.specs.Exact.{EndDenied, NumberDenied};
+ghost use Rattle.bson_text.specs.Parts.{scope_token, IsNoScope};
+ghost use Rattle.bson_text.specs.Placed.{NoScopeAt, EndPlaced, IsScalarFault};
+ghost use Rattle.bson_text.specs.Stops.{Becomes};
+ghost use Rattle.bson_text.specs.Walked.{CodeEnds};
+ghost use Rattle.bson_text.specs.declared.stop.Stop.TheVariants.{Syntax};
+
+use crate::level::Level;
+use crate::places::{fault_of, shape_at_key, shape_at_value, skip_items};
+use crate::stop::Stop;
+use bson_scalar::doubles::read_number;
+use bson_scalar::form::Doubles;
+use bson_scalar::scalar::Scalar;
+use bson_scalar::wrapper::{Wrapper, wrapper_named};
+use bson_tokens::number::number;
+use bson_tree::shape::{SCOPE, beside_others};
+use json::{Reader, Token};
+use serde_json::Value;
+use std::alloc::Global;
+
+// How the scope of code starts.
+#[derive(Clone, Copy, Debug, Drop)]
+pub(crate) enum Scope {
+    Null,
+    Object,
+}
+
+// Reads the token at which a scope starts. If no scope starts there, the rest of the object is
+// skipped.
+pub(crate) fn read_scope(level: Level, reader: &mut Reader<'_>) -> Result<Scope, Stop>
+    ensures ok { IfOk result (λ scope. reader.old ≡ scope_token scope ∷ reader.new) }
+    ensures placed { IfErr result (λ e. NoScopeAt level.depth reader.old e reader.new) }
+    ensures kind { IfErr result (λ e. Becomes Syntax e × IsNoScope reader.old) }
+{
+    let token = reader.next().ok_or(Stop::Syntax)?;
+    match token {
+        Token::Null => Ok(Scope::Null),
+        Token::BeginObject => Ok(Scope::Object),
+        Token::String(_) | Token::Number(_) | Token::Bool(_) => {
+            Err(shape_at_key(level, reader, SCOPE))
+        }
+        Token::BeginArray => {
+            if level.depth == 0 {
+                return Err(Stop::Syntax);
+            }
+            let Ok(()) = skip_items(reader, level.depth - 1) else {
+                return Err(Stop::Syntax);
+            };
+            Err(shape_at_key(level, reader, SCOPE))
+        }
+        Token::EndObject | Token::EndArray | Token::Key(_) | Token::Bad => Err(Stop::Syntax),
+    }
+}
+
+// The text that a tree is, if it is one. The caller knows the place of the fault.
+pub(crate) fn text_of(tree: Value) -> Result<String, Stop>
+    ensures ok { IfOk result (λ text. view tree ≡ string (string_bytes text)) }
+    ensures textless { OnErr result (as_str (view tree) ≡ None) }
+{
+    match tree {
+        Value::String(text) => Ok(text),
+        Value::Null | Value::Bool(_) | Value::Number(_) => Err(Stop::Syntax),
+        Value::Array(_) => Err(Stop::Syntax),
+        Value::Object(_) => Err(Stop::Syntax),
+    }
+}
+
+// The number of a token.
+pub(crate) fn read_token(alloc: Global, doubles: Doubles, text: &str) -> Result<Scalar, Stop>
+    ensures ok { IfOk result (λ x. (n : Num) × (number_of text.now ≡ Some n)
+        × (number_read_in doubles n ≡ Ok (scalar_view x))) }
+    ensures stops { IfErr result (λ e. NumberDenied doubles e text.now) }
+    ensures placed { IfErr result (λ e. (n : Num) → number_of text.now ≡ Some n
+        → IsScalarFault (number_read_in doubles n) e) }
+{
+    let n = number(text).ok_or(Stop::Syntax)?;
+    match read_number(doubles, &n) {
+        Ok(scalar) => Ok(scalar),
+        Err(cause) => Err(fault_of(alloc, cause)),
+    }
+}
+
+// The wrapper of the key, which a document does not have.
+pub(crate) fn misplaced(is_document: bool, key: &str) -> Option<Wrapper>
+    ensures { is_some result ≡ (is_document && is_some (wrapper_of key.now)) }
+{
+    if is_document {
+        wrapper_named(key)
+    } else {
+        None
+    }
+}
+
+// Reads the end of the object of code and its scope. If the code follows its scope, it is there.
+pub(crate) fn end_object(
+    level: Level,
+    reader: &mut Reader<'_>,
+    code: &str,
+    is_reversed: bool,
+) -> Result<(), Stop>
+    ensures ok { OnOk result (CodeEnds code.now is_reversed reader.old reader.new) }
+    ensures shorter { OnOk result (length reader.new < length reader.old) }
+    ensures stops { IfErr result (λ e. EndDenied e is_reversed reader.old) }
+    ensures placed { IfErr result (λ e. is_reversed ≡ false → EndPlaced level.depth reader.old e reader.new) }
+{
+    if is_reversed {
+        skip_code(reader, code)?;
+    }
+    let other = reader.next_key()?;
+    match other {
+        None => Ok(()),
+        Some(_) => Err(shape_at_value(level, reader, beside_others(Wrapper::Code))),
+    }
+}
+
+// The key of code, and then this text.
+fn skip_code(reader: &mut Reader<'_>, code: &str) -> Result<(), Stop>
+    ensures ok { OnOk result (read_key reader.old ≡ Some (Some (codes "$code"), token.string code.now ∷ reader.new)) }
+    ensures kind { IfErr result (λ e. e ≡ Syntax) }
+{
+    let Some(key) = reader.next_key()? else {
+        return Err(Stop::Syntax);
+    };
+    if key != "$code" {
+        return Err(Stop::Syntax);
+    }
+    let Some(Token::String(text)) = reader.next() else {
+        return Err(Stop::Syntax);
+    };
+    if text != code {
+        return Err(Stop::Syntax);
+    }
+    Ok(())
+}

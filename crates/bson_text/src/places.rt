@@ -1,0 +1,267 @@
+//! The place of a fault, as the values around it see it. The rest of each of them is skipped.
+ghost use Rattle.std.specs.Prelude.{◌≡◌, ◌++◌, ◌∷◌, [], ◌||◌, is_some, IfOk, IfErr, OnOk, Ok, Result};
+ghost use Rattle.bson_scalar.specs.Faults.{Fails, Fault};
+ghost use Rattle.bson_scalar.specs.Reading.{single_in};
+ghost use Rattle.bson_scalar.specs.Scalar.{Scalar as Meaning};
+ghost use Rattle.bson_scalar.specs.View.{scalar_view};
+ghost use Rattle.serde_json.specs.View.{view};
+ghost use Rattle.bson_text.specs.declared.stop.Stop.{Stop as Stopped};
+ghost use Rattle.bson_scalar.specs.Table.{wrapper_of};
+ghost use Rattle.bson_tree.specs.Place.{path_of, segment_of, key as key_segment};
+ghost use Rattle.bson_text.specs.Placed.{Elemented, Membered, IsScalarFault, ItemsPassed, MembersPassed, Keyed, IsBeside};
+ghost use Rattle.bson_text.specs.Placed.{At, IsShape, NoFault, IsEnded, InScope};
+ghost use Rattle.bson_text.specs.Stops.{read_stop, IsStopAfter, Becomes, IsOfReading};
+ghost use Rattle.bson_text.specs.declared.stop.Stop.TheVariants.{Syntax};
+
+use crate::level::Level;
+use crate::stop::Stop;
+use bson_scalar::error;
+use bson_scalar::read::read_wrapper;
+use bson_scalar::scalar::Scalar;
+use bson_scalar::wrapper::{Wrapper, wrapper_named};
+use bson_tree::place::{Place, Reason, Segment};
+use bson_tree::shape::beside_others;
+use json::{Invalid, Reader};
+use serde_json::Value;
+use std::alloc::{AllocError, Global};
+
+// The fault at the place, if there is memory to keep that.
+fn fault_at(alloc: Global, place: Place) -> Stop
+    ensures placed { At result (λ q. q ≡ place) }
+    ensures kind { Becomes Syntax result }
+{
+    match Box::new(alloc, place) {
+        Ok(place) => Stop::Fault(place),
+        Err(_) => Stop::OutOfMemory,
+    }
+}
+
+// The value itself has the wrong shape.
+fn shape_here(alloc: Global, message: &'static str) -> Stop
+    ensures placed { At result IsShape }
+    ensures kind { Becomes Syntax result }
+{
+    fault_at(
+        alloc,
+        Place {
+            reason: Reason::WrongShape(message),
+            segments: Vec::new(alloc),
+        },
+    )
+}
+
+// The place seen from one value further out.
+fn with_segment(mut place: Box<Place>, segment: Segment) -> Result<Box<Place>, AllocError>
+    ensures path { IfOk result (λ p. path_of p.value ≡ path_of place.value ++ segment_of segment ∷ []) }
+    ensures reason { IfOk result (λ p. p.value.reason ≡ place.value.reason) }
+{
+    place.segments.push(segment)?;
+    Ok(place)
+}
+
+// The fault of a scalar, at its own place.
+pub(crate) fn fault_of(alloc: Global, cause: error::Error) -> Stop
+    ensures placed { (r : Result Meaning Fault) → Fails cause r → IsScalarFault r result }
+    ensures kind { Becomes (read_stop cause) result }
+{
+    match cause {
+        error::Error::OutOfMemory => Stop::OutOfMemory,
+        error::Error::DeserializationError { message } => shape_here(alloc, message),
+        error::Error::InvalidObjectId(cause) => fault_at(
+            alloc,
+            Place {
+                reason: Reason::BadObjectId(cause),
+                segments: Vec::new(alloc),
+            },
+        ),
+    }
+}
+
+// Skips the elements of an array and its end.
+pub(crate) fn skip_items(reader: &mut Reader<'_>, depth: usize) -> Result<(), Invalid>
+    ensures { OnOk result (ItemsPassed depth reader.old reader.new) }
+{
+    'items: while !reader.take_end_array() {
+        reader.skip_value(depth)?;
+    }
+    Ok(())
+}
+
+// Skips the members of an object and its end, and returns the first wrapper whose key they have.
+pub(crate) fn skip_members(
+    reader: &mut Reader<'_>,
+    depth: usize,
+) -> Result<Option<Wrapper>, Invalid>
+    ensures { IfOk result (λ first. MembersPassed depth reader.old (is_some first) reader.new) }
+{
+    let mut first: Option<Wrapper> = None;
+    'members: while let Some(key) = reader.next_key()? {
+        first = or_wrapper(first, key);
+        reader.skip_value(depth)?;
+    }
+    Ok(first)
+}
+
+fn or_wrapper(first: Option<Wrapper>, key: &str) -> Option<Wrapper>
+    ensures { is_some result ≡ (is_some first || is_some (wrapper_of key.now)) }
+{
+    match first {
+        Some(wrapper) => Some(wrapper),
+        None => wrapper_named(key),
+    }
+}
+
+// The stop of an element, seen from its array.
+pub(crate) fn in_element(reader: &mut Reader<'_>, depth: usize, at: usize, stop: Stop) -> Stop
+    ensures placed { Elemented depth at stop reader.old result reader.new }
+    ensures kind { Becomes stop result }
+{
+    match stop {
+        Stop::Fault(place) => {
+            let Ok(()) = skip_items(reader, depth) else {
+                return Stop::Syntax;
+            };
+            match with_segment(place, Segment::Element(at)) {
+                Ok(place) => Stop::Fault(place),
+                Err(_) => Stop::OutOfMemory,
+            }
+        }
+        Stop::OutOfMemory => Stop::OutOfMemory,
+        Stop::DuplicateKey => Stop::DuplicateKey,
+        Stop::GaveUp => Stop::GaveUp,
+        Stop::Syntax => Stop::Syntax,
+    }
+}
+
+// The stop of the value at a key, seen from its object. If a document has a wrapper key after it,
+// that is the fault.
+pub(crate) fn in_member(
+    level: Level,
+    reader: &mut Reader<'_>,
+    is_document: bool,
+    key: &str,
+    stop: Stop,
+) -> Stop
+    ensures placed { Membered level.depth is_document key.now stop reader.old result reader.new }
+    ensures kind { Becomes stop result }
+{
+    match stop {
+        Stop::Fault(place) => {
+            let Ok(later) = skip_members(reader, level.depth) else {
+                return Stop::Syntax;
+            };
+            if is_document {
+                if let Some(wrapper) = later {
+                    return shape_here(level.alloc, beside_others(wrapper));
+                }
+            }
+            match at_key(level.alloc, key, place) {
+                Ok(place) => Stop::Fault(place),
+                Err(_) => Stop::OutOfMemory,
+            }
+        }
+        Stop::OutOfMemory => Stop::OutOfMemory,
+        Stop::DuplicateKey => Stop::DuplicateKey,
+        Stop::GaveUp => Stop::GaveUp,
+        Stop::Syntax => Stop::Syntax,
+    }
+}
+
+fn at_key(alloc: Global, key: &str, place: Box<Place>) -> Result<Box<Place>, AllocError>
+    ensures path { IfOk result (λ p. path_of p.value ≡ path_of place.value ++ key_segment key.now ∷ []) }
+    ensures reason { IfOk result (λ p. p.value.reason ≡ place.value.reason) }
+{
+    with_segment(place, Segment::Key(String::from_str(alloc, key)?))
+}
+
+// The stop of the scalar at the only key of a wrapper, seen from that wrapper.
+pub(crate) fn at_only_key(alloc: Global, key: &str, stop: Stop) -> Stop
+    ensures placed { Keyed key.now stop result }
+    ensures kind { Becomes stop result }
+{
+    match stop {
+        Stop::Fault(place) => match at_key(alloc, key, place) {
+            Ok(place) => Stop::Fault(place),
+            Err(_) => Stop::OutOfMemory,
+        },
+        Stop::OutOfMemory => Stop::OutOfMemory,
+        Stop::DuplicateKey => Stop::DuplicateKey,
+        Stop::GaveUp => Stop::GaveUp,
+        Stop::Syntax => Stop::Syntax,
+    }
+}
+
+// The object has the wrong shape. The members after it are skipped.
+pub(crate) fn shape_at_key(level: Level, reader: &mut Reader<'_>, message: &'static str) -> Stop
+    ensures placed { IsEnded level.depth reader.old result reader.new }
+    ensures kind { Becomes Syntax result }
+{
+    let Ok(_) = skip_members(reader, level.depth) else {
+        return Stop::Syntax;
+    };
+    shape_here(level.alloc, message)
+}
+
+// The same if the next value is skipped too.
+pub(crate) fn shape_at_value(level: Level, reader: &mut Reader<'_>, message: &'static str) -> Stop
+    ensures placed { IsBeside level.depth reader.old result reader.new }
+    ensures kind { Becomes Syntax result }
+{
+    let Ok(()) = reader.skip_value(level.depth) else {
+        return Stop::Syntax;
+    };
+    shape_at_key(level, reader, message)
+}
+
+// The stop of a scope's members, seen from the object around the scope.
+pub(crate) fn in_scope(level: Level, reader: &mut Reader<'_>, stop: Stop) -> Stop
+    ensures placed { InScope level.depth stop reader.old result reader.new }
+    ensures kind { Becomes stop result }
+{
+    match stop {
+        Stop::Fault(place) => match reader.next_key() {
+            Ok(None) => match at_key(level.alloc, "$scope", place) {
+                Ok(place) => Stop::Fault(place),
+                Err(_) => Stop::OutOfMemory,
+            },
+            Ok(Some(_)) => shape_at_value(level, reader, beside_others(Wrapper::Code)),
+            Err(_) => Stop::Syntax,
+        },
+        Stop::OutOfMemory => Stop::OutOfMemory,
+        Stop::DuplicateKey => Stop::DuplicateKey,
+        Stop::GaveUp => Stop::GaveUp,
+        Stop::Syntax => Stop::Syntax,
+    }
+}
+
+// If code was read ahead, a fault can be that code's, so the walk only gives up.
+pub(crate) fn give_up(stop: Stop) -> Stop
+    ensures placed { NoFault result }
+    ensures kind { IsStopAfter stop result }
+{
+    match stop {
+        Stop::Fault(_) => Stop::GaveUp,
+        Stop::OutOfMemory => Stop::OutOfMemory,
+        Stop::DuplicateKey => Stop::DuplicateKey,
+        Stop::GaveUp => Stop::GaveUp,
+        Stop::Syntax => Stop::GaveUp,
+    }
+}
+
+// Reads the scalar of a wrapper with this key and no other.
+pub(crate) fn read_scalar(
+    level: Level,
+    wrapper: Wrapper,
+    held: Value,
+    key: &str,
+) -> Result<Scalar, Stop>
+    ensures ok { IfOk result (λ x. single_in level.doubles wrapper (view held) ≡ Ok (scalar_view x)) }
+    ensures placed { IfErr result (λ f. (e : Stopped) × IsScalarFault (single_in level.doubles wrapper (view held)) e
+        × Keyed key.now e f) }
+    ensures kind { IfErr result (λ f. IsOfReading (single_in level.doubles wrapper (view held)) f) }
+{
+    match read_wrapper(level.alloc, level.doubles, wrapper, held) {
+        Ok(value) => Ok(value),
+        Err(cause) => Err(at_only_key(level.alloc, key, fault_of(level.alloc, cause))),
+    }
+}

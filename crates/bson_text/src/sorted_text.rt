@@ -1,0 +1,210 @@
+//! A text of Extended JSON that values are written to, each document's keys in ascending order.
+ghost use Rattle.std.specs.Prelude.{◌≡◌, ◌<◌, ◌∷◌, [], length, true, false, OnOk, IfOk, ⊤};
+ghost use Rattle.std.specs.Str.{is_utf8};
+ghost use Rattle.json.specs.Print.{print};
+ghost use Rattle.serde_json.specs.Written.{comma_if};
+
+use crate::spans::{end_object, put_comma};
+use crate::stop::{Stop, write_error};
+use crate::writer::ValueWriter;
+use bson_scalar::code::put_code;
+use bson_scalar::form::{Doubles, Form};
+use bson_scalar::scalar::Scalar;
+use bson_scalar::write::print_scalar_in;
+use itoa::Buffer;
+use json::Writer;
+use std::alloc::{AllocError, Global};
+use std::mem::replace;
+
+/// The compact text of values in a form. The members of an open document stand in it as they came,
+/// each from its start on.
+#[derive(Drop)]
+pub(crate) struct SortedWriter {
+    pub(crate) alloc: Global,
+    pub(crate) doubles: Doubles,
+    pub(crate) form: Form,
+    pub(crate) text: Vec<u8>,
+    // Room for the writer of a part, since one that stands in a long text takes much room ahead.
+    pub(crate) part: Vec<u8>,
+    // Those of the documents that are open, each document's behind those around it.
+    pub(crate) starts: Vec<usize>,
+    // A value stands before what comes next.
+    pub(crate) behind: bool,
+    // So many bytes may be taken to put members in order.
+    pub(crate) most: usize,
+    ghost utf8: { is_utf8 text.items ≡ true },
+}
+
+/// Where the text of what was begun starts, and how many starts there were.
+#[derive(Clone, Copy, Drop)]
+pub(crate) struct Begun {
+    pub(crate) start: usize,
+    pub(crate) held: usize,
+}
+
+impl SortedWriter {
+    ghost use Rattle.bson_text.specs.SortedWritten.{SortedAdded};
+
+    // Adds the comma that is due.
+    fn add_comma(&mut self) -> Result<(), AllocError>
+        ensures { OnOk result (SortedAdded self.old (comma_if self.old.behind) self.old.behind self.new) }
+    {
+        put_comma(self.behind, &mut self.text)
+    }
+
+    // Adds a byte of ASCII, behind which a value stands or not.
+    fn add_byte(&mut self, byte: u8, behind: bool) -> Result<(), AllocError>
+        requires { byte < 128 }
+        ensures { OnOk result (SortedAdded self.old (byte ∷ []) behind self.new) }
+    {
+        self.text.push(byte)?;
+        self.behind = behind;
+        Ok(())
+    }
+
+    // Adds the comma that is due, and begins what stands behind it.
+    fn begin_part(&mut self) -> Result<Writer, AllocError>
+        ensures empty { IfOk result (λ part. (part.before ≡ []) × (part.tokens ≡ [])) }
+        ensures comma { OnOk result (SortedAdded self.old (comma_if self.old.behind) self.old.behind self.new) }
+    {
+        self.add_comma()?;
+        let mut part = replace(&mut self.part, Vec::new(self.alloc));
+        part.clear();
+        Ok(Writer::new(part))
+    }
+
+    // Adds what was begun, behind which a value stands or not.
+    fn add_part(&mut self, part: Writer, behind: bool) -> Result<(), AllocError>
+        requires { part.before ≡ [] }
+        ensures { OnOk result (SortedAdded self.old (print part.tokens) behind self.new) }
+    {
+        self.part = part.into_inner();
+        self.text.extend_from_slice(&self.part)?;
+        self.behind = behind;
+        Ok(())
+    }
+
+    fn position(&self) -> Begun
+        ensures start { result.start ≡ length self.now.text.items }
+        ensures held { result.held ≡ length self.now.starts.items }
+    {
+        Begun {
+            start: self.text.len(),
+            held: self.starts.len(),
+        }
+    }
+}
+
+impl ValueWriter for SortedWriter {
+    type Open = Begun;
+
+    ghost use Rattle.bson_scalar.specs.Tokens.{code_tokens};
+    ghost use Rattle.bson_scalar.specs.declared.form.Doubles.TheVariants.{Finite};
+    ghost use Rattle.bson_text.specs.SortedWritten.{SortedNext, SortedValueAdded, SortedPairsAdded, SortedBegun, SortedKeyAdded};
+
+    ghost leaves = { λ D. D ≡ Finite };
+
+    ghost sorts = { ⊤ };
+
+    ghost name_of = { λ n. [] };
+
+    ghost wrote = { λ old k v new. SortedValueAdded old v new };
+
+    ghost framed = { λ old ps new. SortedPairsAdded old ps new };
+
+    ghost listed = { λ old k begun new. SortedNext old (91 ∷ []) false new };
+
+    ghost opened = { λ old begun new. SortedBegun old begun new };
+
+    ghost keyed = { λ old k new. SortedKeyAdded old k new };
+
+    ghost coded = { λ old k s begun new. SortedNext old (print (code_tokens s)) false new };
+
+    fn string(&mut self, _name: &str, text: &str) -> Result<(), Stop> {
+        let mut part = self.begin_part()?;
+        part.string(text)?;
+        Ok(self.add_part(part, true)?)
+    }
+
+    fn boolean(&mut self, _name: &str, truth: bool) -> Result<(), Stop> {
+        let mut part = self.begin_part()?;
+        part.boolean(truth)?;
+        Ok(self.add_part(part, true)?)
+    }
+
+    fn null(&mut self, _name: &str) -> Result<(), Stop> {
+        let mut part = self.begin_part()?;
+        part.null()?;
+        Ok(self.add_part(part, true)?)
+    }
+
+    fn scalar(&mut self, _name: &str, value: Scalar) -> Result<(), Stop> {
+        let mut part = self.begin_part()?;
+        print_scalar_in(self.alloc, self.doubles, self.form, value, &mut part).map_err(
+            write_error,
+        )?;
+        Ok(self.add_part(part, true)?)
+    }
+
+    fn item_name<'b>(_buffer: &'b mut Buffer, _place: usize) -> &'b str {
+        ""
+    }
+
+    fn begin_array(&mut self, _name: &str) -> Result<Begun, Stop> {
+        self.add_comma()?;
+        let begun = self.position();
+        self.add_byte(b'[', false)?;
+        Ok(begun)
+    }
+
+    fn end_array(&mut self, _begun: Begun) -> Result<(), Stop> {
+        Ok(self.add_byte(b']', true)?)
+    }
+
+    fn embed(&mut self, _name: &str) -> Result<(), Stop> {
+        Ok(())
+    }
+
+    fn begin(&mut self) -> Result<Begun, Stop> {
+        self.add_comma()?;
+        let begun = self.position();
+        self.add_byte(b'{', false)?;
+        Ok(begun)
+    }
+
+    fn key(&mut self, name: &str) -> Result<(), Stop> {
+        let mut part = self.begin_part()?;
+        let Ok(()) = self.starts.push(self.text.len()) else {
+            return Err(Stop::OutOfMemory);
+        };
+        part.key(name)?;
+        Ok(self.add_part(part, false)?)
+    }
+
+    fn end(&mut self, begun: Begun, keys: &mut [&str]) -> Result<(), Stop> {
+        let starts = &self.starts[begun.held..];
+        end_object(
+            self.alloc,
+            keys,
+            starts,
+            begun.start,
+            self.most,
+            &mut self.text,
+        )?;
+        self.starts.truncate(begun.held);
+        self.behind = true;
+        Ok(())
+    }
+
+    fn begin_code(&mut self, _name: &str, code: &str) -> Result<Begun, Stop> {
+        let mut part = self.begin_part()?;
+        let begun = self.position();
+        put_code(code, &mut part)?;
+        self.add_part(part, false)?;
+        Ok(begun)
+    }
+
+    fn end_code(&mut self, _begun: Begun) -> Result<(), Stop> {
+        Ok(self.add_byte(b'}', true)?)
+    }
+}

@@ -1,0 +1,71 @@
+//! Why the walk over the tokens of a text stops.
+ghost use Rattle.std.specs.Prelude.{◌≡◌};
+ghost use Rattle.bson_text.specs.Stops.{write_stop};
+
+use bson_scalar::write_error::WriteError;
+use bson_tree::place::Place;
+use json::{Error, Invalid};
+use std::alloc::AllocError;
+
+/// Why a text was not written.
+#[derive(Debug, Drop)]
+pub enum Stop {
+    /// A request for memory was refused.
+    OutOfMemory,
+    /// An object has two equal keys.
+    DuplicateKey,
+    /// The text has a part that is not written as it is read: an object that begins with `$scope`,
+    /// a value that the writer does not write, or keys that need too much memory to be sorted.
+    GaveUp,
+    /// The text is not JSON of at most 127 levels, or a number is out of range.
+    Syntax,
+    /// The text does not mean a value. If the keys of each object ascend, the place is that of the
+    /// first fault.
+    Fault(Box<Place>),
+}
+
+impl From<AllocError> for Stop {
+    ghost use Rattle.std.specs.Prelude.{◌≡◌};
+    ghost use Rattle.bson_text.specs.declared.stop.Stop.TheVariants.{OutOfMemory};
+
+    ghost from_gives = { λ _ e. e ≡ OutOfMemory };
+
+    fn from(_refused: AllocError) -> Stop {
+        Stop::OutOfMemory
+    }
+}
+
+impl From<Invalid> for Stop {
+    ghost use Rattle.std.specs.Prelude.{◌≡◌};
+    ghost use Rattle.bson_text.specs.declared.stop.Stop.TheVariants.{Syntax};
+
+    ghost from_gives = { λ _ e. e ≡ Syntax };
+
+    fn from(_invalid: Invalid) -> Stop {
+        Stop::Syntax
+    }
+}
+
+impl From<Error> for Stop {
+    ghost use Rattle.std.specs.Prelude.{◌≡◌};
+    ghost use Rattle.bson_text.specs.Stops.{stop_of};
+
+    ghost from_gives = { λ a e. e ≡ stop_of a };
+
+    fn from(error: Error) -> Stop {
+        match error {
+            Error::Invalid => Stop::Syntax,
+            _ => Stop::OutOfMemory,
+        }
+    }
+}
+
+// The stop for an error of a scalar's text.
+pub(crate) fn write_error(error: WriteError) -> Stop
+    ensures { result ≡ write_stop error }
+{
+    match error {
+        WriteError::OutOfMemory => Stop::OutOfMemory,
+        WriteError::FiniteDouble => Stop::GaveUp,
+    }
+}

@@ -1,0 +1,400 @@
+//! The traversal of the tokens of a text, which writes each value as it is read.
+ghost use Rattle.std.specs.Prelude.{[], IfErr, IfOk};
+ghost use Rattle.bson_model.specs.Value.{Value as Meaning, Pairs, document};
+ghost use Rattle.bson_model.specs.OrderedTexts.{HasMeaningInOrder};
+ghost use Rattle.bson_text.specs.Exact.{TextDenied};
+ghost use Rattle.bson_text.specs.Placed.{TextPlaced};
+
+use crate::level::Level;
+use crate::lookahead::Lookahead;
+use crate::parts::{Scope, end_object, misplaced, read_scope, read_token, text_of};
+use crate::places::{give_up, in_element, in_member, in_scope, read_scalar, shape_at_value};
+use crate::stop::Stop;
+use crate::writer::ValueWriter;
+use bson_scalar::code::is_code_with_scope;
+use bson_scalar::form::Doubles;
+use bson_scalar::scalar::Scalar;
+use bson_scalar::wrapper::{Wrapper, wrapper_named};
+use bson_tokens::MAX_DEPTH;
+use bson_tokens::held::read_held;
+use bson_tree::shape::{CODE, beside_others};
+use itoa::Buffer;
+use json::{Reader, Scratch, Token};
+use std::alloc::Global;
+
+// A longer text is read with memory of its own, which is freed with its reader.
+const LONG: usize = 1 << 16;
+
+/// Writes the value of the whole text, under no name, and returns the writer. One scratch serves one
+/// text after another; a text of more than 64 KiB is read with a scratch of its own.
+///
+/// # Errors
+///
+/// - `OutOfMemory`: an allocation failed.
+/// - `DuplicateKey`: an object has two equal keys.
+/// - `GaveUp`: an object begins with `$scope`, or the writer cannot write a value of the text.
+/// - `Syntax`: the text is not JSON of at most 127 levels, or a number is out of range.
+/// - `Fault`: the text does not mean a value.
+pub fn write_text<W: ValueWriter + Drop>(
+    alloc: Global,
+    doubles: Doubles,
+    text: &str,
+    scratch: &mut Scratch,
+    out: W,
+) -> Result<W, Stop>
+    ensures ok { IfOk result (λ new. (v : Meaning) × HasMeaningInOrder doubles text.now v × W.wrote out [] v new) }
+    ensures stops { IfErr result (λ e. TextDenied doubles (W.leaves doubles) W.sorts e text.now) }
+    ensures placed { IfErr result (λ e. TextPlaced doubles e text.now) }
+{
+    if text.len() > LONG {
+        return write_long(alloc, doubles, text, out);
+    }
+    write_whole(alloc, doubles, text, scratch, out)
+}
+
+#[inline(never)]
+fn write_long<W: ValueWriter + Drop>(
+    alloc: Global,
+    doubles: Doubles,
+    text: &str,
+    out: W,
+) -> Result<W, Stop>
+    ensures ok { IfOk result (λ new. (v : Meaning) × HasMeaningInOrder doubles text.now v × W.wrote out [] v new) }
+    ensures stops { IfErr result (λ e. TextDenied doubles (W.leaves doubles) W.sorts e text.now) }
+    ensures placed { IfErr result (λ e. TextPlaced doubles e text.now) }
+{
+    let mut scratch = Scratch::new(alloc);
+    write_whole(alloc, doubles, text, &mut scratch, out)
+}
+
+// The same of a text of any length, with this scratch.
+fn write_whole<W: ValueWriter + Drop>(
+    alloc: Global,
+    doubles: Doubles,
+    text: &str,
+    scratch: &mut Scratch,
+    out: W,
+) -> Result<W, Stop>
+    ensures ok { IfOk result (λ new. (v : Meaning) × HasMeaningInOrder doubles text.now v × W.wrote out [] v new) }
+    ensures stops { IfErr result (λ e. TextDenied doubles (W.leaves doubles) W.sorts e text.now) }
+    ensures placed { IfErr result (λ e. TextPlaced doubles e text.now) }
+{
+    let reader = Reader::new(text, scratch)?;
+    let mut traversal = Traversal {
+        reader,
+        keys: Vec::new(alloc),
+        lookahead: Lookahead::new(alloc, text),
+        out,
+    };
+    let level = Level {
+        alloc,
+        doubles,
+        depth: MAX_DEPTH,
+    };
+    traversal.write_value(level, "")?;
+    traversal.finish()
+}
+
+/// Writes the document of the whole text, under no name, and returns the writer.
+///
+/// # Errors
+///
+/// The errors of [`write_text`]. `GaveUp` is also the error if the text is not an object.
+pub fn write_document_text<W: ValueWriter + Drop>(
+    alloc: Global,
+    doubles: Doubles,
+    text: &str,
+    scratch: &mut Scratch,
+    out: W,
+) -> Result<W, Stop>
+    ensures ok { IfOk result (λ new. (ps : Pairs) × HasMeaningInOrder doubles text.now (document ps) × W.framed out ps new) }
+{
+    let mut reader = Reader::new(text, scratch)?;
+    let Some(Token::BeginObject) = reader.next() else {
+        return Err(Stop::GaveUp);
+    };
+    let first = reader.next_key()?;
+    let mut traversal = Traversal {
+        reader,
+        keys: Vec::new(alloc),
+        lookahead: Lookahead::new(alloc, text),
+        out,
+    };
+    let level = Level {
+        alloc,
+        doubles,
+        depth: MAX_DEPTH - 1,
+    };
+    traversal.write_document(level, first, true)?;
+    traversal.finish()
+}
+
+/// The state of a traversal: the tokens that remain, and the writer of the values.
+#[derive(Drop)]
+pub(crate) struct Traversal<'a, W> {
+    reader: Reader<'a>,
+    // The keys of the open objects, those of the outermost first.
+    keys: Vec<&'a str>,
+    lookahead: Lookahead<'a>,
+    out: W,
+}
+
+impl<'a, W: Drop> Traversal<'a, W> {
+    ghost use Rattle.std.specs.Prelude.{◌≡◌, [], IfErr, IfOk};
+    ghost use Rattle.bson_text.specs.declared.stop.Stop.TheVariants.{Syntax};
+
+    // Returns the writer if no token remains.
+    fn finish(self) -> Result<W, Stop>
+        ensures ok { IfOk result (λ out. (self.entry.reader ≡ []) × (out ≡ self.entry.out)) }
+        ensures stops { IfErr result (λ e. (e ≡ Syntax) × (self.entry.reader ≡ [] → ⊥)) }
+    {
+        let Traversal {
+            mut reader,
+            out,
+            ..
+        } = self;
+        if reader.next().is_some() {
+            return Err(Stop::Syntax);
+        }
+        Ok(out)
+    }
+}
+
+impl<'a, W: ValueWriter> Traversal<'a, W> {
+    ghost use Rattle.std.specs.Prelude.{◌≡◌, ◌<◌, ◌≤◌, length, Some, option_map, OnOk, IfErr};
+    ghost use Rattle.json.specs.Json.{value, items};
+    ghost use Rattle.serde_json.specs.Read.{converted};
+    ghost use Rattle.bson_scalar.specs.Table.{wrapper_of};
+    ghost use Rattle.bson_model.specs.Value.{array};
+    ghost use Rattle.bson_model.specs.Kept.{kept, kept_items};
+    ghost use Rattle.bson_text.specs.Walked.{TreeMeans, ItemsMean, ObjectMeans, MembersMean, ScopeMeans};
+    ghost use Rattle.bson_text.specs.Walked.{CodeMeans, kept_object, inside, from_key};
+    ghost use Rattle.bson_text.specs.Placed.{ValueStops, ItemsStop, ObjectStops, MembersStop, CodeStops, ScopeStops};
+
+    // Writes the next value under the name. It has at most as many levels as the level says.
+    #[cycle(values)]
+    fn write_value(&mut self, level: Level, name: &str) -> Result<(), Stop>
+        ensures ok { OnOk result (TreeMeans level.doubles (converted kept (value level.depth self.old.reader)) self.new.reader
+            (λ v. W.wrote self.old.out name.now v self.new.out)) }
+        ensures keys { OnOk result (self.new.keys.items ≡ self.old.keys.items) }
+        ensures shorter { OnOk result (length self.new.reader < length self.old.reader) }
+        ensures fails { IfErr result (λ e. ValueStops level.doubles (W.leaves level.doubles) W.sorts e
+            (value level.depth self.old.reader) self.new.reader) }
+    {
+        let token = self.reader.next().ok_or(Stop::Syntax)?;
+        match token {
+            Token::String(text) => self.out.string(name, text),
+            Token::Number(text) => {
+                self.out
+                    .scalar(name, read_token(level.alloc, level.doubles, text)?)
+            }
+            Token::Bool(truth) => self.out.boolean(name, truth),
+            Token::Null => self.out.null(name),
+            Token::EndObject | Token::EndArray | Token::Key(_) | Token::Bad => Err(Stop::Syntax),
+            Token::BeginArray => {
+                if level.depth == 0 {
+                    return Err(Stop::Syntax);
+                }
+                let depth = level.depth - 1;
+                self.write_array(Level { depth, ..level }, name)
+            }
+            Token::BeginObject => {
+                if level.depth == 0 {
+                    return Err(Stop::Syntax);
+                }
+                let depth = level.depth - 1;
+                self.write_object(Level { depth, ..level }, name)
+            }
+        }
+    }
+
+    // Writes the array whose bracket was read.
+    #[cycle(values)]
+    fn write_array(&mut self, level: Level, name: &str) -> Result<(), Stop>
+        ensures ok { OnOk result (ItemsMean level.doubles
+            (converted kept_items (items (value level.depth) (length self.old.reader) self.old.reader)) self.new.reader
+            (λ vs. W.wrote self.old.out name.now (array vs) self.new.out)) }
+        ensures keys { OnOk result (self.new.keys.items ≡ self.old.keys.items) }
+        ensures shorter { OnOk result (length self.new.reader < length self.old.reader) }
+        ensures fails { IfErr result (λ e. ItemsStop level.doubles (W.leaves level.doubles) W.sorts e
+            (items (value level.depth) (length self.old.reader) self.old.reader) self.new.reader) }
+    {
+        let begun = self.out.begin_array(name)?;
+        let mut place: usize = 0;
+        'items: while !self.reader.take_end_array() {
+            let mut buffer = Buffer::new();
+            let name = W::item_name(&mut buffer, place);
+            match self.write_value(level, name) {
+                Ok(()) => {}
+                Err(stop) => return Err(in_element(&mut self.reader, level.depth, place, stop)),
+            }
+            place = place.checked_add(1).ok_or(Stop::OutOfMemory)?;
+        }
+        self.out.end_array(begun)
+    }
+
+    // Writes the object whose brace was read.
+    #[cycle(values)]
+    fn write_object(&mut self, level: Level, name: &str) -> Result<(), Stop>
+        ensures ok { OnOk result (ObjectMeans level.doubles (kept_object (inside level.depth self.old.reader)) self.new.reader
+            (λ v. W.wrote self.old.out name.now v self.new.out)) }
+        ensures keys { OnOk result (self.new.keys.items ≡ self.old.keys.items) }
+        ensures shorter { OnOk result (length self.new.reader < length self.old.reader) }
+        ensures fails { IfErr result (λ e. ObjectStops level.doubles (W.leaves level.doubles) W.sorts e
+            (inside level.depth self.old.reader) self.new.reader) }
+    {
+        let first = self.reader.next_key()?;
+        if let Some(code) = self
+            .lookahead
+            .code_after_scope(first, self.reader.offset())?
+        {
+            let written = self.write_code(level, &code, true, name);
+            return match written {
+                Ok(()) => Ok(()),
+                Err(stop) => Err(give_up(stop)),
+            };
+        }
+        if let Some(key) = first {
+            if let Some(wrapper) = wrapper_named(key) {
+                return self.write_wrapper(level, wrapper, key, name);
+            }
+        }
+        self.out.embed(name)?;
+        self.write_document(level, first, true)
+    }
+
+    // Writes the document of an object from its first key on, which was read, or an empty document.
+    // No key is a duplicate. A key of a document is not a wrapper key, and a key of a scope may be one.
+    #[cycle(values)]
+    fn write_document(
+        &mut self,
+        level: Level,
+        first: Option<&'a str>,
+        is_document: bool,
+    ) -> Result<(), Stop>
+        ensures ok { OnOk result (MembersMean level.doubles is_document
+            (kept_object (from_key level.depth (option_map (λ k. k.now) first.entry) self.old.reader)) self.new.reader
+            (λ ps. W.framed self.old.out ps self.new.out)) }
+        ensures keys { OnOk result (self.new.keys.items ≡ self.old.keys.items) }
+        ensures shorter { OnOk result (length self.new.reader ≤ length self.old.reader) }
+        ensures fails { IfErr result (λ e. MembersStop level.doubles (W.leaves level.doubles) W.sorts e is_document
+            (from_key level.depth (option_map (λ k. k.now) first.entry) self.old.reader) self.new.reader) }
+    {
+        let held = self.keys.len();
+        let begun = self.out.begin()?;
+        let mut next = first;
+        'members: while let Some(key) = next {
+            if let Some(wrapper) = misplaced(is_document, key) {
+                return Err(shape_at_value(level, &mut self.reader, beside_others(wrapper)));
+            }
+            let Ok(()) = self.keys.push(key) else {
+                return Err(Stop::OutOfMemory);
+            };
+            self.out.key(key)?;
+            match self.write_value(level, key) {
+                Ok(()) => {}
+                Err(stop) => {
+                    return Err(in_member(level, &mut self.reader, is_document, key, stop));
+                }
+            }
+            next = self.reader.next_key()?;
+        }
+        self.out.end(begun, &mut self.keys.as_mut_slice()[held..])?;
+        self.keys.truncate(held);
+        Ok(())
+    }
+
+    // Writes the wrapper whose key was read: a wrapper of that key alone, or code before its scope.
+    #[cycle(values)]
+    #[inline(never)]
+    fn write_wrapper(
+        &mut self,
+        level: Level,
+        wrapper: Wrapper,
+        key: &str,
+        name: &str,
+    ) -> Result<(), Stop>
+        requires { wrapper_of key.now ≡ Some wrapper }
+        ensures ok { OnOk result (ObjectMeans level.doubles (kept_object (from_key level.depth (Some key.now) self.old.reader))
+            self.new.reader (λ v. W.wrote self.old.out name.now v self.new.out)) }
+        ensures keys { OnOk result (self.new.keys.items ≡ self.old.keys.items) }
+        ensures shorter { OnOk result (length self.new.reader < length self.old.reader) }
+        ensures fails { IfErr result (λ e. ObjectStops level.doubles (W.leaves level.doubles) W.sorts e
+            (from_key level.depth (Some key.now) self.old.reader) self.new.reader) }
+    {
+        let held = read_held(level.alloc, &mut self.reader, level.depth)?;
+        let Some(other) = self.reader.next_key()? else {
+            let value = read_scalar(level, wrapper, held, key)?;
+            return self.out.scalar(name, value);
+        };
+        if !is_code_with_scope(key, other) {
+            return Err(shape_at_value(level, &mut self.reader, beside_others(wrapper)));
+        }
+        let Ok(code) = text_of(held) else {
+            return Err(shape_at_value(level, &mut self.reader, CODE));
+        };
+        self.write_code(level, &code, false, name)
+    }
+
+    // Writes code from its scope's value on, to the end of their object. Code after its scope must be
+    // this.
+    #[cycle(values)]
+    #[inline(never)]
+    fn write_code(
+        &mut self,
+        level: Level,
+        code: &str,
+        is_reversed: bool,
+        name: &str,
+    ) -> Result<(), Stop>
+        ensures ok { OnOk result (CodeMeans level.doubles level.depth code.now is_reversed self.old.reader self.new.reader
+            (λ v. W.wrote self.old.out name.now v self.new.out)) }
+        ensures keys { OnOk result (self.new.keys.items ≡ self.old.keys.items) }
+        ensures shorter { OnOk result (length self.new.reader < length self.old.reader) }
+        ensures fails { IfErr result (λ e. CodeStops level.doubles (W.leaves level.doubles) W.sorts e is_reversed
+            level.depth self.old.reader self.new.reader) }
+    {
+        let scope = read_scope(level, &mut self.reader)?;
+        match scope {
+            Scope::Null => {
+                end_object(level, &mut self.reader, code, is_reversed)?;
+                let code = String::from_str(level.alloc, code)?;
+                self.out.scalar(name, Scalar::JavaScriptCode(code))
+            }
+            Scope::Object => {
+                let begun = self.out.begin_code(name, code)?;
+                match self.write_scope(level) {
+                    Ok(()) => {}
+                    Err(stop) => return Err(in_scope(level, &mut self.reader, stop)),
+                }
+                end_object(level, &mut self.reader, code, is_reversed)?;
+                self.out.end_code(begun)
+            }
+        }
+    }
+
+    // Writes the document of the scope whose brace was read.
+    #[cycle(values)]
+    fn write_scope(&mut self, level: Level) -> Result<(), Stop>
+        ensures ok { OnOk result (ScopeMeans level.doubles level.depth self.old.reader self.new.reader
+            (λ ps. W.framed self.old.out ps self.new.out)) }
+        ensures keys { OnOk result (self.new.keys.items ≡ self.old.keys.items) }
+        ensures shorter { OnOk result (length self.new.reader < length self.old.reader) }
+        ensures fails { IfErr result (λ e. ScopeStops level.doubles (W.leaves level.doubles) W.sorts e level.depth
+            self.old.reader self.new.reader) }
+    {
+        if level.depth == 0 {
+            return Err(Stop::Syntax);
+        }
+        let first = self.reader.next_key()?;
+        let inner = level.depth - 1;
+        self.write_document(
+            Level {
+                depth: inner,
+                ..level
+            },
+            first,
+            false,
+        )
+    }
+}

@@ -1,0 +1,38 @@
+use Rattle.std.proofs.Common.{◌≡◌, ◌+◌, ◌*◌, List, [], length}
+use Rattle.bson_tokens.specs.Normalizing.{Entry, elements, inside, ranged_items, ranged_members, sound}
+use Rattle.bson_tokens.proofs.Standing.{Grown}
+use Rattle.bson_tokens.proofs.Writing.{found, whole}
+use Rattle.bson_tokens.proofs.normalize.+write.Given as goal
+
+abbrev pub decreases-write_value : goal.decreases-write_value
+decreases-write_value l = 2 * l.depth
+
+abbrev pub decreases-write_items : goal.decreases-write_items
+decreases-write_items l = 2 * l.depth + 1
+
+abbrev pub decreases-write_members : goal.decreases-write_members
+decreases-write_members l = 2 * l.depth + 1
+
+-- what is left, written behind what was written, is the whole
+abbrev pub invariant-write_items-items : goal.invariant-write_items-items
+invariant-write_items-items l = record {
+  arrangement : l.out.arrangement ≡ l.initial.out.arrangement;
+  whole : whole l.initial.out (sound ranged_items (elements l.depth l.initial.reader))
+      ≡ whole l.out (sound ranged_items (elements l.depth l.reader));
+}
+
+abbrev pub decreases-write_items-items : goal.decreases-write_items-items
+decreases-write_items-items l = length l.reader
+
+-- the members so far stand behind the start, and what is left, put to them, is the whole
+abbrev pub invariant-write_members-members : goal.invariant-write_members-members
+invariant-write_members-members l = record {
+  arrangement : l.out.arrangement ≡ l.initial.out.arrangement;
+  entries : List Entry;
+  grown : Grown l.initial.out.text.items l.out.text.items l.out.behind l.spans.items entries;
+  found : found l.out.arrangement [] (sound ranged_members (inside l.depth l.initial.reader))
+      ≡ found l.out.arrangement entries (sound ranged_members (inside l.depth l.reader));
+}
+
+abbrev pub decreases-write_members-members : goal.decreases-write_members-members
+decreases-write_members-members l = length l.reader

@@ -1,0 +1,76 @@
+-- The same tree with each key once in its object, at its first place or by ascending key. Keys are compared by their
+-- unescaped bytes.
+use Rattle.std.specs.Prelude.{◌≡◌, ℕ, List, Some, if◌then◌else◌}
+use Rattle.std.specs.Cmp.Lexicographic.{slice_cmp}
+use Rattle.std.specs.Ordering.{match_ordering, nat_cmp}
+use Rattle.std.specs.Str.{bytes_eq}
+use Rattle.json.specs.Json.{Json, null, boolean, number, string, array, object, Items, no_items, item, Members}
+use Rattle.json.specs.Json.{no_members, member}
+use Rattle.json.specs.Print.{print}
+use Rattle.json.specs.Tree.{json_tokens}
+use Rattle.serde_json.specs.Data.{Num}
+use Rattle.serde_json.specs.Read.{number_of}
+use Rattle.bson_tokens.specs.Double.{json_of}
+use Rattle.bson_tokens.specs.declared.arrangement.Arrangement.{Arrangement}
+use Rattle.bson_tokens.specs.declared.arrangement.Arrangement.TheVariants.{FirstPlaces, Ascending}
+
+-- the members with j at k: at k's place where k is there, else last
+abbrev pub put_first : List ℕ → Json → Members → Members
+put_first k j no_members = member k j no_members
+put_first k j (member l i ms) = if bytes_eq k l then member l j ms else member l i (put_first k j ms)
+
+-- the members with j at k, by ascending key
+abbrev pub put_ascending : List ℕ → Json → Members → Members
+put_ascending k j no_members = member k j no_members
+put_ascending k j (member l i ms) =
+    match_ordering (slice_cmp nat_cmp k l) (member k j (member l i ms)) (member l j ms)
+    (member l i (put_ascending k j ms))
+
+abbrev pub put_by : Arrangement → List ℕ → Json → Members → Members
+put_by FirstPlaces = put_first
+put_by Ascending = put_ascending
+
+-- the tree with each key once in its object: its members go in one after another, so that the last value of a key stays
+abbrev mutual
+  pub normalized : Arrangement → Json → Json
+  normalized a null = null
+  normalized a (boolean b) = boolean b
+  normalized a (number s) = number s
+  normalized a (string s) = string s
+  normalized a (array js) = array (normalized_items a js)
+  normalized a (object ms) = object (normalized_members a ms no_members)
+
+  pub normalized_items : Arrangement → Items → Items
+  normalized_items a no_items = no_items
+  normalized_items a (item j js) = item (normalized a j) (normalized_items a js)
+
+  -- members that stand behind those found, which are normalized
+  pub normalized_members : Arrangement → Members → Members → Members
+  normalized_members a no_members found = found
+  normalized_members a (member k j ms) found = normalized_members a ms (put_by a k (normalized a j) found)
+
+abbrev mutual
+  -- each number is in the range of its Rust type: an integer of 64 bits, or a finite double
+  pub HasNumbers : Json → Type 0
+  HasNumbers null = Unit {0}
+  HasNumbers (boolean b) = Unit {0}
+  HasNumbers (number s) = (n : Num) × (number_of s ≡ Some n)
+  HasNumbers (string s) = Unit {0}
+  HasNumbers (array js) = ItemsHaveNumbers js
+  HasNumbers (object ms) = MembersHaveNumbers ms
+
+  pub ItemsHaveNumbers : Items → Type 0
+  ItemsHaveNumbers no_items = Unit {0}
+  ItemsHaveNumbers (item j js) = HasNumbers j × ItemsHaveNumbers js
+
+  pub MembersHaveNumbers : Members → Type 0
+  MembersHaveNumbers no_members = Unit {0}
+  MembersHaveNumbers (member k j ms) = HasNumbers j × MembersHaveNumbers ms
+
+-- the compact text of the normalized tree of a text, each number of which is in range; it is read as that tree
+pub record IsNormalizedText (a : Arrangement) (text written : List ℕ) : Type 0 where
+  pub tree : Json
+  pub is_tree : json_of text ≡ Some tree
+  pub numbers : HasNumbers tree
+  pub compact : written ≡ print (json_tokens (normalized a tree))
+  pub read_again : json_of written ≡ Some (normalized a tree)

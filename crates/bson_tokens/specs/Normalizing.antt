@@ -1,0 +1,214 @@
+-- What was written of what was read, each object normalized. For private clauses.
+use Rattle.std.specs.Prelude.{◌≡◌, ◌≢◌, ◌⊎◌, ◌<◌, ◌≤◌, ◌-◌, ◌&&◌, ℕ, List, [], ◌∷◌, ◌++◌, length, map, slice_index_or, slice_range}
+use Rattle.std.specs.Prelude.{Bool, true, false, is_some, Option, Some, None, MatchOption, if◌then◌else◌, Vec}
+use Rattle.std.specs.declared.alloc.Global.{Global}
+use Rattle.std.specs.Cmp.Lexicographic.{slice_cmp}
+use Rattle.std.specs.List.{All}
+use Rattle.std.specs.List.Sorted as Sorted
+use Rattle.std.specs.List.Sorted.{IsPermutation}
+use Rattle.std.specs.Ordering.{is_lt, nat_cmp, ordering_then}
+use Rattle.std.specs.declared.cmp.Ordering.{Ordering}
+use Rattle.json.specs.Json.{Json, null, boolean, number, string, array, object, Items, no_items, item}
+use Rattle.json.specs.Json.{Members, no_members, member, Parse, items, members, value}
+use Rattle.json.specs.Print.{print, quoted}
+use Rattle.json.specs.Strict.{AreDistinct}
+use Rattle.json.specs.Token.{Token}
+use Rattle.json.specs.Tree.{json_tokens}
+use Rattle.serde_json.specs.Read.{number_of}
+use Rattle.serde_json.specs.Written.{comma_if}
+use Rattle.bson_tokens.specs.PutSpans.{members_of, merged, put_each_by, KeysAscendAfter, Rise}
+use Rattle.bson_tokens.specs.declared.arrangement.Arrangement.{Arrangement}
+use Rattle.bson_tokens.specs.declared.arrangement.Arrangement.TheVariants.{FirstPlaces, Ascending}
+use Rattle.bson_tokens.specs.declared.normalizer.Normalizer.{Normalizer}
+use Rattle.bson_tokens.specs.declared.order.MemberSpan.{MemberSpan}
+
+-- the elements of an array to its end, and the members of an object to its end
+abbrev pub elements : ℕ → Parse Items
+elements depth ts = items (value depth) (length ts) ts
+
+abbrev pub inside : ℕ → Parse Members
+inside depth ts = members (value depth) (length ts) ts
+
+-- ---- numbers
+
+abbrev pub in_range : List ℕ → Bool
+in_range s = is_some (number_of s)
+
+-- each number is in range
+abbrev mutual
+  pub ranged : Json → Bool
+  ranged null = true
+  ranged (boolean b) = true
+  ranged (number s) = in_range s
+  ranged (string s) = true
+  ranged (array js) = ranged_items js
+  ranged (object ms) = ranged_members ms
+
+  pub ranged_items : Items → Bool
+  ranged_items no_items = true
+  ranged_items (item j js) = ranged j && ranged_items js
+
+  pub ranged_members : Members → Bool
+  ranged_members no_members = true
+  ranged_members (member k j ms) = ranged j && ranged_members ms
+
+-- what was read, where it passes
+abbrev pub sound : {A : Type 0} → (A → Bool) → Option (A × List Token) → Option (A × List Token)
+sound f None = None
+sound f (Some p) = if f p.0 then Some p else None
+
+-- ---- the text
+
+-- this text comes after the old one, behind which a value stands or not
+pub record Closed (old : Normalizer) (s : List ℕ) (after : Bool) (new : Normalizer) : Type 0 where
+  pub arrangement : new.arrangement ≡ old.arrangement
+  pub behind : new.behind ≡ after
+  pub text : new.text.items ≡ old.text.items ++ s
+
+-- the same with a comma where one is due
+abbrev pub Added : Normalizer → List ℕ → Bool → Normalizer → Type 0
+Added old s behind new = Closed old (comma_if old.behind ++ s) behind new
+
+abbrev pub ValueAdded : Normalizer → Json → Normalizer → Type 0
+ValueAdded old j new = Added old (print (json_tokens j)) true new
+
+-- something was read, of which these tokens are left, and the value that it gives comes next
+abbrev pub Passes : {A : Type 0} → Option (A × List Token) → (A → Json) → List Token → Normalizer → Normalizer → Type 0
+Passes {A} read given rest old new = (a : A) × (read ≡ Some (a, rest)) × ValueAdded old (given a) new
+
+-- an object was begun, whose members start here
+abbrev pub IsBegun : Normalizer → ℕ → Normalizer → Type 0
+IsBegun old start new = (start ≡ length new.text.items) × Added old (123 ∷ []) false new
+
+-- a member was begun, whose text starts here in its object
+abbrev pub MemberBegun : Normalizer → ℕ → List ℕ → ℕ → Normalizer → Type 0
+MemberBegun old start k place new = (place ≡ length (old.text.items ++ comma_if old.behind) - start)
+    × Added old (quoted k ++ 58 ∷ []) false new
+
+-- ---- the members of an object
+
+-- a key with its value
+abbrev pub Entry : Type 0
+Entry = List ℕ × Json
+
+abbrev pub json_entry_key : Entry → List ℕ
+json_entry_key e = e.0
+
+abbrev pub json_entry_value : Entry → Json
+json_entry_value e = e.1
+
+abbrev pub entry_members : List Entry → Members
+entry_members = members_of json_entry_key json_entry_value
+
+abbrev pub put_json_entries : Arrangement → List Entry → Members
+put_json_entries a es = put_each_by json_entry_key json_entry_value a es no_members
+
+abbrev pub member_text : Entry → List ℕ
+member_text e = quoted e.0 ++ 58 ∷ print (json_tokens e.1)
+
+-- the texts with commas between them
+abbrev pub spelled : Bool → List Entry → List ℕ
+spelled behind [] = []
+spelled behind (e ∷ es) = comma_if behind ++ (member_text e ++ spelled true es)
+
+-- ---- their pieces
+
+-- the values of pieces, by where their texts begin
+abbrev pub MemberSpanValues : Type 0
+MemberSpanValues = ℕ → Json
+
+abbrev pub member_span_key : MemberSpan → List ℕ
+member_span_key p = p.key.now
+
+abbrev pub span_place : MemberSpan → ℕ
+span_place p = p.place
+
+abbrev pub span_value : MemberSpanValues → MemberSpan → Json
+span_value values p = values p.start
+
+abbrev pub member_span_text : List ℕ → MemberSpan → List ℕ
+member_span_text body p = slice_range body p.start p.end
+
+-- the place of the one with the text of the other
+abbrev pub merge : MemberSpan → MemberSpan → MemberSpan
+merge p q = record { key = p.key; place = p.place; start = q.start; end = q.end }
+
+abbrev pub entry_at : MemberSpanValues → MemberSpan → Entry
+entry_at values p = (member_span_key p, values p.start)
+
+abbrev pub IsMemberSpanWithin : List ℕ → MemberSpan → Type 0
+IsMemberSpanWithin body p = (p.start < p.end) × (p.end ≤ length body)
+
+abbrev pub IsSpan : List ℕ → MemberSpanValues → MemberSpan → Type 0
+IsSpan body values p = IsMemberSpanWithin body p × (member_span_text body p ≡ member_text (entry_at values p))
+
+-- something stands before
+abbrev pub some_stand : List Entry → Bool
+some_stand [] = false
+some_stand (e ∷ es) = true
+
+-- the pieces are the texts of these entries, one behind the other
+pub record Stand (body : List ℕ) (ps : List MemberSpan) (es : List Entry) : Type 0 where
+  pub values : MemberSpanValues
+  pub spelled_is : body ≡ spelled false es
+  pub entries : map (entry_at values) ps ≡ es
+  pub all : All (IsSpan body values) ps
+  pub rise : Rise span_place 0 ps
+  pub below : All (λ p. p.place < length body) ps
+
+-- the pieces of other entries stand in the place of those of the first, normalized
+abbrev pub StandNormalized : Arrangement → List Entry → List ℕ → List MemberSpan → Type 0
+StandNormalized a es body ps = (fs : List Entry) × Stand body ps fs × (entry_members fs ≡ put_json_entries a es)
+
+-- the pieces are normalized as they stand, or this text is where they stand
+abbrev pub SpansNormalized : Arrangement → List ℕ → List MemberSpan → List MemberSpan → Option (Vec ℕ Global) → Type 0
+SpansNormalized a body old new text = (es : List Entry) → Stand body old es
+    → MatchOption text (StandNormalized a es body new) (λ t. StandNormalized a es t.items new)
+
+-- the pieces are normalized behind where they start
+abbrev pub IsSettled : Normalizer → ℕ → List MemberSpan → List MemberSpan → Normalizer → Type 0
+IsSettled w start old new later = (later.arrangement ≡ w.arrangement) × (later.behind ≡ w.behind)
+    × ((front body : List ℕ) (es : List Entry) → w.text.items ≡ front ++ body → start ≡ length front
+    → Stand body old es
+    → (t : List ℕ) × (later.text.items ≡ front ++ t) × StandNormalized w.arrangement es t new)
+
+-- the same before the object ends: what they are put as stays
+abbrev pub IsSettledEarly : Normalizer → ℕ → List MemberSpan → List MemberSpan → Normalizer → Type 0
+IsSettledEarly w start old new later = (later.arrangement ≡ w.arrangement) × (later.behind ≡ w.behind)
+    × ((front body : List ℕ) (es : List Entry) → w.text.items ≡ front ++ body → start ≡ length front
+    → Stand body old es
+    → (t : List ℕ) × (fs : List Entry) × (later.text.items ≡ front ++ t) × Stand t new fs
+    × (put_json_entries w.arrangement fs ≡ put_json_entries w.arrangement es) × (some_stand fs ≡ some_stand es))
+
+-- the texts of the pieces stand one behind the other
+abbrev pub IsJoined : List ℕ → List MemberSpan → List MemberSpan → List ℕ → Type 0
+IsJoined body old new text = (values : MemberSpanValues) → All (IsSpan body values) old
+    → Stand text new (map (entry_at values) old)
+
+-- ---- their order
+
+-- the keys stand in their order, each once
+abbrev pub StandInOrder : Arrangement → List (List ℕ) → Type 0
+StandInOrder a ks = KeysAscendAfter None ks ⊎ ((a ≡ FirstPlaces) × AreDistinct ks)
+
+-- no piece before this one has its key
+abbrev pub DifferAt : List MemberSpan → ℕ → Type 0
+DifferAt ps at = (i : ℕ) (d : MemberSpan) → i < at
+    → member_span_key (slice_index_or ps i d) ≢ member_span_key (slice_index_or ps at d)
+
+-- pieces by ascending key, where they are to stand
+abbrev pub ArePlaced : Arrangement → List MemberSpan → List MemberSpan → Type 0
+ArePlaced FirstPlaces ms zs = IsPermutation ms zs × Sorted.IsSortedByKey span_place nat_cmp zs
+ArePlaced Ascending ms zs = zs ≡ ms
+
+-- by key, and those of one key by place
+abbrev pub key_and_place_cmp : MemberSpan → MemberSpan → Ordering
+key_and_place_cmp p q =
+    ordering_then (slice_cmp nat_cmp (member_span_key p) (member_span_key q)) (nat_cmp (span_place p) (span_place q))
+
+-- each key once: in that order, of those of one key the place of the first and the text of the last
+pub record AreOrdered (a : Arrangement) (xs zs : List MemberSpan) : Type 0 where
+  pub ys : List MemberSpan
+  pub same : IsPermutation xs ys
+  pub sorted : Sorted.IsSortedBy (λ p q. is_lt (key_and_place_cmp p q)) ys
+  pub placed : ArePlaced a (merged member_span_key merge ys) zs

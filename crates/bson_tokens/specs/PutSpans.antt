@@ -1,0 +1,53 @@
+-- What has a key, a place and a value each, as the members of an object that it is put as. For private clauses.
+use Rattle.std.specs.Prelude.{◌≡◌, ◌≤◌, ◌+◌, ℕ, List, [], ◌∷◌, if◌then◌else◌, Option, Some, None}
+use Rattle.std.specs.Cmp.Lexicographic.{slice_cmp}
+use Rattle.std.specs.Ordering.{nat_cmp}
+use Rattle.std.specs.Str.{bytes_eq}
+use Rattle.std.specs.declared.cmp.Ordering.TheVariants.{Less}
+use Rattle.json.specs.Json.{Json, Members, no_members, member}
+use Rattle.bson_tokens.specs.Normalized.{put_by}
+use Rattle.bson_tokens.specs.declared.arrangement.Arrangement.{Arrangement}
+
+-- ---- keys
+
+-- the key is greater than the last one, by bytes
+abbrev pub Follows : Option (List ℕ) → List ℕ → Type 0
+Follows None k = Unit {0}
+Follows (Some l) k = slice_cmp nat_cmp l k ≡ Less
+
+-- each key is greater than the one before it
+abbrev pub KeysAscendAfter : Option (List ℕ) → List (List ℕ) → Type 0
+KeysAscendAfter last [] = Unit {0}
+KeysAscendAfter last (k ∷ ks) = Follows last k × KeysAscendAfter (Some k) ks
+
+-- ---- places
+
+module _ {M : Type 0} (place_of : M → ℕ) where
+  -- each stands behind the one before it, the first at the lowest place or behind it
+  abbrev pub Rise : ℕ → List M → Type 0
+  Rise lowest [] = Unit {0}
+  Rise lowest (m ∷ ms) = (lowest ≤ place_of m) × Rise (place_of m + 1) ms
+
+-- ---- members
+
+module _ {M : Type 0} (key_of : M → List ℕ) where
+  module _ (value_of : M → Json) where
+    abbrev pub members_of : List M → Members
+    members_of [] = no_members
+    members_of (m ∷ ms) = member (key_of m) (value_of m) (members_of ms)
+
+    -- the members after each in turn is put to them
+    abbrev pub put_each_by : Arrangement → List M → Members → Members
+    put_each_by a [] found = found
+    put_each_by a (m ∷ ms) found = put_each_by a ms (put_by a (key_of m) (value_of m) found)
+
+  -- those of one key that stand side by side, one merged with the next
+  module _ (merge : M → M → M) where
+    abbrev pub merged_from : M → List M → List M
+    merged_from m [] = m ∷ []
+    merged_from m (n ∷ ns) =
+        if bytes_eq (key_of n) (key_of m) then merged_from (merge m n) ns else m ∷ merged_from n ns
+
+    abbrev pub merged : List M → List M
+    merged [] = []
+    merged (m ∷ ms) = merged_from m ms

@@ -1,0 +1,176 @@
+//! The text that is written, token by token, and where the members of an object stand in it.
+ghost use Rattle.std.specs.Prelude.{◌≡◌, ◌≤◌, ◌-◌, ◌++◌, ◌∷◌, [], drop, false, length, true, IfErr, IfOk, OnOk};
+ghost use Rattle.std.specs.Prelude.{string_bytes};
+ghost use Rattle.std.specs.List.{All};
+ghost use Rattle.json.specs.Print.{print, IsPrintable};
+ghost use Rattle.json.specs.Reads.{token_of};
+ghost use Rattle.serde_json.specs.Written.{comma_if};
+ghost use Rattle.json.specs.declared.error.Error.TheVariants.{OutOfMemory};
+ghost use Rattle.bson_tokens.specs.Normalizing.{Added, Closed, IsBegun, IsSettled, IsSettledEarly, IsMemberSpanWithin, MemberBegun};
+
+use crate::arrangement::Arrangement;
+use crate::order::{MemberSpan, normalize_spans};
+use json::{Error, Token, Writer};
+use std::alloc::{AllocError, Global};
+use std::mem::replace;
+
+// So many members of an open object are normalized before its end, and again wherever they are twice
+// as many.
+pub(crate) const EARLY: usize = 1_000;
+
+// The text so far. The members of an open object stand in it as they came.
+#[derive(Drop)]
+pub(crate) struct Normalizer {
+    pub(crate) alloc: Global,
+    pub(crate) arrangement: Arrangement,
+    pub(crate) text: Vec<u8>,
+    // Room for the writer of a token, since one that stands in a long text takes much room ahead.
+    pub(crate) part: Vec<u8>,
+    // A value stands before what comes next.
+    pub(crate) behind: bool,
+}
+
+// The text as a string.
+pub(crate) fn into_text(text: Vec<u8>) -> Result<String, Error>
+    ensures bytes { IfOk result (λ written. string_bytes written ≡ text.items) }
+    ensures refused { IfErr result (λ e. e ≡ OutOfMemory) }
+{
+    match String::from_utf8(text) {
+        Ok(text) => Ok(text),
+        Err(_) => Err(Error::OutOfMemory),
+    }
+}
+
+impl Normalizer {
+    pub(crate) fn new(
+        alloc: Global,
+        arrangement: Arrangement,
+        room: usize,
+    ) -> Result<Normalizer, AllocError>
+        ensures arrangement { IfOk result (λ out. out.arrangement ≡ arrangement) }
+        ensures empty { IfOk result (λ out. out.text.items ≡ []) }
+        ensures first { IfOk result (λ out. out.behind ≡ false) }
+    {
+        Ok(Normalizer {
+            alloc,
+            arrangement,
+            text: Vec::with_capacity(alloc, room)?,
+            part: Vec::new(alloc),
+            behind: false,
+        })
+    }
+
+    // Adds the comma that is due.
+    fn add_comma(&mut self) -> Result<(), AllocError>
+        ensures { OnOk result (Closed self.old (comma_if self.old.behind) self.old.behind self.new) }
+    {
+        if self.behind {
+            self.text.push(b',')?;
+        }
+        Ok(())
+    }
+
+    // Adds a token, behind which a value stands or not.
+    fn add(&mut self, token: Token<'_>, behind: bool) -> Result<(), AllocError>
+        requires { IsPrintable (token_of token) }
+        ensures { OnOk result (Closed self.old (print (token_of token.entry ∷ [])) behind self.new) }
+    {
+        let mut room = replace(&mut self.part, Vec::new(self.alloc));
+        room.clear();
+        let mut part = Writer::new(room);
+        part.token(token)?;
+        self.part = part.into_inner();
+        self.text.extend_from_slice(&self.part)?;
+        self.behind = behind;
+        Ok(())
+    }
+
+    // Adds a value of one token.
+    pub(crate) fn scalar(&mut self, token: Token<'_>) -> Result<(), AllocError>
+        requires { IsPrintable (token_of token) }
+        ensures { OnOk result (Added self.old (print (token_of token.entry ∷ [])) true self.new) }
+    {
+        self.add_comma()?;
+        self.add(token, true)
+    }
+
+    // Opens an array or an object.
+    pub(crate) fn open(&mut self, byte: u8) -> Result<(), AllocError>
+        ensures { OnOk result (Added self.old (byte ∷ []) false self.new) }
+    {
+        self.add_comma()?;
+        self.text.push(byte)?;
+        self.behind = false;
+        Ok(())
+    }
+
+    // Closes it.
+    pub(crate) fn close(&mut self, byte: u8) -> Result<(), AllocError>
+        ensures { OnOk result (Closed self.old (byte ∷ []) true self.new) }
+    {
+        self.text.push(byte)?;
+        self.behind = true;
+        Ok(())
+    }
+
+    // Opens an object, and answers where its members begin.
+    pub(crate) fn begin_object(&mut self) -> Result<usize, AllocError>
+        ensures { IfOk result (λ start. IsBegun self.old start self.new) }
+    {
+        self.open(b'{')?;
+        Ok(self.text.len())
+    }
+
+    // How far behind the start of its object the text ends.
+    pub(crate) fn place(&self, start: usize) -> usize
+        ensures { result ≡ length self.now.text.items - start }
+    {
+        self.text.len().saturating_sub(start)
+    }
+
+    // Adds the key of a member, and answers where in its object the member begins.
+    pub(crate) fn begin_member(&mut self, start: usize, key: &str) -> Result<usize, AllocError>
+        ensures { IfOk result (λ place. MemberBegun self.old start key.now place self.new) }
+    {
+        self.add_comma()?;
+        let place = self.place(start);
+        self.add(Token::Key(key), false)?;
+        Ok(place)
+    }
+
+    // Normalizes the members of an open object.
+    pub(crate) fn settle(
+        &mut self,
+        start: usize,
+        spans: &mut Vec<MemberSpan<'_>>,
+    ) -> Result<(), AllocError>
+        requires inside { start ≤ length self.old.text.items }
+        requires within { All (IsMemberSpanWithin (drop start self.old.text.items)) spans.old.items }
+        ensures { OnOk result (IsSettled self.old start spans.old.items spans.new.items self.new) }
+    {
+        let body = &self.text[start..];
+        if let Some(normalized) = normalize_spans(self.alloc, self.arrangement, spans, body)? {
+            self.text.truncate(start);
+            self.text.extend_from_slice(&normalized)?;
+        }
+        Ok(())
+    }
+
+    // Normalizes them where there are as many as this, and answers how many there may be then.
+    pub(crate) fn settle_early(
+        &mut self,
+        start: usize,
+        spans: &mut Vec<MemberSpan<'_>>,
+        most: usize,
+    ) -> Result<usize, AllocError>
+        requires inside { start ≤ length self.old.text.items }
+        requires within { All (IsMemberSpanWithin (drop start self.old.text.items)) spans.old.items }
+        ensures { OnOk result (IsSettledEarly self.old start spans.old.items spans.new.items self.new) }
+    {
+        if spans.len() < most {
+            return Ok(most);
+        }
+        self.settle(start, spans)?;
+        Ok(spans.len().saturating_mul(2).max(EARLY))
+    }
+}

@@ -1,0 +1,234 @@
+//! The texts of an object's members, put in order with each key once.
+ghost use Rattle.std.specs.Prelude.{◌≡◌, ◌<◌, ◌++◌, ◌∷◌, [], false, length, map, None, option_map, true, IfOk, OnOk};
+ghost use Rattle.std.specs.List.{All};
+ghost use Rattle.std.specs.List.Sorted.{IsPermutation, IsSortedBy, IsSortedByKey};
+ghost use Rattle.std.specs.Ordering.{is_lt, nat_cmp};
+ghost use Rattle.serde_json.specs.Written.{comma_if};
+ghost use Rattle.bson_tokens.specs.Normalizing.{key_and_place_cmp, merge, member_span_key, span_place};
+ghost use Rattle.bson_tokens.specs.Normalizing.{AreOrdered, ArePlaced, DifferAt, IsJoined, IsMemberSpanWithin, SpansNormalized, StandInOrder};
+ghost use Rattle.json.specs.Strict.{AreDistinct};
+ghost use Rattle.bson_tokens.specs.PutSpans.{merged, Follows, KeysAscendAfter};
+
+use crate::arrangement::Arrangement;
+use std::alloc::{AllocError, Global};
+use std::cmp::Ordering;
+
+// Among so many pieces or fewer a key that stands twice is looked for in pairs.
+const FEW: usize = 32;
+
+// The key of a member, the place that it takes among the others, and where its text stands, as in
+// `"a":1`: all behind the start of its object.
+#[derive(Clone, Copy, Drop)]
+pub(crate) struct MemberSpan<'a> {
+    pub(crate) key: &'a str,
+    pub(crate) place: usize,
+    pub(crate) start: usize,
+    pub(crate) end: usize,
+}
+
+// Holds one more piece, with room for a quarter more at most.
+pub(crate) fn hold<'a>(
+    spans: &mut Vec<MemberSpan<'a>>,
+    span: MemberSpan<'a>,
+) -> Result<(), AllocError>
+    ensures { OnOk result (spans.new.items ≡ spans.old.items ++ span.entry ∷ []) }
+{
+    if spans.len() == spans.capacity() {
+        spans.reserve_exact(spans.len() / 4 + 4)?;
+    }
+    spans.push(span)?;
+    Ok(())
+}
+
+// Puts the pieces in order, each key once with its last text, and answers the text that they give;
+// or nothing where they stand so.
+pub(crate) fn normalize_spans(
+    alloc: Global,
+    arrangement: Arrangement,
+    spans: &mut Vec<MemberSpan<'_>>,
+    body: &[u8],
+) -> Result<Option<Vec<u8>>, AllocError>
+    requires { All (IsMemberSpanWithin body.now) spans.old.items }
+    ensures { IfOk result (λ text. SpansNormalized arrangement body.now spans.old.items spans.new.items text) }
+{
+    if are_normalized(arrangement, spans) {
+        return Ok(None);
+    }
+    order_spans(arrangement, spans);
+    Ok(Some(join_spans(alloc, spans, body)?))
+}
+
+// The pieces stand in their order, each key once. Of more than a few at their first places this is
+// not looked for.
+fn are_normalized(arrangement: Arrangement, spans: &Vec<MemberSpan<'_>>) -> bool
+    ensures { result ≡ true → StandInOrder arrangement (map member_span_key spans.now.items) }
+{
+    if ascend(spans) {
+        return true;
+    }
+    match arrangement {
+        Arrangement::FirstPlaces => differ(spans),
+        Arrangement::Ascending => false,
+    }
+}
+
+// The keys are few, and no two of them are equal.
+fn differ(spans: &Vec<MemberSpan<'_>>) -> bool
+    ensures { result ≡ true → AreDistinct (map member_span_key spans.now.items) }
+{
+    if spans.len() > FEW {
+        return false;
+    }
+    for at in 1..spans.len() {
+        if stands_before(spans, at) {
+            return false;
+        }
+    }
+    true
+}
+
+// A piece before this one has its key.
+fn stands_before(spans: &Vec<MemberSpan<'_>>, at: usize) -> bool
+    requires { at < length spans.now.items }
+    ensures { result ≡ false → DifferAt spans.now.items at }
+{
+    let key = spans[at].key;
+    for before in 0..at {
+        if spans[before].key == key {
+            return true;
+        }
+    }
+    false
+}
+
+// Each key once, with the text of its last piece.
+fn order_spans(arrangement: Arrangement, spans: &mut Vec<MemberSpan<'_>>)
+    ensures { AreOrdered arrangement spans.old.items spans.new.items }
+{
+    sort_by_key(spans);
+    merge_runs(spans);
+    place_spans(arrangement, spans);
+}
+
+// Puts pieces that stand by ascending key where they are to stand.
+fn place_spans(arrangement: Arrangement, spans: &mut Vec<MemberSpan<'_>>)
+    ensures { ArePlaced arrangement spans.old.items spans.new.items }
+{
+    match arrangement {
+        Arrangement::FirstPlaces => sort_by_place(spans),
+        Arrangement::Ascending => {}
+    }
+}
+
+// Each key is greater than the one before, by bytes.
+fn ascend(spans: &Vec<MemberSpan<'_>>) -> bool
+    ensures { result ≡ true → KeysAscendAfter None (map member_span_key spans.now.items) }
+{
+    let mut last: Option<&str> = None;
+    for at in 0..spans.len() {
+        let key = spans[at].key;
+        if !follows(last, key) {
+            return false;
+        }
+        last = Some(key);
+    }
+    true
+}
+
+// The key is greater than the last one, by bytes.
+fn follows(last: Option<&str>, key: &str) -> bool
+    ensures { result ≡ true → Follows (option_map (λ s. s.now) last.entry) key.now }
+{
+    match last {
+        Some(last) => last.cmp(key).is_lt(),
+        None => true,
+    }
+}
+
+// By key, and those of one key by place.
+fn sort_by_key(spans: &mut Vec<MemberSpan<'_>>)
+    ensures same { IsPermutation spans.old.items spans.new.items }
+    ensures sorted { IsSortedBy (λ p q. is_lt (key_and_place_cmp p q)) spans.new.items }
+{
+    spans.sort_unstable_by(|one, other| by_key_and_place(one, other));
+}
+
+fn by_key_and_place(one: &MemberSpan<'_>, other: &MemberSpan<'_>) -> Ordering
+    ensures { result ≡ key_and_place_cmp one.now other.now }
+{
+    let by_key = one.key.cmp(other.key);
+    by_key.then(one.place.cmp(&other.place))
+}
+
+// Of those of one key that stand side by side, one with the place of the first and the text of the
+// last.
+fn merge_runs(spans: &mut Vec<MemberSpan<'_>>)
+    ensures { spans.new.items ≡ merged member_span_key merge spans.old.items }
+{
+    if spans.is_empty() {
+        return;
+    }
+    let mut kept = 0;
+    let mut last = spans[0];
+    'spans: for at in 1..spans.len() {
+        let next = spans[at];
+        if next.key == last.key {
+            last.start = next.start;
+            last.end = next.end;
+        } else {
+            spans[kept] = last;
+            kept += 1;
+            last = next;
+        }
+    }
+    spans[kept] = last;
+    spans.truncate(kept + 1);
+}
+
+fn sort_by_place(spans: &mut Vec<MemberSpan<'_>>)
+    ensures same { IsPermutation spans.old.items spans.new.items }
+    ensures sorted { IsSortedByKey span_place nat_cmp spans.new.items }
+{
+    spans.sort_unstable_by_key(|span| span.place);
+}
+
+// The texts of the pieces one behind the other, where they stand from then on.
+fn join_spans(
+    alloc: Global,
+    spans: &mut Vec<MemberSpan<'_>>,
+    body: &[u8],
+) -> Result<Vec<u8>, AllocError>
+    requires { All (IsMemberSpanWithin body.now) spans.old.items }
+    ensures { IfOk result (λ text. IsJoined body.now spans.old.items spans.new.items text.items) }
+{
+    // Twice the room, half of which is never touched: glibc maps a block that is larger than all
+    // that were let go before it, and so gives it back at once (mallopt(3), M_MMAP_THRESHOLD).
+    let mut text = Vec::with_capacity(alloc, body.len().saturating_mul(2))?;
+    'spans: for at in 0..spans.len() {
+        let MemberSpan {
+            key,
+            start,
+            end,
+            ..
+        } = spans[at];
+        put_comma(at > 0, &mut text)?;
+        let place = text.len();
+        text.extend_from_slice(&body[start..end])?;
+        spans[at] = MemberSpan {
+            key,
+            place,
+            start: place,
+            end: text.len(),
+        };
+    }
+    Ok(text)
+}
+
+fn put_comma(behind: bool, text: &mut Vec<u8>) -> Result<(), AllocError>
+    ensures { OnOk result (text.new.items ≡ text.old.items ++ comma_if behind) }
+{
+    if behind {
+        text.push(b',')?;
+    }
+    Ok(())
+}

@@ -1,0 +1,58 @@
+//! The path to a key, as it is found.
+ghost use Rattle.std.specs.Prelude.{◌≡◌, IfOk};
+ghost use Rattle.bson_tree.specs.Place.{segment_of};
+ghost use Rattle.bson_tokens.specs.Found.{told, or_path, path_within, at_key};
+
+use bson_tree::place::Segment;
+use std::alloc::{AllocError, Global};
+
+/// A path from a key outward.
+pub type KeyPath = Vec<Segment>;
+
+/// The first path so far, or that in the next element.
+pub(crate) fn or_at(
+    first: Option<KeyPath>,
+    found: Option<KeyPath>,
+    at: usize,
+) -> Result<Option<KeyPath>, AllocError>
+    ensures { IfOk result (λ path. told path ≡ or_path (told first) (path_within (segment_of (Segment.Element at)) (told found))) }
+{
+    if first.is_some() {
+        return Ok(first);
+    }
+    with_segment(found, Segment::Element(at))
+}
+
+/// The first path so far, or that of the next member: to its key where that is not new, or else in
+/// its value.
+pub(crate) fn or_member(
+    alloc: Global,
+    first: Option<KeyPath>,
+    is_new: bool,
+    key: &str,
+    found: Option<KeyPath>,
+) -> Result<Option<KeyPath>, AllocError>
+    ensures { IfOk result (λ path. told path ≡ or_path (told first) (at_key is_new key.now (told found))) }
+{
+    if first.is_some() {
+        return Ok(first);
+    }
+    let segment = Segment::Key(String::from_str(alloc, key)?);
+    if is_new {
+        return with_segment(found, segment);
+    }
+    let mut path = Vec::new(alloc);
+    path.push(segment)?;
+    Ok(Some(path))
+}
+
+// The path behind one more segment.
+fn with_segment(found: Option<KeyPath>, segment: Segment) -> Result<Option<KeyPath>, AllocError>
+    ensures { IfOk result (λ path. told path ≡ path_within (segment_of segment) (told found)) }
+{
+    let Some(mut path) = found else {
+        return Ok(None);
+    };
+    path.push(segment)?;
+    Ok(Some(path))
+}

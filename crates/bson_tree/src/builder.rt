@@ -1,0 +1,120 @@
+//! What is built of a tree as it is read.
+ghost use Rattle.std.specs.Prelude.{◌≡◌, None, IfOk, OnOk, string_bytes};
+ghost use Rattle.bson_scalar.specs.View.{scalar_view};
+ghost use Rattle.bson_model.specs.Value as model;
+ghost use Rattle.bson_model.specs.Value.{Values, Pairs, no_values, no_pairs, value_at_key, scalar, code_scope};
+ghost use Rattle.bson_model.specs.Value.{array, document};
+ghost use Rattle.bson_tree.specs.Built.{then_pair, then_value};
+
+use bson_scalar::scalar::Scalar;
+use std::alloc::{AllocError, Global};
+
+/// Builds a value from its parts, each of which is built before what it is a part of.
+///
+/// ```
+/// let tree = Value::from_slice(alloc, br#"[1, {"n": 2}]"#)?;
+/// let read = read_tree::<Nothing>(alloc, Doubles::Special, tree)?;
+/// println!(rt; "{}", read.is_ok())?; // true
+/// ```
+pub trait ValueBuilder {
+    /// A value.
+    type Value: Drop;
+    /// The elements of an array, so far.
+    type Items: Drop;
+    /// The pairs of a document, so far.
+    type Pairs: Drop;
+
+    // What was built stands for the value.
+    ghost built: { Self.Value → model.Value → Type 0 };
+
+    // What was built stands for these elements.
+    ghost listed: { Self.Items → Values → Type 0 };
+
+    // What was built stands for these pairs.
+    ghost paired: { Self.Pairs → Pairs → Type 0 };
+
+    /// A value that holds no other.
+    fn scalar(value: Scalar) -> Self::Value
+        ensures { built result (scalar (scalar_view value)) };
+
+    /// No elements yet, with room for so many.
+    fn items(alloc: Global, len: usize) -> Result<Self::Items, AllocError>
+        ensures { IfOk result (λ items. listed items no_values) };
+
+    /// Adds the next element.
+    fn push(items: &mut Self::Items, value: Self::Value) -> Result<(), AllocError>
+        ensures { OnOk result ((vs : Values) (v : model.Value) → listed items.old vs → built value v
+            → listed items.new (then_value vs v)) };
+
+    /// The array of the elements.
+    fn array(items: Self::Items) -> Self::Value
+        ensures { (vs : Values) → listed items vs → built result (array vs) };
+
+    /// No pairs yet, with room for so many.
+    fn pairs(alloc: Global, len: usize) -> Result<Self::Pairs, AllocError>
+        ensures { IfOk result (λ pairs. paired pairs no_pairs) };
+
+    /// Adds the next pair, whose key is not there yet.
+    fn put(pairs: &mut Self::Pairs, key: String, value: Self::Value) -> Result<(), AllocError>
+        requires { (ps : Pairs) × paired pairs.old ps × (value_at_key (string_bytes key) ps ≡ None) }
+        ensures { OnOk result ((ps : Pairs) (v : model.Value) → paired pairs.old ps → built value v
+            → paired pairs.new (then_pair ps (string_bytes key) v)) };
+
+    /// The document of the pairs.
+    fn document(pairs: Self::Pairs) -> Self::Value
+        ensures { (ps : Pairs) → paired pairs ps → built result (document ps) };
+
+    /// Code with the scope of the pairs.
+    fn code(code: String, scope: Self::Pairs) -> Self::Value
+        ensures { (ps : Pairs) → paired scope ps → built result (code_scope (string_bytes code) ps) };
+}
+
+/// Builds nothing, where only the first fault is asked for.
+///
+/// ```
+/// let tree = Value::from_slice(alloc, br#"{"n": [1.5]}"#)?;
+/// if let Err(place) = read_tree::<Nothing>(alloc, Doubles::Special, tree)? {
+///     println!(rt; "{}", place.path(alloc)?)?; // n.0
+/// }
+/// ```
+pub struct Nothing;
+
+impl ValueBuilder for Nothing {
+    type Value = ();
+
+    type Items = ();
+
+    type Pairs = ();
+
+    ghost use Rattle.std.specs.Prelude.{⊤};
+
+    ghost built = { λ made v. ⊤ };
+
+    ghost listed = { λ made vs. ⊤ };
+
+    ghost paired = { λ made ps. ⊤ };
+
+    fn scalar(_value: Scalar) {}
+
+    fn items(_alloc: Global, _len: usize) -> Result<(), AllocError> {
+        Ok(())
+    }
+
+    fn push(_items: &mut (), _value: ()) -> Result<(), AllocError> {
+        Ok(())
+    }
+
+    fn array(_items: ()) {}
+
+    fn pairs(_alloc: Global, _len: usize) -> Result<(), AllocError> {
+        Ok(())
+    }
+
+    fn put(_pairs: &mut (), _key: String, _value: ()) -> Result<(), AllocError> {
+        Ok(())
+    }
+
+    fn document(_pairs: ()) {}
+
+    fn code(_code: String, _scope: ()) {}
+}

@@ -1,0 +1,174 @@
+-- Objects of v1, and trees of v2.
+use Rattle.std.proofs.Common.{◌≡◌, ◌↔◌, ◌&&◌, ℕ, List, Bool, true, false, cond, refl, sym, ap, subst, ◌∙◌}
+use Rattle.std.proofs.lemmas.Slice.Eq.{bytes_eq-Decides}
+use Rattle.std.specs.Prelude.{codes, take, drop, ◌++◌, length, ◌-◌}
+use Rattle.std.specs.Str.{bytes_eq}
+use Rattle.json.specs.Json.{Json, Items, no_items, item, Members, no_members, member}
+use Rattle.json.specs.Json as json
+use Rattle.json.specs.Print.{print}
+use Rattle.json.specs.Tree.{json_tokens}
+use Rattle.bson_scalar.specs.declared.form.Doubles.{Doubles}
+use Rattle.bson_model.specs.Value.{Value}
+use Rattle.bson_model.specs.OrderedTexts.{HasMeaningInOrder, MeansByDefault}
+use Rattle.bson_tokens.specs.Normalized.{normalized, IsNormalizedText}
+use Rattle.bson_tokens.specs.declared.arrangement.Arrangement.TheVariants.{FirstPlaces}
+use Rattle.bson_tokens.proofs.Offered.{meant, meant_in_order}
+use Rattle.bson_v1.specs.Upgraded.{binary, regex, date, other, older, strings, pair, lone, renewed, is_code, is_scope}
+use Rattle.bson_v1.specs.Upgraded.{upgraded, upgraded_items, upgraded_members, upgraded_object, upgraded_scope, ends_in_offset}
+use Rattle.bson_v1.specs.Upgraded.{with_colon, binary_json, regex_json, date_json}
+use Rattle.bson_v1.specs.Text.{IsUpgradedText}
+use Rattle.bson_v1.specs.Version1.{HasNoShape, IsTextOfVersion2, IsVersion1, IsVersion2, AllVersion2, HasVersion2}
+use Rattle.bson_v1.specs.Version1.{EachVersion2, strings_at}
+use Rattle.bson_v1.specs.Version1 as v1
+
+pub shape_renewed : (ms : Members) (t : Json) → IsVersion1 ms t → upgraded (json.object ms) ≡ t
+shape_renewed x u (v1.binary s t) = refl
+shape_renewed x u (v1.binary_turned s t) = refl
+shape_renewed x u (v1.regex s t) = refl
+shape_renewed x u (v1.regex_turned s t) = refl
+shape_renewed x u (v1.date s ends) = refl
+
+same_key : (k l : List ℕ) → bytes_eq k l ≡ true → k ≡ l
+same_key k l h = (bytes_eq-Decides k l).0 h
+
+-- ---- objects of no shape
+
+no_pair : (k s l t : List ℕ) (m n : List ℕ) (u : Json) → bytes_eq k m ≡ true → bytes_eq l n ≡ true
+    → IsVersion1 (strings_at m s n t) u → HasNoShape (strings_at k s l t) → ⊥
+no_pair k s l t m n u first second is none =
+    none u (subst (λ x. IsVersion1 (strings_at x s l t) u) (sym (same_key k m first))
+    (subst (λ x. IsVersion1 (strings_at m s x t) u) (sym (same_key l n second)) is))
+
+plain_cond : {A : Type 0} (b : Bool) (x y : A) → (b ≡ true → ⊥) → cond b x y ≡ y
+plain_cond true x y never = absurd (never refl)
+plain_cond false x y never = refl
+
+skip : {A : Type 0} (a b : Bool) (x y : A) → (a ≡ true → b ≡ true → ⊥) → cond (a && b) x y ≡ y
+skip true true x y never = absurd (never refl refl)
+skip true false x y never = refl
+skip false b x y never = refl
+
+two_stay : (k s l t : List ℕ) → HasNoShape (strings_at k s l t) → strings k s l t ≡ other
+two_stay k s l t none =
+    skip (bytes_eq k (codes "$binary")) (bytes_eq l (codes "$type")) (binary s t) _
+    (λ p q. no_pair k s l t (codes "$binary") (codes "$type") (binary_json s t) p q (v1.binary s t) none)
+    ∙ skip (bytes_eq k (codes "$type")) (bytes_eq l (codes "$binary")) (binary t s) _
+    (λ p q. no_pair k s l t (codes "$type") (codes "$binary") (binary_json t s) p q (v1.binary_turned t s) none)
+    ∙ skip (bytes_eq k (codes "$regex")) (bytes_eq l (codes "$options")) (regex s t) _
+    (λ p q. no_pair k s l t (codes "$regex") (codes "$options") (regex_json s t) p q (v1.regex s t) none)
+    ∙ skip (bytes_eq k (codes "$options")) (bytes_eq l (codes "$regex")) (regex t s) other
+    (λ p q. no_pair k s l t (codes "$options") (codes "$regex") (regex_json t s) p q (v1.regex_turned t s) none)
+
+date_stays : (k s : List ℕ) (b : Bool) → bytes_eq k (codes "$date") ≡ b
+    → HasNoShape (member k (json.string s) no_members)
+    → renewed (cond b (date s) other) (member k (json.string s) no_members) ≡ json.object (member k (json.string s) no_members)
+date_stays k s false is none = refl
+date_stays k s true is none =
+    let same = same_key k (codes "$date") is in
+    ap (λ x. json.object (member (codes "$date") (json.string x) no_members))
+    (plain_cond (ends_in_offset s) (take (length s - 2) s ++ codes ":" ++ drop (length s - 2) s) s
+    (λ ends. none (date_json s)
+    (subst (λ x. IsVersion1 (member x (json.string s) no_members) (date_json s)) (sym same) (v1.date s ends))))
+    ∙ ap (λ x. json.object (member x (json.string s) no_members)) (sym same)
+
+pair_stays : (k l : List ℕ) (j i : Json) → HasNoShape (member k j (member l i no_members)) → pair k j l i ≡ other
+pair_stays k l json.null i none = refl
+pair_stays k l (json.boolean b) i none = refl
+pair_stays k l (json.number n) i none = refl
+pair_stays k l (json.string s) json.null none = refl
+pair_stays k l (json.string s) (json.boolean b) none = refl
+pair_stays k l (json.string s) (json.number n) none = refl
+pair_stays k l (json.string s) (json.string t) none = two_stay k s l t none
+pair_stays k l (json.string s) (json.array js) none = refl
+pair_stays k l (json.string s) (json.object ms) none = refl
+pair_stays k l (json.array js) i none = refl
+pair_stays k l (json.object ms) i none = refl
+
+pub no_shape : (ms : Members) → HasNoShape ms → upgraded (json.object ms) ≡ json.object (upgraded_object ms)
+no_shape no_members none = refl
+no_shape (member k json.null no_members) none = refl
+no_shape (member k (json.boolean b) no_members) none = refl
+no_shape (member k (json.number n) no_members) none = refl
+no_shape (member k (json.string s) no_members) none = date_stays k s (bytes_eq k (codes "$date")) refl none
+no_shape (member k (json.array js) no_members) none = refl
+no_shape (member k (json.object ms) no_members) none = refl
+no_shape (member k j (member l i no_members)) none =
+    ap (λ x. renewed x (upgraded_object (member k j (member l i no_members)))) (pair_stays k l j i none)
+no_shape (member k j (member l i (member m h ms))) none = refl
+
+-- ---- trees of v2
+
+each_same : {A : Type 0} (a b : Bool) (x y z w : A) → x ≡ w → y ≡ w → z ≡ w → cond a x (cond b y z) ≡ w
+each_same true b x y z w p q r = p
+each_same false true x y z w p q r = q
+each_same false false x y z w p q r = r
+
+two : (k l : List ℕ) (j j' i i' : Json) (ms ns : Members) → j ≡ j' → i ≡ i' → ms ≡ ns
+    → member k j (member l i ms) ≡ member k j' (member l i' ns)
+two k l j j' i i' ms ns p q r =
+    ap (λ x. member k x (member l i ms)) p ∙ ap (λ x. member k j' (member l x ms)) q
+    ∙ ap (λ x. member k j' (member l i' x)) r
+
+mutual
+  pub stays : (j : Json) → IsVersion2 j → upgraded j ≡ j
+  stays x v1.null = refl
+  stays x (v1.boolean b) = refl
+  stays x (v1.number s) = refl
+  stays x (v1.string s) = refl
+  stays x (v1.array js all) = ap json.array (items_stay js all)
+  stays x (v1.object ms none inner) = no_shape ms none ∙ ap json.object (object_stays ms inner)
+
+  scope_stays : (j : Json) → IsVersion2 j → upgraded_scope j ≡ j
+  scope_stays x v1.null = refl
+  scope_stays x (v1.boolean b) = refl
+  scope_stays x (v1.number s) = refl
+  scope_stays x (v1.string s) = refl
+  scope_stays x (v1.array js all) = ap json.array (items_stay js all)
+  scope_stays x (v1.object ms none inner) = ap json.object (object_stays ms inner)
+
+  items_stay : (js : Items) → AllVersion2 js → upgraded_items js ≡ js
+  items_stay x v1.none = refl
+  items_stay x (v1.more j js first all) =
+      ap (λ h. item h (upgraded_items js)) (stays j first) ∙ ap (item j) (items_stay js all)
+
+  object_stays : (ms : Members) → HasVersion2 ms → upgraded_object ms ≡ ms
+  object_stays x (v1.ordinary ms each) = ordinary_stays ms each
+  object_stays x (v1.scope_last s scope ms inner each) =
+      two (codes "$code") (codes "$scope") _ (json.string s) _ (json.object scope) _ ms refl
+      (ap json.object (object_stays scope inner)) (members_stay ms each)
+  object_stays x (v1.scope_first s scope ms inner each) =
+      two (codes "$scope") (codes "$code") _ (json.object scope) _ (json.string s) _ ms
+      (ap json.object (object_stays scope inner)) refl (members_stay ms each)
+
+  ordinary_stays : (ms : Members) → EachVersion2 ms → upgraded_object ms ≡ ms
+  ordinary_stays x v1.no_more = refl
+  ordinary_stays x (v1.another k j ms first v1.no_more) = ap (λ h. member k h no_members) (stays j first)
+  ordinary_stays x (v1.another k j ms first (v1.another l i ns second each)) =
+      let rest = members_stay ns each in
+      each_same (is_code k j && is_scope l) (is_scope k && is_code l i) _ _ _ (member k j (member l i ns))
+      (two k l _ j _ i _ ns (stays j first) (scope_stays i second) rest)
+      (two k l _ j _ i _ ns (scope_stays j first) (stays i second) rest)
+      (two k l _ j _ i _ ns (stays j first) (stays i second) rest)
+
+  members_stay : (ms : Members) → EachVersion2 ms → upgraded_members ms ≡ ms
+  members_stay x v1.no_more = refl
+  members_stay x (v1.another k j ms first each) =
+      ap (λ h. member k h (upgraded_members ms)) (stays j first) ∙ ap (member k j) (members_stay ms each)
+
+-- ---- texts
+
+resolved_again : (text written : List ℕ) → IsUpgradedText text written → IsTextOfVersion2 text
+    → IsNormalizedText FirstPlaces text written
+resolved_again text written is newer =
+    let j = is.is_resolved.tree in
+    let same = is.compact ∙ ap (λ x. print (json_tokens x)) (stays (normalized FirstPlaces j) (newer j is.is_resolved.is_tree))
+    ∙ sym is.is_resolved.compact in
+    subst (IsNormalizedText FirstPlaces text) (sym same) is.is_resolved
+
+pub kept_in_order : (D : Doubles) (text written : List ℕ) (v : Value) → IsUpgradedText text written
+    → IsTextOfVersion2 text → (HasMeaningInOrder D written v ↔ HasMeaningInOrder D text v)
+kept_in_order D text written v is newer = meant_in_order D text written v (resolved_again text written is newer)
+
+pub kept_by_default : (D : Doubles) (text written : List ℕ) (v : Value) → IsUpgradedText text written
+    → IsTextOfVersion2 text → (MeansByDefault D written v ↔ MeansByDefault D text v)
+kept_by_default D text written v is newer = meant D FirstPlaces text written v (resolved_again text written is newer)

@@ -1,0 +1,297 @@
+//! From a text to the text in its place, token by token.
+ghost use Rattle.std.specs.Prelude.{◌≡◌, ◌≢◌, ◌∷◌, [], IfErr, IfOk, OnOk, string_bytes};
+ghost use Rattle.json.specs.Json.{no_members, value};
+ghost use Rattle.json.specs.Lex.{tokens};
+ghost use Rattle.json.specs.Print.{print, IsPrintable};
+ghost use Rattle.json.specs.Reads.{token_of};
+ghost use Rattle.json.specs.Token as token;
+ghost use Rattle.serde_json.specs.Read.{read};
+ghost use Rattle.bson_tokens.specs.Double.{json_of};
+ghost use Rattle.bson_tokens.specs.Parts.{IsBroken};
+ghost use Rattle.bson_tokens.specs.Normalizing.{elements, inside};
+ghost use Rattle.bson_v1.specs.Held.{HasNoOlderShape, RestPasses, ScopeEnds, ScopePasses, onto};
+ghost use Rattle.bson_v1.specs.Passed.{MemberPasses, PassesTokens};
+ghost use Rattle.bson_v1.specs.Passed.{of_items, of_members, of_object, of_value};
+ghost use Rattle.bson_v1.specs.Text.{IsUpgradedText, IsRewritten};
+
+use crate::held::{Begun, Texts, hold, is_scope, next_member, scope_place};
+use crate::older::{write_held, write_older, write_scope_or_value};
+use bson_tokens::MAX_DEPTH;
+use bson_tokens::arrangement::Arrangement;
+use bson_tokens::normalize::normalize_text;
+use json::{Error, Reader, Scratch, Token, Writer};
+use std::alloc::Global;
+
+/// Returns the compact JSON text of Extended JSON v2 for which a text of v1 stands.
+///
+/// A text of v2 is its own, with each key once. An object has a shape of v1 if it has exactly the
+/// keys `$binary` and `$type`, or `$regex` and `$options`, in either order, each with a string; or
+/// the key `$date` alone, with a string that ends in an offset of four digits (`+0100`), which gets
+/// its colon. Of a duplicate key the last value counts, at the first position of the key, before
+/// the shape is tested. The object at `$scope` has no shape of v1 in an object that begins with
+/// `$code`, a string, and `$scope`, in either order: a scope's own keys are free. What a scope
+/// contains is rewritten like any value. A binary and a regular expression nest one level deeper
+/// than they did.
+///
+/// No tree is built: the text is written as it is read, first with each key once, and at most two
+/// members of an object are kept in memory. Memory is that of two texts.
+///
+/// # Errors
+///
+/// - `Invalid`: the text is not JSON, nests deeper than 127, or has a number out of range.
+/// - The other errors: an allocation fails.
+///
+/// ```
+/// let text = modern_text(alloc, r#"{"$binary": "AQI=", "$type": "00"}"#)?;
+/// println!(rt; "{text}")?; // {"$binary":{"base64":"AQI=","subType":"00"}}
+/// ```
+pub fn upgraded_text(alloc: Global, text: &str) -> Result<String, Error>
+    ensures ok { IfOk result (λ written. IsUpgradedText text.now (string_bytes written)) }
+    ensures broken { IfErr result (IsBroken (read text.now)) }
+{
+    let resolved = normalize_text(alloc, Arrangement::FirstPlaces, text)?;
+    rewrite(alloc, resolved.as_str())
+}
+
+// The text in place of one in which each key occurs once.
+fn rewrite(alloc: Global, text: &str) -> Result<String, Error>
+    ensures ok { IfOk result (λ written. IsRewritten text.now (string_bytes written)) }
+    ensures broken { IfErr result (IsBroken (json_of text.now)) }
+{
+    let mut scratch = Scratch::new(alloc);
+    let mut reader = Reader::new(text, &mut scratch)?;
+    let mut out = Writer::new(Vec::with_capacity(alloc, text.len())?);
+    write_value(alloc, &mut reader, MAX_DEPTH, &mut out)?;
+    if reader.next().is_some() {
+        return Err(Error::Invalid);
+    }
+    Ok(into_text(out))
+}
+
+// The text that was written.
+fn into_text(out: Writer) -> String
+    requires { out.before ≡ [] }
+    ensures text { string_bytes result ≡ print out.tokens }
+    ensures again { tokens (print out.tokens) ≡ out.tokens }
+{
+    let Ok(text) = String::from_utf8(out.into_inner()) else {
+        unreachable!();
+    };
+    text
+}
+
+#[cycle(write)]
+fn write_value<'a>(
+    alloc: Global,
+    reader: &mut Reader<'a>,
+    depth: usize,
+    out: &mut Writer,
+) -> Result<(), Error>
+    ensures ok { OnOk result
+        (PassesTokens of_value (value depth reader.old) reader.new out.old.tokens out.new.tokens) }
+    ensures broken { IfErr result (IsBroken (value depth reader.old)) }
+    ensures before { OnOk result (out.new.before ≡ out.old.before) }
+{
+    let first = reader.next().ok_or(Error::Invalid)?;
+    write_begun(alloc, first, reader, depth, out)
+}
+
+// The value whose first token was read.
+#[cycle(write)]
+fn write_begun<'a>(
+    alloc: Global,
+    first: Token<'a>,
+    reader: &mut Reader<'a>,
+    depth: usize,
+    out: &mut Writer,
+) -> Result<(), Error>
+    requires { first ≢ Token.Bad → IsPrintable (token_of first) }
+    ensures ok { OnOk result (PassesTokens of_value (value depth (token_of first.entry ∷ reader.old)) reader.new
+        out.old.tokens out.new.tokens) }
+    ensures broken { IfErr result (IsBroken (value depth (token_of first.entry ∷ reader.old))) }
+    ensures before { OnOk result (out.new.before ≡ out.old.before) }
+{
+    match first {
+        Token::String(_) | Token::Number(_) | Token::Bool(_) | Token::Null => Ok(out.token(first)?),
+        Token::EndObject | Token::EndArray | Token::Key(_) | Token::Bad => Err(Error::Invalid),
+        Token::BeginArray => {
+            if depth == 0 {
+                return Err(Error::Invalid);
+            }
+            out.begin_array()?;
+            write_items(alloc, reader, depth - 1, out)
+        }
+        Token::BeginObject => {
+            if depth == 0 {
+                return Err(Error::Invalid);
+            }
+            write_object(alloc, reader, depth - 1, out)
+        }
+    }
+}
+
+// The elements of an array, and its end.
+#[cycle(write)]
+fn write_items<'a>(
+    alloc: Global,
+    reader: &mut Reader<'a>,
+    depth: usize,
+    out: &mut Writer,
+) -> Result<(), Error>
+    ensures ok { OnOk result
+        (PassesTokens of_items (elements depth reader.old) reader.new out.old.tokens out.new.tokens) }
+    ensures broken { IfErr result (IsBroken (elements depth reader.old)) }
+    ensures before { OnOk result (out.new.before ≡ out.old.before) }
+{
+    'items: while !reader.take_end_array() {
+        write_value(alloc, reader, depth, out)?;
+    }
+    Ok(out.end_array()?)
+}
+
+// An object whose brace was read. While it may have an older shape its members are held: no more
+// than two, which are strings.
+#[cycle(write)]
+fn write_object<'a>(
+    alloc: Global,
+    reader: &mut Reader<'a>,
+    depth: usize,
+    out: &mut Writer,
+) -> Result<(), Error>
+    ensures ok { OnOk result
+        (PassesTokens of_object (inside depth reader.old) reader.new out.old.tokens out.new.tokens) }
+    ensures broken { IfErr result (IsBroken (inside depth reader.old)) }
+    ensures before { OnOk result (out.new.before ≡ out.old.before) }
+{
+    match hold(reader)? {
+        Begun::Whole(texts) => Ok(write_older(alloc, texts, out)?),
+        Begun::Open(texts, key, first) => {
+            out.begin_object()?;
+            write_held(texts, out)?;
+            write_rest(alloc, texts, key, first, reader, depth, out)
+        }
+    }
+}
+
+// The member of this key, of whose value the first token was read, and those after it, in an object
+// that begins with the strings and has no older shape.
+#[cycle(write)]
+fn write_rest<'a>(
+    alloc: Global,
+    texts: Texts<'a>,
+    key: &'a str,
+    first: Token<'a>,
+    reader: &mut Reader<'a>,
+    depth: usize,
+    out: &mut Writer,
+) -> Result<(), Error>
+    requires printable { first ≢ Token.Bad → IsPrintable (token_of first) }
+    requires shape { HasNoOlderShape texts first }
+    ensures ok { OnOk result (RestPasses texts.entry depth key.now (token_of first.entry ∷ reader.old) reader.new
+        out.old.tokens out.new.tokens) }
+    ensures broken { IfErr result
+        (IsBroken (inside depth (token.key key.now ∷ token_of first.entry ∷ reader.old))) }
+    ensures before { OnOk result (out.new.before ≡ out.old.before) }
+{
+    match scope_place(texts, key, first) {
+        Some(after_code) => write_scope(alloc, after_code, key, reader, depth, out),
+        None => write_member(alloc, key, first, reader, depth, out),
+    }
+}
+
+// The object at `$scope` whose brace was read, and the members after it. It is a scope if it comes
+// after code, or before code.
+#[cycle(write)]
+fn write_scope<'a>(
+    alloc: Global,
+    after_code: bool,
+    key: &'a str,
+    reader: &mut Reader<'a>,
+    depth: usize,
+    out: &mut Writer,
+) -> Result<(), Error>
+    ensures ok { OnOk result (ScopePasses after_code depth key.now reader.old reader.new
+        out.old.tokens out.new.tokens) }
+    ensures broken { IfErr result
+        (IsBroken (inside depth (token.key key.now ∷ token.begin_object ∷ reader.old))) }
+    ensures before { OnOk result (out.new.before ≡ out.old.before) }
+{
+    if depth == 0 {
+        return Err(Error::Invalid);
+    }
+    out.key(key)?;
+    match hold(reader)? {
+        Begun::Whole(texts) => write_held_scope(alloc, after_code, texts, reader, depth, out),
+        Begun::Open(texts, inner, first) => {
+            out.begin_object()?;
+            write_held(texts, out)?;
+            write_rest(alloc, texts, inner, first, reader, depth - 1, out)?;
+            write_members(alloc, reader, depth, out)
+        }
+    }
+}
+
+// The object of these members at `$scope`, whose end was read, and the members after it.
+#[cycle(write)]
+fn write_held_scope<'a>(
+    alloc: Global,
+    after_code: bool,
+    texts: Texts<'a>,
+    reader: &mut Reader<'a>,
+    depth: usize,
+    out: &mut Writer,
+) -> Result<(), Error>
+    ensures ok { OnOk result (ScopeEnds after_code depth (onto texts.entry no_members) reader.old reader.new
+        out.old.tokens out.new.tokens) }
+    ensures broken { IfErr result (IsBroken (inside depth reader.old)) }
+    ensures before { OnOk result (out.new.before ≡ out.old.before) }
+{
+    let Some((key, first)) = next_member(reader)? else {
+        write_scope_or_value(alloc, after_code, texts, out)?;
+        return Ok(out.end_object()?);
+    };
+    write_scope_or_value(alloc, is_scope(after_code, key, first), texts, out)?;
+    write_member(alloc, key, first, reader, depth, out)
+}
+
+// The member of this key, of whose value the first token was read, and those behind it.
+#[cycle(write)]
+fn write_member<'a>(
+    alloc: Global,
+    key: &'a str,
+    first: Token<'a>,
+    reader: &mut Reader<'a>,
+    depth: usize,
+    out: &mut Writer,
+) -> Result<(), Error>
+    requires { first ≢ Token.Bad → IsPrintable (token_of first) }
+    ensures ok { OnOk result (MemberPasses depth key.now (token_of first.entry ∷ reader.old) reader.new
+        out.old.tokens out.new.tokens) }
+    ensures broken { IfErr result
+        (IsBroken (inside depth (token.key key.now ∷ token_of first.entry ∷ reader.old))) }
+    ensures before { OnOk result (out.new.before ≡ out.old.before) }
+{
+    out.key(key)?;
+    write_begun(alloc, first, reader, depth, out)?;
+    write_members(alloc, reader, depth, out)
+}
+
+// The members to the end of their object, and that end.
+#[cycle(write)]
+fn write_members<'a>(
+    alloc: Global,
+    reader: &mut Reader<'a>,
+    depth: usize,
+    out: &mut Writer,
+) -> Result<(), Error>
+    ensures ok { OnOk result
+        (PassesTokens of_members (inside depth reader.old) reader.new out.old.tokens out.new.tokens) }
+    ensures broken { IfErr result (IsBroken (inside depth reader.old)) }
+    ensures before { OnOk result (out.new.before ≡ out.old.before) }
+{
+    'members: while let Some(key) = reader.next_key()? {
+        out.key(key)?;
+        write_value(alloc, reader, depth, out)?;
+    }
+    Ok(out.end_object()?)
+}
