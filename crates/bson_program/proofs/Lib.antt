@@ -3,4 +3,4 @@ mod Dumping
 mod Spaces
 mod Telling
 mod Verdicts
-mod Wholes
+mod Sequences

@@ -16,3 +16,11 @@ pub when_not : {E : Type 0} (r : Result (String Global) E) (b : Bool) (x y : Lis
     → IfOk r (λ s. string_bytes s ≡ y) → IfOk r (λ s. string_bytes s ≡ cond b x y)
 when_not r true x y e h = absurd cc
 when_not r false x y e h = h
+
+pub four : {E : Type 0} (r : Result (String Global) E) (a b c d a' b' c' d' : List ℕ)
+    → IfOk r (λ s. string_bytes s ≡ a ++ b ++ c ++ d) → a ≡ a' → b ≡ b' → c ≡ c' → d ≡ d'
+    → IfOk r (λ s. string_bytes s ≡ a' ++ b' ++ c' ++ d')
+four (Err x) a b c d a' b' c' d' is e f g h = tt
+four (Ok s) a b c d a' b' c' d' is e f g h =
+    is ∙ ap (λ l. l ++ b ++ c ++ d) e ∙ ap (λ l. a' ++ l ++ c ++ d) f ∙ ap (λ l. a' ++ b' ++ l ++ d) g
+    ∙ ap (λ l. a' ++ b' ++ c' ++ l) h

@@ -1,13 +1,28 @@
 -- What the first bytes of a rejected input show that it holds in place of what it should.
-use Rattle.std.specs.Prelude.{◌==◌, ◌||◌, ◌&&◌, ◌+◌, ◌-◌, ◌*◌, ℕ, Bool, true, false, not, List, [], ◌∷◌, ◌++◌, Option, None, Some}
+use Rattle.std.specs.Prelude.{◌≡◌, ◌==◌, ◌||◌, ◌&&◌, ◌+◌, ◌-◌, ◌*◌, ℕ, Result, Ok, Err, Bool, true, false, not, List, [], ◌∷◌, ◌++◌, Option, None, Some}
 use Rattle.std.specs.Prelude.{if◌then◌else◌, codes, length, nat_eq, nat_le, nat_lt, slice_index, reverse, take, drop, is_some}
 use Rattle.std.specs.List.{find, starts_with}
+use Rattle.bson.specs.Doubles.{Doubles}
+use Rattle.bson.specs.Doubles.TheVariants.{Finite, Special}
+use Rattle.bson_codec.specs.declared.run_end.RunFault.{RunFault}
+use Rattle.bson_codec.specs.declared.run_end.RunFault.TheVariants as run_fault
+use Rattle.bson_convert.specs.declared.error.Error.{Error}
+use Rattle.bson_convert.specs.declared.error.Error.TheVariants as error
+use Rattle.bson_run.specs.Words.{task_name}
+use Rattle.bson_run.specs.declared.lines.Counts.{Counts}
+use Rattle.bson_run.specs.declared.order.Taking.TheVariants as taking
+use Rattle.bson_run.specs.declared.order.Task.{Task}
+use Rattle.bson_run.specs.declared.order.Task.TheVariants as task
+use Rattle.bson_run.specs.declared.order.Work.TheVariants as work
 use Rattle.bson_program.specs.Messages.{line_len, shown_name}
 use Rattle.bson_program.specs.declared.hints.Hint.{Hint}
 use Rattle.bson_program.specs.declared.hints.Hint.TheVariants as hint
 use Rattle.bson_program.specs.declared.hints.Rejected.{Rejected}
 use Rattle.bson_program.specs.declared.order.Input.{Input}
 use Rattle.bson_program.specs.declared.order.Input.TheVariants.{Text, Lines, Documents}
+use Rattle.bson_program.specs.declared.order.Order.{Order}
+use Rattle.bson_program.specs.declared.run.Stop.{Stop}
+use Rattle.bson_program.specs.declared.run.Stop.TheVariants as stop
 
 -- ---- bytes
 
@@ -105,17 +120,17 @@ abbrev pub doubles : Bool → Option Hint
 doubles true = Some hint.Doubles
 doubles false = None
 
--- where one text is expected
-abbrev pub hint_of_one : Rejected → List ℕ → Option Hint
-hint_of_one rejected head =
+-- where texts are expected
+abbrev pub hint_of_texts : Rejected → List ℕ → Option Hint
+hint_of_texts rejected head =
     if rejected.is_standard && starts_with nat_eq head (239 ∷ 187 ∷ 191 ∷ []) then Some hint.Mark
-    else (if rejected.has_lines then Some hint.TextPerLine else doubles rejected.has_double)
+    else (if rejected.has_more then Some hint.SeveralTexts else doubles rejected.has_double)
 
 -- where a text per line is
 abbrev pub hint_of_lines : Rejected → List ℕ → Option Hint
 hint_of_lines rejected head =
-    if opens_over_lines (first_line head) && has_content (behind_line head) then Some (if rejected.has_more then hint.LongTexts
-    else (if rejected.encodes then hint.OneTextToEncode else hint.OneText))
+    if opens_over_lines (first_line head) && has_content (behind_line head)
+    then Some (if rejected.encodes then hint.LongTextsToEncode else hint.LongTexts)
     else doubles rejected.has_double
 
 -- where documents of BSON are
@@ -129,7 +144,7 @@ or_else None other = other
 or_else (Some hint) other = Some hint
 
 abbrev pub hint_of_input : Input → Rejected → List ℕ → Option Hint
-hint_of_input Text rejected head = or_else (hint_of_encoding head) (hint_of_one rejected head)
+hint_of_input Text rejected head = or_else (hint_of_encoding head) (hint_of_texts rejected head)
 hint_of_input Lines rejected head = or_else (hint_of_encoding head) (hint_of_lines rejected head)
 hint_of_input Documents rejected head = hint_of_dump rejected head
 
@@ -153,15 +168,72 @@ told_of hint.Utf16LittleEndian words =
     codes "is UTF-16, and JSON is UTF-8; give it through 'iconv -f UTF-16LE -t UTF-8'"
 told_of hint.Utf16BigEndian words = codes "is UTF-16, and JSON is UTF-8; give it through 'iconv -f UTF-16BE -t UTF-8'"
 told_of hint.Mark words = codes "begins with a byte order mark, which only a named file may"
-told_of hint.TextPerLine words =
-    codes "holds several texts; './bson lines " ++ words ++ codes "' reads one per line"
-told_of hint.OneText words = codes "is one text over several lines, it seems; './bson " ++ words ++ codes "' reads it"
-told_of hint.OneTextToEncode words =
-    codes "is one text over several lines, it seems; './bson " ++ words ++ codes "' makes a line of it"
-told_of hint.LongTexts words =
-    codes "holds texts of several lines; write each on a line of its own, as mongoexport without '--pretty' does"
+told_of hint.SeveralTexts words = codes "has several texts, which are read without --strict"
+told_of hint.LongTexts words = codes "has texts over several lines; './bson " ++ words ++ codes "' reads them"
+told_of hint.LongTextsToEncode words =
+    codes "has texts over several lines; './bson " ++ words ++ codes "' makes a line of each"
 told_of hint.Doubles words = codes "has numbers that are read without --strict"
+
+-- the mode of a command that reads the input; lines that become bytes are texts for `canonical`
+abbrev pub reading_mode : Input → Task → List ℕ
+reading_mode Lines task.Encode = codes "canonical"
+reading_mode Lines task.EncodeInOrder = codes "canonical"
+reading_mode input task = task_name task
+
+-- keys are sorted, and not because the run is strict
+abbrev pub sorts_keys : Doubles → Task → Bool
+sorts_keys Special task = false
+sorts_keys Finite (task.Write mode) = true
+sorts_keys Finite task.Encode = true
+sorts_keys Finite (task.Taken taking (work.Write mode)) = true
+sorts_keys Finite task = false
+
+abbrev pub is_strict : Doubles → Bool
+is_strict Special = true
+is_strict Finite = false
+
+abbrev pub taking_options : Task → List ℕ
+taking_options (task.Taken taking.Legacy work) = codes " --legacy"
+taking_options (task.Taken taking.Distinct work) = codes " --no-double-keys"
+taking_options (task.Taken taking.DistinctLegacy work) = codes " --legacy --no-double-keys"
+taking_options task = []
+
+abbrev pub option_if : Bool → (option : List ℕ) → List ℕ
+option_if is_given option = if is_given then option else []
+
+-- the mode and the options of a command that reads the input
+abbrev pub reading_words : Order → List ℕ
+reading_words order = reading_mode order.input order.task
+    ++ option_if (sorts_keys order.options.doubles order.task) (codes " --sort-keys")
+    ++ option_if (is_strict order.options.doubles) (codes " --strict") ++ taking_options order.task
 
 -- the line on standard error
 abbrev pub hint_line : (name : List ℕ) → Hint → (words : List ℕ) → List ℕ
 hint_line name it words = codes "bson: " ++ shown_name name (codes "input") ++ codes " " ++ told_of it words
+
+-- the line helps with an input whose first bytes these are
+abbrev pub IsHelpFor : Order → (name head line : List ℕ) → Type 0
+IsHelpFor order name head line = (rejected : Rejected) × (it : Hint) × (rejected.input ≡ order.input)
+    × (hint_of rejected head ≡ Some it) × (line ≡ hint_line name it (reading_words order))
+
+-- ---- how a run ended
+
+-- the error is that of a text
+abbrev pub is_of_text : Error → Bool
+is_of_text error.CannotRead = false
+is_of_text error.CannotWrite = false
+is_of_text error.OutOfMemory = false
+is_of_text other = true
+
+-- the error is that of a document
+abbrev pub is_of_document : RunFault → Bool
+is_of_document (run_fault.Malformed why offset) = true
+is_of_document run_fault.FiniteDouble = true
+is_of_document other = false
+
+-- an input was rejected, or a part of it
+abbrev pub is_rejected : Result Counts Stop → Bool
+is_rejected (Ok counts) = nat_lt 0 counts.refused
+is_rejected (Err (stop.Text name number fault place)) = is_of_text fault
+is_rejected (Err (stop.Document name end)) = is_of_document end.fault
+is_rejected (Err other) = false

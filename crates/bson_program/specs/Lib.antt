@@ -6,3 +6,4 @@ pub mod Stops
 pub mod Dump
 pub mod Whole
 pub mod Hints
+pub mod Texts

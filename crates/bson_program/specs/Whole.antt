@@ -1,19 +1,14 @@
--- What a run over one text does: all bytes of the input, behind a mark, are the text.
-use Rattle.std.specs.Prelude.{◌≡◌, ◌⊎◌, ◌-◌, ℕ, List, [], Option, None, Some, IsUtf8, drop, length, nat_eq, take, if◌then◌else◌}
-use Rattle.std.specs.Prelude.{string_bytes}
-use Rattle.std.specs.List.{ends_with, starts_with}
-use Rattle.std.specs.Io.KnownBytes.{Appends, Keeps}
+-- What one text gives.
+use Rattle.std.specs.Prelude.{◌≡◌, ◌⊎◌, ◌-◌, ℕ, List, [], Option, None, Some, length, nat_eq, take, if◌then◌else◌}
+use Rattle.std.specs.List.{ends_with}
 use Rattle.bson.specs.declared.extjson.options.Options.{Options}
 use Rattle.bson_convert.specs.Convert.{ConvertsIn, IsRefusedIn, IsUncanonicalIn, newline}
 use Rattle.bson_run.specs.Encode.{EncodesIn, EncodesInOrder, IsUnencodedIn, IsUnencodedInOrder}
 use Rattle.bson_run.specs.InOrder.{ConvertsInOrder}
-use Rattle.bson_run.specs.Lines.{ChecksIn, WritesText}
+use Rattle.bson_run.specs.Lines.{ChecksIn}
 use Rattle.bson_run.specs.Indent.{mode_of, ConvertsIndented, ConvertsInOrderIndented}
-use Rattle.bson_convert.specs.Run.{ReadsAll}
-use Rattle.bson_run.specs.Place.{IsWhere}
 use Rattle.bson_run.specs.Taken.{IsTakenAs, IsUntaken}
 use Rattle.bson_convert.specs.declared.error.Error.{Error}
-use Rattle.bson_convert.specs.declared.error.Error.TheVariants.{NotCanonical, NotJson, OutOfMemory}
 use Rattle.bson_convert.specs.declared.mode.Mode.{Mode}
 use Rattle.bson_convert.specs.declared.mode.Mode.TheVariants.{Show}
 use Rattle.bson_run.specs.declared.order.Criterion.{Criterion}
@@ -25,8 +20,6 @@ use Rattle.bson_run.specs.declared.order.Task.TheVariants.{Taken}
 use Rattle.bson_run.specs.declared.order.Work.{Work}
 use Rattle.bson_run.specs.declared.order.Work.TheVariants as work
 use Rattle.bson_program.specs.declared.order.Order.{Order}
-use Rattle.bson_program.specs.declared.run.Stop.{Stop}
-use Rattle.bson_program.specs.declared.run.Stop.TheVariants.{Input, Output, Text}
 
 -- ---- what a text gives
 
@@ -85,59 +78,3 @@ IsUngiven o EncodeInOrder fault text = IsUnencodedInOrder o fault text
 IsUngiven o (Taken taking work) fault text =
     IsUntaken taking fault text ⊎ ((taken : List ℕ) × IsTakenAs taking text taken × IsRefusedIn o fault taken)
 IsUngiven o task fault text = IsRefusedIn o fault text
-
--- ---- a run
---
--- Of a run, before and after are the bytes that the reader had left and has left, had and holds what the writer held
--- and holds: None where that is not known.
-
--- the text of an input is what stands behind the mark, if that stands at its start
-abbrev pub after_mark : (mark bytes : List ℕ) → List ℕ
-after_mark mark bytes = if starts_with nat_eq bytes mark then drop (length mark) bytes else bytes
-
--- all was read, and what the text gives was written
-pub record WholeDone (order : Order) (mark : List ℕ) (before after had holds : Option (List ℕ)) : Type 0 where
-  pub bytes : List ℕ
-  pub output : List ℕ
-  pub all : ReadsAll before after bytes
-  pub gives : WritesOutput order order.task (after_mark mark bytes) output
-  pub utf8 : WritesText order.task → IsUtf8 output
-  pub written : Appends had holds output
-
--- all was read, the text is refused, and nothing was written; this is where the fault lies, in words
-pub record WholeRefused (order : Order) (fault : Error) (place mark : List ℕ) (before after had holds : Option (List ℕ))
-    : Type 0 where
-  pub bytes : List ℕ
-  pub all : ReadsAll before after bytes
-  pub refused : IsUngiven order.options order.task fault (after_mark mark bytes)
-  pub lies : IsWhere (after_mark mark bytes) fault place
-  pub nothing : Keeps had holds
-
--- all was read, and the text gives an output, which was not written whole
-pub record WholeUnwritten (order : Order) (mark : List ℕ) (before after : Option (List ℕ)) : Type 0 where
-  pub bytes : List ℕ
-  pub output : List ℕ
-  pub all : ReadsAll before after bytes
-  pub gives : WritesOutput order order.task (after_mark mark bytes) output
-  pub utf8 : WritesText order.task → IsUtf8 output
-
--- what each fault of a text says of the bytes
-abbrev pub WholeFails : Order → Error → (place mark : List ℕ) → (before after had holds : Option (List ℕ)) → Type 0
-WholeFails order OutOfMemory place mark before after had holds = Keeps had holds × (place ≡ [])
-WholeFails order fault place mark before after had holds = WholeRefused order fault place mark before after had holds
-
--- what is no JSON has a line, and what is not canonical differs on the first
-abbrev pub HasLine : Error → (number : ℕ) → Type 0
-HasLine NotJson number = Unit {0}
-HasLine (NotCanonical column) number = number ≡ 1
-HasLine fault number = number ≡ 0
-
--- what each stop says of the bytes
-abbrev pub WholeStops : Order → Stop → (name mark : List ℕ) → (before after had holds : Option (List ℕ)) → Type 0
-WholeStops order (Input it error) name mark before after had holds = (it.now ≡ name) × Keeps had holds
-WholeStops order (Output it error) name mark before after had holds =
-    (it.now ≡ string_bytes order.output) × WholeUnwritten order mark before after
-WholeStops order (Text it number fault place) name mark before after had holds =
-    (it.now ≡ name) × WholeFails order fault (string_bytes place) mark before after had holds
-    × HasLine fault number
-WholeStops order other name mark before after had holds = ⊥

@@ -2,7 +2,7 @@
 ghost use Rattle.std.specs.Prelude.{◌≡◌, not, reverse};
 ghost use Rattle.std.specs.List.{find};
 ghost use Rattle.bson_program.specs.Hints.{behind_line, compression_of, doubles, hint_of_encoding, ends_in_zero, first_line};
-ghost use Rattle.bson_program.specs.Hints.{hint_of, hint_of_dump, hint_of_lines, hint_of_one, is_blank, is_dump};
+ghost use Rattle.bson_program.specs.Hints.{hint_of, hint_of_dump, hint_of_lines, hint_of_texts, is_blank, is_dump};
 ghost use Rattle.bson_program.specs.Hints.{has_content, is_high_first, is_length, is_low_first};
 ghost use Rattle.bson_program.specs.Hints.{is_opening, little, opens_over_lines, starts_text};
 
@@ -37,14 +37,12 @@ pub enum Hint {
     Utf16BigEndian,
     /// A text behind a byte order mark, which standard input may not have.
     Mark,
-    /// A text per line, where one text is expected.
-    TextPerLine,
-    /// One text over several lines, where a text per line is expected.
-    OneText,
-    /// The same where bytes are made of each line.
-    OneTextToEncode,
-    /// Several texts, each over several lines.
+    /// Several texts, which `--strict` rejects.
+    SeveralTexts,
+    /// Texts over several lines, if a text per line is expected.
     LongTexts,
+    /// Texts over several lines, if bytes are made of each line.
+    LongTextsToEncode,
     /// Numbers that `--strict` alone rejects.
     Doubles,
 }
@@ -60,9 +58,7 @@ pub struct Rejected {
     pub is_standard: bool,
     /// Whether a finite double was rejected, as `--strict` asks.
     pub has_double: bool,
-    /// Whether the first line is accepted as a text, and another text follows on later lines.
-    pub has_lines: bool,
-    /// Whether the first bytes are one text and the beginning of another.
+    /// Whether texts after the first were rejected, as `--strict` asks.
     pub has_more: bool,
 }
 
@@ -76,7 +72,7 @@ pub fn hint_for(rejected: Rejected, head: &[u8]) -> Option<Hint>
     match rejected.input {
         Input::Text => match encoding_of(head) {
             Some(hint) => Some(hint),
-            None => hint_for_one(rejected, head),
+            None => hint_for_texts(rejected, head),
         },
         Input::Lines => match encoding_of(head) {
             Some(hint) => Some(hint),
@@ -86,15 +82,15 @@ pub fn hint_for(rejected: Rejected, head: &[u8]) -> Option<Hint>
     }
 }
 
-// What helps where one text is expected.
-fn hint_for_one(rejected: Rejected, head: &[u8]) -> Option<Hint>
-    ensures { result ≡ hint_of_one rejected head.now }
+// What helps where texts are expected.
+fn hint_for_texts(rejected: Rejected, head: &[u8]) -> Option<Hint>
+    ensures { result ≡ hint_of_texts rejected head.now }
 {
     if rejected.is_standard && head.starts_with(b"\xef\xbb\xbf") {
         return Some(Hint::Mark);
     }
-    if rejected.has_lines {
-        return Some(Hint::TextPerLine);
+    if rejected.has_more {
+        return Some(Hint::SeveralTexts);
     }
     doubles(rejected.has_double)
 }
@@ -107,13 +103,10 @@ fn hint_for_lines(rejected: Rejected, head: &[u8]) -> Option<Hint>
     if !opens(line) || !has_content(rest) {
         return doubles(rejected.has_double);
     }
-    if rejected.has_more {
-        return Some(Hint::LongTexts);
-    }
     if rejected.encodes {
-        Some(Hint::OneTextToEncode)
+        Some(Hint::LongTextsToEncode)
     } else {
-        Some(Hint::OneText)
+        Some(Hint::LongTexts)
     }
 }
 
@@ -259,8 +252,8 @@ fn opens(line: &[u8]) -> bool
     }
 }
 
-/// Returns whether a byte is not blank.
-pub fn has_content(bytes: &[u8]) -> bool
+// Whether a byte is not blank.
+fn has_content(bytes: &[u8]) -> bool
     ensures { result ≡ has_content bytes.now }
 {
     first_content(bytes).is_some()
@@ -292,8 +285,8 @@ fn is_blank(byte: u8) -> bool
     byte == b' ' || byte == b'\t' || byte == b'\r' || byte == b'\n'
 }
 
-/// The first line, with its newline, and what stands behind it.
-pub fn split_line(head: &[u8]) -> (&[u8], &[u8])
+// The first line, with its newline, and the bytes after it.
+fn split_line(head: &[u8]) -> (&[u8], &[u8])
     ensures line { result.0.now ≡ first_line head.now }
     ensures rest { result.1.now ≡ behind_line head.now }
 {

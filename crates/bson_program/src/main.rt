@@ -2,8 +2,8 @@
 //! dumps, all of them with the words that its user gave.
 //!
 //! The library `bson_run` converts. This crate has the arguments (`order`, `arguments`, `values`,
-//! `choices`, `fits`), the files (`run`, `streams`, `output`; `whole` for one text, `dump` for BSON
-//! documents), the line of progress (`progress`), the lines on standard error (`messages`, `misuse`,
+//! `choices`, `fits`), the files (`run`, `streams`, `output`; `texts` for JSON texts with `whole` for
+//! each, `dump` for BSON documents), the line of progress (`progress`), the lines on standard error (`messages`, `misuse`,
 //! `hints`, `rejected`), the help (`words`) and the statuses.
 #![tactic(auto)]
 
@@ -20,6 +20,7 @@ mod progress;
 mod rejected;
 mod run;
 mod streams;
+mod texts;
 mod values;
 mod whole;
 mod words;

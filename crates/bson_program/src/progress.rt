@@ -97,7 +97,7 @@ impl<'a> Progress<'a> {
 }
 
 // Whether verdicts tell of a number that is read without `--strict`.
-fn reports_duplicate(verdicts: &[u8]) -> bool {
+fn reports_double(verdicts: &[u8]) -> bool {
     match str::from_utf8(verdicts) {
         Ok(text) => text.contains(NO_INTEGER) || text.contains(FINITE_DOUBLE),
         Err(_) => false,
@@ -178,7 +178,7 @@ impl<T: Write> Verdicts<'_, T> {
 impl<T: Write> Write for Verdicts<'_, T> {
     fn write(&mut self, buf: &[u8]) -> io::Result<usize> {
         self.progress.clear();
-        self.has_double = self.has_double || reports_duplicate(buf);
+        self.has_double = self.has_double || reports_double(buf);
         match self.put(buf) {
             Ok(()) => {
                 let refused = self.progress.refused.get();

@@ -1,22 +1,20 @@
 //! What is told beside the error of an input: what it holds instead, and what reads that.
-ghost use Rattle.std.specs.Prelude.{◌≡◌, IfOk, string_bytes};
-ghost use Rattle.bson_program.specs.Hints.{hint_line, told_of};
+ghost use Rattle.std.specs.Prelude.{◌≡◌, IfOk, IfSome, string_bytes};
+ghost use Rattle.bson_program.specs.Hints.{IsHelpFor, hint_line, is_rejected, is_strict, option_if, reading_mode, reading_words};
+ghost use Rattle.bson_program.specs.Hints.{sorts_keys, taking_options, told_of};
 
-use crate::hints::{Hint, Rejected, has_content, hint_for, split_line};
+use crate::hints::{Hint, Rejected, hint_for};
 use crate::messages::show_name;
 use crate::misuse::task_name;
 use crate::order::{Input, Order, STANDARD};
 use crate::run::Stop;
 use bson::extjson::{Doubles, Options};
 use bson_codec::run_end::RunFault;
-use bson_convert::convert::convert_sorted;
 use bson_convert::error::Error;
-use bson_convert::mode::Mode;
 use bson_run::lines::Counts;
 use bson_run::order::{Taking, Task, Work};
 use bson_run::rule::Rule;
 use bson_run::stop;
-use bson_run::taken::take_as;
 use bson_scalar::doubles::NUMBER;
 use bson_tree::place::{Place, Reason};
 use std::alloc::{AllocError, Global};
@@ -31,10 +29,9 @@ const UTF_16_LITTLE_ENDIAN: &str =
 const UTF_16_BIG_ENDIAN: &str =
     "is UTF-16, and JSON is UTF-8; give it through 'iconv -f UTF-16BE -t UTF-8'";
 
-const MARK: &str = "begins with a byte order mark, which only a named file may";
+const SEVERAL_TEXTS: &str = "has several texts, which are read without --strict";
 
-const LONG_TEXTS: &str =
-    "holds texts of several lines; write each on a line of its own, as mongoexport without '--pretty' does";
+const MARK: &str = "begins with a byte order mark, which only a named file may";
 
 /// Returns the line that helps with an input that was rejected, whose first bytes these are; nothing
 /// where it was not, or where nothing helps.
@@ -44,28 +41,30 @@ pub fn rejection_help(
     name: &str,
     head: &[u8],
     has_double: bool,
-) -> Option<String> {
-    let text = without_mark(head);
-    let accepted = accepted_line(alloc, order, text);
+) -> Option<String>
+    ensures { IfSome result (λ line. IsHelpFor order.now name.now head.now (string_bytes line)) }
+{
     let rejected = Rejected {
         input: order.input,
         encodes: order.writes_bytes(),
         is_standard: name == STANDARD,
         has_double,
-        has_lines: accepted.is_some(),
-        has_more: has_more(alloc, order.input, text),
+        has_more: has_more(alloc, order, head),
     };
     let hint = hint_for(rejected, head)?;
-    let options = match (hint, accepted) {
-        (Hint::TextPerLine, Some(options)) => options,
-        _ => order.options,
+    let Ok(words) = words_of(alloc, order) else {
+        return None;
     };
-    let words = words_of(alloc, order, options).ok()?;
-    hint_line(alloc, name, hint, words.as_str()).ok()
+    match hint_line(alloc, name, hint, words.as_str()) {
+        Ok(line) => Some(line),
+        Err(_) => None,
+    }
 }
 
 /// Whether a run over one file ended with a rejected input, or passed some of it over.
-pub fn is_rejected(ended: &Result<Counts, Stop<'_>>) -> bool {
+pub fn is_rejected(ended: &Result<Counts, Stop<'_>>) -> bool
+    ensures { result ≡ is_rejected ended.now }
+{
     match ended {
         Ok(counts) => counts.refused > 0,
         Err(Stop::Text(_, _, fault, _)) => {
@@ -104,83 +103,57 @@ fn is_double(place: &Place) -> bool {
     }
 }
 
-// The text behind a byte order mark.
-fn without_mark(head: &[u8]) -> &[u8] {
-    if head.starts_with(b"\xef\xbb\xbf") {
-        &head[3..]
-    } else {
-        head
-    }
-}
-
-// The options with which the first line is accepted, where one text is expected and others follow it
-// on later lines; `--strict` may be what rejects it.
-fn accepted_line(alloc: Global, order: &Order, text: &[u8]) -> Option<Options> {
-    let (line, rest) = split_line(text);
-    if order.input != Input::Text || !has_content(rest) {
-        return None;
-    }
-    if is_accepted(alloc, order.task, order.options, line) {
-        return Some(order.options);
-    }
-    let options = Options {
-        doubles: Doubles::Finite,
-        ..order.options
-    };
-    if is_accepted(alloc, order.task, options, line) {
-        Some(options)
-    } else {
-        None
-    }
-}
-
-// Whether the line is a text that the task accepts.
-fn is_accepted(alloc: Global, task: Task, options: Options, line: &[u8]) -> bool {
-    let taken = match task {
-        Task::Taken(taking, _) => take_as(alloc, taking, line),
-        _ => Ok(None),
-    };
-    let text = match &taken {
-        Ok(Some(newer)) => newer.as_bytes(),
-        Ok(None) => line,
-        Err(_) => return false,
-    };
-    convert_sorted(alloc, options, Mode::Canonical, text).is_ok()
-}
-
-// Whether the first bytes are one text and more, where a text per line is expected.
-fn has_more(alloc: Global, input: Input, text: &[u8]) -> bool {
-    if input != Input::Lines {
+// Whether the run is strict, and the first bytes are one text and more.
+fn has_more(alloc: Global, order: &Order, head: &[u8]) -> bool {
+    if order.input != Input::Text || order.options.doubles == Doubles::Finite {
         return false;
     }
-    match stop::Stop::of(alloc, text) {
+    match stop::Stop::of(alloc, head) {
         Ok(stop) => stop.rule == Rule::TrailingData,
         Err(_) => false,
     }
 }
 
 // The mode and the options of a command that reads the input.
-fn words_of(alloc: Global, order: &Order, options: Options) -> Result<String, AllocError> {
+fn words_of(alloc: Global, order: &Order) -> Result<String, AllocError>
+    ensures { IfOk result (λ words. string_bytes words ≡ reading_words order.now) }
+{
     let mode = mode_for(order);
-    let sorts_keys = word_if(is_sorted(order), " --sort-keys");
-    let strict = word_if(options.doubles == Doubles::Special, " --strict");
-    let taking = words_of_taking(order.task);
+    let doubles = order.options.doubles;
+    let sorts_keys = option_if(sorts_keys(doubles, order.task), " --sort-keys");
+    let strict = option_if(is_strict(doubles), " --strict");
+    let taking = taking_options(order.task);
     format!(in alloc; "{mode}{sorts_keys}{strict}{taking}")
 }
 
-// The mode of a command that reads the input: of one text where a text per line is expected.
-fn mode_for(order: &Order) -> &'static str {
-    match (order.input, task_name(order.task)) {
-        (Input::Lines, "check" | "encode") => "canonical",
-        (_, mode) => mode,
+// The mode of a command that reads the input.
+fn mode_for(order: &Order) -> &'static str
+    ensures { result.now ≡ reading_mode order.now.input order.now.task }
+{
+    match (order.input, order.task) {
+        (Input::Lines, Task::Encode | Task::EncodeInOrder) => "canonical",
+        (_, task) => task_name(task),
     }
 }
 
-fn word_if(is_given: bool, word: &'static str) -> &'static str {
-    if is_given { word } else { "" }
+fn is_strict(doubles: Doubles) -> bool
+    ensures { result ≡ is_strict doubles }
+{
+    match doubles {
+        Doubles::Special => true,
+        Doubles::Finite => false,
+    }
 }
 
-fn words_of_taking(task: Task) -> &'static str {
+fn option_if(is_given: bool, option: &'static str) -> &'static str
+    ensures { result.now ≡ option_if is_given option.now }
+{
+    if is_given { option } else { "" }
+}
+
+fn taking_options(task: Task) -> &'static str
+    ensures { result.now ≡ taking_options task }
+{
     match task {
         Task::Taken(Taking::Legacy, _) => " --legacy",
         Task::Taken(Taking::Distinct, _) => " --no-double-keys",
@@ -189,12 +162,15 @@ fn words_of_taking(task: Task) -> &'static str {
     }
 }
 
-// Whether keys are sorted, and not for the sake of the specification.
-fn is_sorted(order: &Order) -> bool {
-    match order.task {
-        _ if order.options.doubles == Doubles::Special => false,
-        Task::Write(_) | Task::Encode | Task::Taken(_, Work::Write(_)) => true,
-        _ => false,
+// Whether keys are sorted, and not because the run is strict.
+fn sorts_keys(doubles: Doubles, task: Task) -> bool
+    ensures { result ≡ sorts_keys doubles task }
+{
+    match doubles {
+        Doubles::Special => false,
+        Doubles::Finite => {
+            matches!(task, Task::Write(_) | Task::Encode | Task::Taken(_, Work::Write(_)))
+        }
     }
 }
 
@@ -217,16 +193,12 @@ fn tell(alloc: Global, hint: Hint, words: &str) -> Result<String, AllocError>
                 "holds text, and no BSON bytes; './bson lines {words}' reads a document per line"
             )
         }
-        Hint::TextPerLine => {
-            format!(in alloc; "holds several texts; './bson lines {words}' reads one per line")
+        Hint::SeveralTexts => String::from_str(alloc, SEVERAL_TEXTS),
+        Hint::LongTexts => {
+            format!(in alloc; "has texts over several lines; './bson {words}' reads them")
         }
-        Hint::OneText => {
-            format!(in alloc; "is one text over several lines, it seems; './bson {words}' reads it")
-        }
-        Hint::OneTextToEncode => {
-            format!(in alloc;
-                "is one text over several lines, it seems; './bson {words}' makes a line of it"
-            )
+        Hint::LongTextsToEncode => {
+            format!(in alloc; "has texts over several lines; './bson {words}' makes a line of each")
         }
         Hint::Gzip => String::from_str(alloc, "is compressed; give it through 'gzip -dc'"),
         Hint::Zstd => String::from_str(alloc, "is compressed; give it through 'zstd -dc'"),
@@ -241,7 +213,6 @@ fn tell(alloc: Global, hint: Hint, words: &str) -> Result<String, AllocError>
         Hint::Utf16LittleEndian => String::from_str(alloc, UTF_16_LITTLE_ENDIAN),
         Hint::Utf16BigEndian => String::from_str(alloc, UTF_16_BIG_ENDIAN),
         Hint::Mark => String::from_str(alloc, MARK),
-        Hint::LongTexts => String::from_str(alloc, LONG_TEXTS),
         Hint::Doubles => String::from_str(alloc, "has numbers that are read without --strict"),
     }
 }

@@ -11,20 +11,16 @@ use crate::output::Output;
 use crate::progress::{Counted, Progress, Verdicts};
 use crate::rejected::{ends_at_double, is_rejected, rejection_help};
 use crate::streams::{Sink, Source};
-use crate::whole::convert_whole;
+use crate::texts::convert_texts;
 use bson_codec::run_end::RunEnd;
 use bson_convert::error;
 use bson_run::lines::{Counts, LineRun};
-use bson_run::order::{Criterion, Task};
 use std::alloc::Global;
 use std::fs;
 use std::fs::{File, Metadata};
 use std::io::{Error, IsTerminal};
 use std::os::unix::fs::MetadataExt;
 use std::rt::Stderr;
-
-/// What may stand before the one text of a named file, unless that has to be canonical.
-const BYTE_ORDER_MARK: &[u8] = b"\xef\xbb\xbf";
 
 /// Why a run could not go on, with the name of the file that it happened at; `-` is a standard
 /// stream.
@@ -179,7 +175,7 @@ pub fn write_stop<'a>(order: &'a Order, sink: &Sink, report: &Verdicts<'_, Stder
     }
 }
 
-// Converts the one text of a file.
+// Converts the texts of a file.
 fn run_text<'a>(
     rt: &HostRuntime,
     order: &'a Order,
@@ -187,12 +183,7 @@ fn run_text<'a>(
     reader: &mut Counted<'_, Source>,
     sink: &mut Sink,
 ) -> Result<Counts, Stop<'a>> {
-    let mark = if name == STANDARD || order.task == Task::Check(Criterion::Canonical) {
-        b"".as_slice()
-    } else {
-        BYTE_ORDER_MARK
-    };
-    match convert_whole(rt.alloc(), order, name, mark, reader, sink) {
+    match convert_texts(rt.alloc(), order, name, reader, sink) {
         Ok(()) => Ok(Counts {
             lines: 1,
             refused: 0,

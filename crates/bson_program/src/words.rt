@@ -37,18 +37,20 @@ pub const USAGE: &str = "usage: bson canonical|relaxed|show|check [OPTION ..] [F
 /// The help of `canonical`, `relaxed`, `show` and `check`.
 const TEXT: &str = "usage: bson canonical|relaxed|show|check [OPTION ..] [FILE]
 
-Reads one JSON document from FILE or standard input as MongoDB Extended JSON v2, and writes:
+Reads JSON documents from FILE or standard input as MongoDB Extended JSON v2: one document, or several with white space
+between. For each it writes one line:
   canonical   its canonical form, which keeps every type
   relaxed     its relaxed form, with plain numbers, and with dates as strings
   show        the value as the library's Display writes it, which is not JSON
   check       nothing; it only reports a rejected document
 
   --sort-keys             (not check) writes keys in ascending order at every depth
-  --strict                accepts of all doubles only zeros, infinities and NaNs; keys are written in ascending order
+  --strict                reads one document, and accepts of all doubles only zeros, infinities and NaNs; keys are
+                          written in ascending order
   --legacy                also reads three objects of Extended JSON v1
   --no-double-keys        rejects input in which an object has a duplicate key, at any depth
   --canonical             (check) accepts only canonical JSON, byte for byte as `canonical --sort-keys` writes it
-  --indent N              (canonical, relaxed) writes the document over several lines, with N spaces for each bracket
+  --indent N              (canonical, relaxed) writes each document over several lines, with N spaces for each bracket
   -o FILE, --output FILE  (not check) writes the output to FILE, as a whole at the end
 
 `bson --help` says more of each option, and lists the statuses.";
@@ -107,7 +109,8 @@ pub const HELP: &str = "usage: bson canonical|relaxed|show|check [OPTION ..] [FI
        bson decode canonical|relaxed|show|check [OPTION ..] [FILE ..]
        bson encode [OPTION ..] [FILE ..]
 
-Reads one JSON document from FILE or standard input as MongoDB Extended JSON v2, in either form or mixed, and writes:
+Reads JSON documents from FILE or standard input as MongoDB Extended JSON v2, in either form or mixed: one document, or
+several with white space between. For each it writes one line:
   canonical   its canonical form, which keeps every type
   relaxed     its relaxed form, with plain numbers, and with dates as strings
   show        the value as the library's Display writes it, which is not JSON
@@ -117,7 +120,7 @@ Keys keep the order of the input. A duplicate key has its last value at its firs
 64-bit integer, such as 1.5, is read as the nearest double. A double is written as its shortest decimal.
 
 Input is rejected, with one line on standard error, if it is not JSON. It is also rejected if a wrapper, such as
-{\"$oid\": ..}, does not have its shape. One file has one document, which nests at most 127 levels deep.
+{\"$oid\": ..}, does not have its shape. A document nests at most 127 levels deep.
 
 `lines` reads one document per line, from files or standard input, in the memory of the longest line. A rejected line is
 reported as FILE:LINE:, or with its number for standard input. `check` writes only these reports.
@@ -134,7 +137,8 @@ a regular expression has a 0 byte. Each part must have fewer than 2^31 bytes. By
                           have equal output
   --strict                (not decode show, decode check) accepts of all doubles only zeros, infinities and NaNs, and
                           rejects numbers such as 1.5 and 0.0; a double zero is {\"$numberDouble\": \"0.0\"}. Keys are
-                          written in ascending order at every depth
+                          written in ascending order at every depth. A file has one document, unless `lines` or
+                          `encode` reads it
   --legacy                (not decode, encode) also reads three objects of Extended JSON v1, as those of v2: $binary
                           with $type, $regex with $options, and a $date whose offset has no colon, such as +0100. The
                           keys of a scope stay as they are
@@ -157,9 +161,8 @@ the run is rejected before anything is read. A byte order mark at the start of a
 
 Status:
   0    done; no line or document was rejected
-  1    the input was rejected, or a file could not be read or written as a whole. The output of one document is empty.
-       For `lines`, `decode` and `encode` it has everything before the error, and with --keep-going all that was not
-       rejected
+  1    the input was rejected, or a file could not be read or written as a whole. The output has every document before
+       the error, and with --keep-going all that were not rejected
   2    wrong arguments
   3    the program is not built, and cannot be built here
   141  nobody reads the output any more

@@ -1,0 +1,290 @@
+-- The texts of a sequence, one after the other, and where a run over them stops.
+use Rattle.std.proofs.Common.{◌≡◌, ◌⊎◌, inl, inr, ◌<◌, ◌≤◌, ◌+◌, ◌-◌, ℕ, zero, suc, Bool, true, false, cond, List, [], ◌∷◌, ◌++◌, Option, Result, Ok, Err, OnOk, IfErr}
+use Rattle.std.proofs.Common.{length, drop, take, refl, ap, sym, subst, ◌∙◌, append_assoc, append-nil, length-append, nat_lt, arith}
+use Rattle.std.proofs.KnownBytes.{Appends-nil, Appends-trans, Keeps-refl}
+use Rattle.std.proofs.lemmas.Bool.Decides.{nat_tests}
+use Rattle.std.proofs.lemmas.Str.{IsUtf8-append, IsUtf8-nil}
+use Rattle.std.specs.Prelude.{IsUtf8}
+use Rattle.std.specs.Io.KnownBytes.{Appends}
+use Rattle.bson_json.specs.Sequence.{filled, parts, texts_in, with_part}
+use Rattle.bson_convert.specs.declared.error.Error.{Error}
+use Rattle.bson_convert.specs.declared.error.Error.TheVariants.{CannotRead, CannotWrite, NotJson, NotExtendedJson}
+use Rattle.bson_convert.specs.declared.error.Error.TheVariants.{NoBytes, NotCanonical, OutOfMemory}
+use Rattle.bson_convert.specs.Run.{ReadsAll}
+use Rattle.bson_run.specs.Accepted.{HasOutput, IsUtf8Accepted}
+use Rattle.bson_run.specs.declared.accepted.Accepted.{Accepted}
+use Rattle.bson_run.specs.Lines.{WritesText}
+use Rattle.bson_run.specs.Place.{IsWhere}
+use Rattle.bson_program.specs.Texts.{AcceptedStops, AreWritten, HasLine, IsNotJson, IsSequence, IsTextDone, StopsAt, TextFails}
+use Rattle.bson_program.specs.Texts.{TextStops, TextsDone, TextsStop, WritesAccepted, WritesAll, content_of, is_sequence}
+use Rattle.bson_program.specs.Texts.AreWritten.{no_texts, one_more}
+use Rattle.bson_program.specs.Whole.{IsUngiven, WritesOutput}
+use Rattle.bson_program.specs.declared.order.Order.{Order}
+use Rattle.bson_program.specs.declared.run.Stop.{Stop}
+use Rattle.bson_program.specs.declared.run.Stop.TheVariants as stops
+
+-- ---- how many there are
+
+nothing_in : texts_in [] ≡ []
+unfolding filled parts
+nothing_in = refl
+
+-- a part without bytes is not a text
+no_text : (text : List ℕ) (texts : List (List ℕ)) → length text ≡ 0 → with_part text texts ≡ texts
+no_text [] texts none = refl
+no_text (x ∷ xs) texts none = absurd (omega (arith, none))
+
+one_text : (text : List ℕ) (texts : List (List ℕ)) → 0 < length text → with_part text texts ≡ text ∷ texts
+one_text [] texts some = absurd (omega (arith, some))
+one_text (x ∷ xs) texts some = refl
+
+none_left : (rest : List ℕ) → length rest ≡ 0 → texts_in rest ≡ []
+none_left [] none = nothing_in
+none_left (x ∷ xs) none = absurd (omega (arith, none))
+
+-- all texts are the one that was found, if it was, and those that are left
+abbrev pub AreCounted : (content rest : List ℕ) → (has_one : Bool) → Type 0
+AreCounted content rest has_one = length (texts_in content) ≡ cond has_one 1 0 + length (texts_in rest)
+
+at_most_one : (has_one : Bool) (all : ℕ) → all ≡ cond has_one 1 0 + 0 → false ≡ nat_lt 1 all
+at_most_one true all is = grind (arith, nat_tests, is)
+at_most_one false all is = grind (arith, nat_tests, is)
+
+pub less_than_two : (content rest : List ℕ) (has_one : Bool) → length rest ≡ 0 → AreCounted content rest has_one
+    → false ≡ nat_lt 1 (length (texts_in content))
+less_than_two content rest has_one none before =
+    at_most_one has_one (length (texts_in content))
+    (before ∙ ap (λ ts. cond has_one 1 0 + length ts) (none_left rest none))
+
+-- ---- a run over them
+
+-- the outputs of the texts before the rest were written
+pub record Reaches (order : Order) (content rest : List ℕ) (had holds : Option (List ℕ)) : Type 0 where
+  pub done : List (List ℕ)
+  pub written : List ℕ
+  pub texts : texts_in content ≡ done ++ texts_in rest
+  pub outputs : AreWritten order done written
+  pub utf8 : WritesText order.task → IsUtf8 written
+  pub kept : Appends had holds written
+  pub front : List ℕ
+  pub behind : content ≡ front ++ rest
+
+module _ (order : Order) (content : List ℕ) (had : Option (List ℕ)) where
+  pub starts : Reaches order content content had had
+  starts = record {
+    done = [];
+    written = [];
+    texts = refl;
+    outputs = no_texts;
+    utf8 = λ w. IsUtf8-nil;
+    kept = Appends-nil had;
+    front = [];
+    behind = refl;
+  }
+
+  -- where the bytes after a text begin
+  pub record IsAfter (rest text next : List ℕ) : Type 0 where
+    pub between : List ℕ
+    pub splits : rest ≡ text ++ (between ++ next)
+
+  after : (rest text next : List ℕ) → ((rest ≡ text) × (next ≡ [])) ⊎ ((x : ℕ) × (rest ≡ text ++ x ∷ next)) → IsAfter rest text next
+  after rest text next (inl is) = record {
+    between = [];
+    splits = is.0 ∙ sym (append-nil text) ∙ ap (λ l. text ++ l) (sym is.1);
+  }
+  after rest text next (inr (x, is)) = record { between = x ∷ []; splits = is }
+
+  moved : (front rest text next : List ℕ) (a : IsAfter rest text next) → content ≡ front ++ rest
+      → content ≡ (front ++ (text ++ a.between)) ++ next
+  moved front rest text next a is =
+      is ∙ ap (λ l. front ++ l) (a.splits ∙ sym (append_assoc text a.between next))
+      ∙ sym (append_assoc front (text ++ a.between) next)
+
+  pub passes : (rest text next : List ℕ) (holds : Option (List ℕ)) → texts_in rest ≡ with_part text (texts_in next)
+      → ((rest ≡ text) × (next ≡ [])) ⊎ ((x : ℕ) × (rest ≡ text ++ x ∷ next)) → length text ≡ 0
+      → Reaches order content rest had holds → Reaches order content next had holds
+  passes rest text next holds found place none r =
+      let a = after rest text next place in
+      record {
+        done = r.done;
+        written = r.written;
+        texts = r.texts ∙ ap (λ ts. r.done ++ ts) (found ∙ no_text text (texts_in next) none);
+        outputs = r.outputs;
+        utf8 = r.utf8;
+        kept = r.kept;
+        front = r.front ++ (text ++ a.between);
+        behind = moved r.front rest text next a r.behind;
+      }
+
+  pub goes_on : (rest text next : List ℕ) (held holds : Option (List ℕ)) → texts_in rest ≡ with_part text (texts_in next)
+      → ((rest ≡ text) × (next ≡ [])) ⊎ ((x : ℕ) × (rest ≡ text ++ x ∷ next)) → 0 < length text
+      → IsTextDone order text held holds → Reaches order content rest had held → Reaches order content next had holds
+  goes_on rest text next held holds found place some t r =
+      let a = after rest text next place in
+      record {
+        done = r.done ++ text ∷ [];
+        written = r.written ++ t.output;
+        texts = r.texts ∙ ap (λ ts. r.done ++ ts) (found ∙ one_text text (texts_in next) some)
+            ∙ sym (append_assoc r.done (text ∷ []) (texts_in next));
+        outputs = one_more text t.output r.outputs t.has.gives;
+        utf8 = λ w. IsUtf8-append r.written t.output (r.utf8 w) (t.has.utf8 w);
+        kept = Appends-trans had held holds r.written t.output r.kept t.written;
+        front = r.front ++ (text ++ a.between);
+        behind = moved r.front rest text next a r.behind;
+      }
+
+  pub ends : (rest : List ℕ) (holds : Option (List ℕ)) → length rest ≡ 0 → Reaches order content rest had holds
+      → WritesAll order content had holds
+  ends rest holds none r = record {
+    output = r.written;
+    outputs = subst (λ ts. AreWritten order ts r.written)
+        (sym (r.texts ∙ ap (λ ts. r.done ++ ts) (none_left rest none) ∙ append-nil r.done)) r.outputs;
+    utf8 = r.utf8;
+    written = r.kept;
+  }
+
+-- ---- where it stops
+
+take_front : (xs ys : List ℕ) → take (length xs) (xs ++ ys) ≡ xs
+take_front [] ys = refl
+take_front (x ∷ xs) ys = ap (λ l. x ∷ l) (take_front xs ys)
+
+drop_front : (xs ys : List ℕ) → drop (length xs) (xs ++ ys) ≡ ys
+drop_front [] ys = refl
+drop_front (x ∷ xs) ys = drop_front xs ys
+
+front_len : (front rest content : List ℕ) → content ≡ front ++ rest → length content - length rest ≡ length front
+front_len front rest content is = omega (arith, ap length is, length-append front rest)
+
+-- after the front of the bytes comes what a text begins
+text_there : (front rest text between next content : List ℕ) → content ≡ front ++ rest → rest ≡ text ++ (between ++ next)
+    → take (length text) (drop (length content - length rest) content) ≡ text
+text_there front rest text between next content is splits =
+    ap (λ n. take (length text) (drop n content)) (front_len front rest content is)
+    ∙ ap (λ l. take (length text) (drop (length front) l)) is
+    ∙ ap (take (length text)) (drop_front front rest)
+    ∙ ap (take (length text)) splits
+    ∙ take_front text (between ++ next)
+
+pub stops_in : (order : Order) (stop : Stop) (name content rest text next : List ℕ) (had held holds : Option (List ℕ))
+    → texts_in rest ≡ with_part text (texts_in next)
+    → ((rest ≡ text) × (next ≡ [])) ⊎ ((x : ℕ) × (rest ≡ text ++ x ∷ next)) → 0 < length text
+    → Reaches order content rest had held
+    → TextStops order stop name content (length content - length rest) text held holds
+    → IsSequence order content → StopsAt order stop name content had holds
+stops_in order stop name content rest text next had held holds found place some r stops sequence =
+    let a = after order content had rest text next place in
+    record {
+      text = text;
+      start = length content - length rest;
+      written = r.written;
+      held = held;
+      is = inr (record {
+        done = r.done;
+        rest = texts_in next;
+        sequence = sequence;
+        texts = r.texts ∙ ap (λ ts. r.done ++ ts) (found ∙ one_text text (texts_in next) some);
+        begins = text_there r.front rest text a.between next content r.behind a.splits;
+        outputs = r.outputs;
+      });
+      before = r.kept;
+      stops = stops;
+    }
+
+-- the text is rejected for the error, with the words for it
+pub text_fails : (order : Order) (fault : Error) (place content text : List ℕ) (start number : ℕ)
+    → IsUngiven order.options order.task fault text → IsWhere text fault place → HasLine fault content start text number
+    → TextFails order fault place number content start text
+text_fails order OutOfMemory place content text start number is lies line = (line, lies)
+text_fails order CannotRead place content text start number is lies line = (is, lies, line)
+text_fails order CannotWrite place content text start number is lies line = (is, lies, line)
+text_fails order NotJson place content text start number is lies line = (is, lies, line)
+text_fails order (NotExtendedJson at) place content text start number is lies line = (is, lies, line)
+text_fails order (NoBytes why) place content text start number is lies line = (is, lies, line)
+text_fails order (NotCanonical column) place content text start number is lies line = (is, lies, line)
+
+-- all bytes are the text at which a run stops
+pub stops_whole : (order : Order) (stop : Stop) (name content : List ℕ) (had holds : Option (List ℕ))
+    → (IsNotJson stop → is_sequence order content ≡ false) → TextStops order stop name content 0 content had holds
+    → StopsAt order stop name content had holds
+stops_whole order stop name content had holds alone stops = record {
+  text = content;
+  start = 0;
+  written = [];
+  held = had;
+  is = inl (record { whole = refl; first = refl; nothing = refl; alone = alone });
+  before = Appends-nil had;
+  stops = stops;
+}
+
+-- all was read before it
+pub reads_and_stops : (order : Order) (stop : Stop) (name content bytes : List ℕ) (before after had holds : Option (List ℕ))
+    → ReadsAll before after bytes → content ≡ content_of order name bytes → StopsAt order stop name content had holds
+    → TextsStop order stop name before after had holds
+reads_and_stops order stop name content bytes before after had holds all is at = inr (record {
+  bytes = bytes;
+  all = all;
+  at = subst (λ c. StopsAt order stop name c had holds) is at;
+})
+
+module _ (order : Order) (name content : List ℕ) (accepted : Accepted) (had holds : Option (List ℕ))
+    (has : HasOutput order.options (WritesOutput order order.task content) accepted)
+    (utf8 : WritesText order.task → IsUtf8Accepted accepted) where
+  pub one_text_done : (before after : Option (List ℕ)) (bytes : List ℕ) → ReadsAll before after bytes
+      → content ≡ content_of order name bytes → WritesAccepted order accepted had holds
+      → TextsDone order name before after had holds
+  one_text_done before after bytes all is w = record {
+    bytes = bytes;
+    output = w.output;
+    all = all;
+    gives = inl (subst (λ c. WritesOutput order order.task c w.output) is (has.given w.output w.outputs));
+    utf8 = λ t. w.utf8 (utf8 t);
+    written = w.written;
+  }
+
+  one_text_stops : (stop : Stop) → AcceptedStops order stop name accepted had holds
+      → TextStops order stop name content 0 content had holds
+  one_text_stops (stops.Output it error) h = (h.0, (h.1.0, record {
+    gives = has.given h.1.0 h.1.1;
+    utf8 = λ t. h.1.2 (utf8 t);
+  }))
+  one_text_stops (stops.Text it number OutOfMemory place) h = (h.0, (h.1, h.2), h.3)
+  one_text_stops (stops.Text it number CannotRead place) h = absurd h
+  one_text_stops (stops.Text it number CannotWrite place) h = absurd h
+  one_text_stops (stops.Text it number NotJson place) h = absurd h
+  one_text_stops (stops.Text it number (NotExtendedJson at) place) h = absurd h
+  one_text_stops (stops.Text it number (NoBytes why) place) h = absurd h
+  one_text_stops (stops.Text it number (NotCanonical column) place) h = absurd h
+  one_text_stops (stops.Input it error) h = absurd h
+  one_text_stops (stops.Both it) h = absurd h
+  one_text_stops stops.Terminal h = absurd h
+  one_text_stops (stops.Document it end) h = absurd h
+
+  no_syntax_error : (stop : Stop) → AcceptedStops order stop name accepted had holds → IsNotJson stop
+      → is_sequence order content ≡ false
+  no_syntax_error (stops.Text it number OutOfMemory place) h is = absurd is
+  no_syntax_error (stops.Text it number CannotRead place) h is = absurd is
+  no_syntax_error (stops.Text it number CannotWrite place) h is = absurd is
+  no_syntax_error (stops.Text it number NotJson place) h is = absurd h
+  no_syntax_error (stops.Text it number (NotExtendedJson at) place) h is = absurd is
+  no_syntax_error (stops.Text it number (NoBytes why) place) h is = absurd is
+  no_syntax_error (stops.Text it number (NotCanonical column) place) h is = absurd is
+  no_syntax_error (stops.Output it error) h is = absurd is
+  no_syntax_error (stops.Input it error) h is = absurd is
+  no_syntax_error (stops.Both it) h is = absurd is
+  no_syntax_error stops.Terminal h is = absurd is
+  no_syntax_error (stops.Document it end) h is = absurd is
+
+  pub accepted_stops : (stop : Stop) → AcceptedStops order stop name accepted had holds → StopsAt order stop name content had holds
+  accepted_stops stop h =
+      stops_whole order stop name content had holds (no_syntax_error stop h) (one_text_stops stop h)
+
+-- ---- results
+
+pub on_ok : {A E : Type 0} (r : Result A E) (P Q : Type 0) → (P → Q) → OnOk r P → OnOk r Q
+on_ok (Ok x) P Q f h = f h
+on_ok (Err e) P Q f h = tt
+
+pub if_err : {A E : Type 0} (r : Result A E) (P Q : E → Type 0) → ((e : E) → P e → Q e) → IfErr r P → IfErr r Q
+if_err (Ok x) P Q f h = tt
+if_err (Err e) P Q f h = f e h

@@ -1,0 +1,292 @@
+//! A run over the texts of an input: one text, on any number of lines, or several, one after the other.
+ghost use Rattle.std.specs.Prelude.{◌≡◌, ℕ, List, Option, IfOk, IfErr, OnOk, false, nat_lt, length, string_bytes, true};
+ghost use Rattle.bson_json.specs.Sequence.{texts_in};
+ghost use Rattle.bson_run.specs.Place.{IsStop, IsWhere};
+ghost use Rattle.bson_program.specs.Texts.{AcceptedStops, HasLine, IsSequence, IsTextDone, StopsAt, TextStops, TextsDone, TextsStop};
+ghost use Rattle.bson_program.specs.Texts.{IsNotJson, WritesAccepted, WritesAll, content_of, is_sequence, begin_line, mark_of, reads_several};
+ghost use Rattle.bson_program.specs.Whole.{IsUngiven};
+
+use crate::order::{Order, STANDARD};
+use crate::run::Stop;
+use crate::whole::accept;
+use bson::extjson::Doubles;
+use bson_convert::error::Error;
+use bson_convert::fault::Fault;
+use bson_convert::stream::read_whole;
+use bson_json::sequence::split_text;
+use bson_run::accepted::Accepted;
+use bson_run::explain::explain_under;
+use bson_run::order::{Criterion, Task};
+use bson_run::stop;
+use std::alloc::{AllocError, Global};
+use std::io::{Read, Write};
+
+/// The first bytes that a named file may have, unless its text has to be canonical.
+const BYTE_ORDER_MARK: &[u8] = b"\xef\xbb\xbf";
+
+/// A text of an input.
+#[derive(Clone, Copy)]
+struct Found<'a> {
+    /// All bytes of the input after a byte order mark.
+    content: &'a [u8],
+    /// How many of them come before the text.
+    start: usize,
+    text: &'a [u8],
+}
+
+impl<'a> Found<'a> {
+    // Returns all bytes as one text.
+    fn whole(content: &'a [u8]) -> Found<'a>
+        ensures content { result.content.now ≡ content.now }
+        ensures start { result.start ≡ 0 }
+        ensures text { result.text.now ≡ content.now }
+    {
+        Found {
+            content,
+            start: 0,
+            text: content,
+        }
+    }
+}
+
+/// Converts the texts of the file of this name. All its bytes are one text, or else a sequence of
+/// texts with white space between. Each text of a sequence is converted and written before the next.
+/// A strict run reads one text, and so does a check of canonical text.
+///
+/// If a text is rejected, the stop has the line of an error in JSON. For any other error it has the
+/// line on which the text begins, or no line (0) if the text is all bytes. The cause of a failed
+/// reader or writer is known to the reader or writer.
+pub fn convert_texts<'a, R: Read, W: Write>(
+    alloc: Global,
+    order: &'a Order,
+    name: &'a str,
+    reader: &mut R,
+    writer: &mut W,
+) -> Result<(), Stop<'a>>
+    ensures done { OnOk result (TextsDone order.now name.now (R.remaining reader.old) (R.remaining reader.new)
+        (W.contents writer.old) (W.contents writer.new)) }
+    ensures stops { IfErr result (λ stop. TextsStop order.now stop name.now (R.remaining reader.old)
+        (R.remaining reader.new) (W.contents writer.old) (W.contents writer.new)) }
+{
+    let bytes = match read_whole(alloc, reader) {
+        Ok(bytes) => bytes,
+        Err(Fault::CannotRead) => return Err(Stop::Input(name, None)),
+        Err(_) => return Err(Stop::Text(name, 0, Error::OutOfMemory, String::new(alloc))),
+    };
+    let content = content_of(order, name, &bytes);
+    let accepted = match accept(alloc, order, content) {
+        Ok(accepted) => accepted,
+        Err(fault) => {
+            if has_several(order, &fault, content) {
+                return convert_each(alloc, order, name, content, writer);
+            }
+            return Err(stop_at(alloc, order, name, fault, Found::whole(content)));
+        }
+    };
+    drop(bytes);
+    write_accepted(alloc, order, name, accepted, writer)
+}
+
+// Returns the bytes of an input after its byte order mark, if it may have one.
+fn content_of<'a>(order: &Order, name: &str, bytes: &'a [u8]) -> &'a [u8]
+    ensures { result.now ≡ content_of order.now name.now bytes.now }
+{
+    let mark = mark_of(order, name);
+    if bytes.starts_with(mark) {
+        &bytes[mark.len()..]
+    } else {
+        bytes
+    }
+}
+
+// Returns what may come before the text of an input.
+fn mark_of(order: &Order, name: &str) -> &'static [u8]
+    ensures { result.now ≡ mark_of order.now name.now }
+{
+    if name == STANDARD {
+        return b"";
+    }
+    match order.task {
+        Task::Check(Criterion::Canonical) => b"",
+        _ => BYTE_ORDER_MARK,
+    }
+}
+
+// Returns whether bytes with this error are read as a sequence.
+fn has_several(order: &Order, fault: &Error, content: &[u8]) -> bool
+    ensures not_json { result ≡ true → fault.now ≡ Error.NotJson }
+    ensures several { result ≡ true → is_sequence order.now content.now ≡ true }
+    ensures one { result ≡ false → fault.now ≡ Error.NotJson → is_sequence order.now content.now ≡ false }
+{
+    match fault {
+        Error::NotJson => is_sequence(order, content),
+        _ => false,
+    }
+}
+
+// Returns whether there are several texts, and they are read.
+fn is_sequence(order: &Order, content: &[u8]) -> bool
+    ensures { result ≡ is_sequence order.now content.now }
+{
+    if reads_several(order.options.doubles, order.task) {
+        has_two(content)
+    } else {
+        false
+    }
+}
+
+// Returns whether several texts are read of an input.
+fn reads_several(doubles: Doubles, task: Task) -> bool
+    ensures { result ≡ reads_several doubles task }
+{
+    match doubles {
+        Doubles::Special => false,
+        Doubles::Finite => !matches!(task, Task::Check(Criterion::Canonical)),
+    }
+}
+
+// Returns whether there are two texts or more.
+fn has_two(content: &[u8]) -> bool
+    ensures { result ≡ nat_lt 1 (length (texts_in content.now)) }
+{
+    let mut rest = content;
+    let mut has_one = false;
+    while !rest.is_empty() {
+        let (text, next) = split_text(rest);
+        if !text.is_empty() {
+            if has_one {
+                return true;
+            }
+            has_one = true;
+        }
+        rest = next;
+    }
+    false
+}
+
+// Converts the texts of a sequence.
+fn convert_each<'a, W: Write>(
+    alloc: Global,
+    order: &'a Order,
+    name: &'a str,
+    content: &[u8],
+    writer: &mut W,
+) -> Result<(), Stop<'a>>
+    ensures done { OnOk result (WritesAll order.now content.now (W.contents writer.old) (W.contents writer.new)) }
+    ensures stops { IsSequence order.now content.now → IfErr result (λ stop. StopsAt order.now stop name.now content.now
+        (W.contents writer.old) (W.contents writer.new)) }
+{
+    let mut rest = content;
+    while !rest.is_empty() {
+        let (text, next) = split_text(rest);
+        let found = Found {
+            content,
+            start: content.len() - rest.len(),
+            text,
+        };
+        if !text.is_empty() {
+            convert_text(alloc, order, name, found, writer)?;
+        }
+        rest = next;
+    }
+    Ok(())
+}
+
+// Converts a text of a sequence.
+fn convert_text<'a, W: Write>(
+    alloc: Global,
+    order: &'a Order,
+    name: &'a str,
+    found: Found<'_>,
+    writer: &mut W,
+) -> Result<(), Stop<'a>>
+    ensures done { OnOk result (IsTextDone order.now found.entry.text.now (W.contents writer.old) (W.contents writer.new)) }
+    ensures stops { IfErr result (λ stop. TextStops order.now stop name.now found.entry.content.now found.entry.start found.entry.text.now
+        (W.contents writer.old) (W.contents writer.new)) }
+{
+    match accept(alloc, order, found.text) {
+        Ok(accepted) => write_accepted(alloc, order, name, accepted, writer),
+        Err(fault) => Err(stop_at(alloc, order, name, fault, found)),
+    }
+}
+
+// Writes the output of a text that was accepted.
+fn write_accepted<'a, W: Write>(
+    alloc: Global,
+    order: &'a Order,
+    name: &'a str,
+    accepted: Accepted,
+    writer: &mut W,
+) -> Result<(), Stop<'a>>
+    ensures done { OnOk result (WritesAccepted order.now accepted (W.contents writer.old) (W.contents writer.new)) }
+    ensures stops { IfErr result (λ stop. AcceptedStops order.now stop name.now accepted
+        (W.contents writer.old) (W.contents writer.new)) }
+{
+    // (no other error is possible, since the text was accepted with these options)
+    let Ok(output) = accepted.output(alloc, order.options) else {
+        return Err(Stop::Text(name, 0, Error::OutOfMemory, String::new(alloc)));
+    };
+    match writer.write_all(&output) {
+        Ok(()) => Ok(()),
+        Err(_) => Err(Stop::Output(order.output.as_str(), None)),
+    }
+}
+
+// Returns the stop at a text that was rejected, with its line and the place of the error.
+fn stop_at<'a>(
+    alloc: Global,
+    order: &Order,
+    name: &'a str,
+    fault: Error,
+    found: Found<'_>,
+) -> Stop<'a>
+    ensures same { IsNotJson result → fault ≡ Error.NotJson }
+    ensures stops { (had : Option (List ℕ)) → IsUngiven order.now.options order.now.task fault found.entry.text.now
+        → TextStops order.now result name.now found.entry.content.now found.entry.start found.entry.text.now had had }
+{
+    match place_of(alloc, order.task, &fault, found) {
+        Ok((line, place)) => Stop::Text(name, line, fault, place),
+        Err(_) => Stop::Text(name, 0, Error::OutOfMemory, String::new(alloc)),
+    }
+}
+
+// Returns the line of an error, and where the text is wrong, in words.
+fn place_of(
+    alloc: Global,
+    task: Task,
+    fault: &Error,
+    found: Found<'_>,
+) -> Result<(u64, String), AllocError>
+    ensures line { IfOk result (λ at. HasLine fault.now found.entry.content.now found.entry.start found.entry.text.now at.0) }
+    ensures place { IfOk result (λ at. IsWhere found.entry.text.now fault.now (string_bytes at.1)) }
+{
+    match fault {
+        Error::NotJson => syntax_place(alloc, found),
+        Error::NotCanonical(_) => Ok((1, explain_under(alloc, task, fault, found.text)?)),
+        Error::OutOfMemory => Ok((0, String::new(alloc))),
+        _ => Ok((begin_line(found) as u64, explain_under(alloc, task, fault, found.text)?)),
+    }
+}
+
+// Returns the line on which the text is not JSON, and where, in words.
+fn syntax_place(alloc: Global, found: Found<'_>) -> Result<(u64, String), AllocError>
+    ensures { IfOk result (λ at. IsStop found.entry.text.now (string_bytes at.1)) }
+{
+    let stop = stop::Stop::of(alloc, found.text)?;
+    let stop = stop::Stop {
+        offset: found.start.saturating_add(stop.offset),
+        ..stop
+    };
+    Ok((stop.line(found.content) as u64, stop.message(alloc, found.content)?))
+}
+
+// Returns the line on which a text of a sequence begins; 0 for a text that is all bytes.
+fn begin_line(found: Found<'_>) -> usize
+    ensures { result ≡ begin_line found.entry.content.now found.entry.start found.entry.text.now }
+{
+    if found.text.len() == found.content.len() {
+        return 0;
+    }
+    let before = &found.content[..found.start.min(found.content.len())];
+    1 + before.iter().filter(|byte| **byte == b'\n').count()
+}
