@@ -6,3 +6,5 @@ pub mod Stops
 pub mod Dump
 pub mod Whole
 pub mod Hints
+pub mod Digests
+pub mod Same

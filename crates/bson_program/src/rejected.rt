@@ -4,8 +4,8 @@ ghost use Rattle.bson_program.specs.Hints.{hint_line, told_of};
 
 use crate::hints::{Hint, Rejected, has_content, hint_for, split_line};
 use crate::messages::show_name;
-use crate::misuse::task_name;
-use crate::order::{Input, Order, STANDARD};
+use crate::misuse::mode_word;
+use crate::order::{Input, Order, Purpose, STANDARD};
 use crate::run::Stop;
 use bson::extjson::{Doubles, Options};
 use bson_codec::run_end::RunFault;
@@ -170,7 +170,7 @@ fn words_of(alloc: Global, order: &Order, options: Options) -> Result<String, Al
 
 // The mode of a command that reads the input: of one text where a text per line is expected.
 fn mode_for(order: &Order) -> &'static str {
-    match (order.input, task_name(order.task)) {
+    match (order.input, mode_word(order.purpose, order.task)) {
         (Input::Lines, "check" | "encode") => "canonical",
         (_, mode) => mode,
     }
@@ -193,6 +193,7 @@ fn words_of_taking(task: Task) -> &'static str {
 fn is_sorted(order: &Order) -> bool {
     match order.task {
         _ if order.options.doubles == Doubles::Special => false,
+        _ if order.purpose != Purpose::Output => false,
         Task::Write(_) | Task::Encode | Task::Taken(_, Work::Write(_)) => true,
         _ => false,
     }
