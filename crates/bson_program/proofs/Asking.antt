@@ -1,6 +1,6 @@
 -- What the words ask for.
 use Rattle.std.proofs.Common.{◌≡◌, ◌⊎◌, codes, inl, inr, ◌<◌, ◌∙◌, ℕ, Bool, true, false, cond, List, Option, Some, None, map, length}
-use Rattle.std.proofs.Common.{refl, sym, ap, subst, get_or, Result, Ok, Err, IfOk, zero, suc, [], ◌∷◌, ◌++◌, ◌+◌, take, add-one, arith}
+use Rattle.std.proofs.Common.{not, ◌||◌, refl, sym, ap, subst, get_or, Result, Ok, Err, IfOk, zero, suc, [], ◌∷◌, ◌++◌, ◌+◌, take, add-one, arith}
 use Rattle.std.proofs.lemmas.List.{get_or-map, length-map}
 use Rattle.std.specs.List.{Contains}
 use Rattle.std.specs.Option.{IfSome, option_map_or}
@@ -11,7 +11,8 @@ use Rattle.bson_run.specs.declared.order.Task.{Task}
 use Rattle.bson_run.specs.declared.order.Task.TheVariants.{Write, WriteInOrder, Check, Encode, EncodeInOrder}
 use Rattle.bson_run.specs.declared.order.Task.TheVariants.{Taken}
 use Rattle.bson_program.specs.Flags.{has_flag}
-use Rattle.bson_program.specs.Order.{first_taken, task_in_order, is_option, judged, AreGiven, one_more, IsAnswer, IsAskedBy, IsWordAfter}
+use Rattle.bson_program.specs.Order.{first_taken, task_in_order, is_option, is_output, judged, mode_word, AreGiven, one_more, IsAnswer}
+use Rattle.bson_program.specs.Order.{taking_of, IsAskedBy, IsNamed, IsTaskFor, IsVerbFor, IsWordAfter}
 use Rattle.bson_program.specs.Order.{command_of, IsDashed, IsValueInWord, IsNumbered, IsMisuse, IsTaken, AcceptsWord}
 use Rattle.bson_program.specs.declared.arguments.Given.{Given}
 use Rattle.bson_program.specs.declared.arguments.Taken as arguments
@@ -21,6 +22,9 @@ use Rattle.bson_program.specs.declared.order.Asked.TheVariants.{Run, Help, Versi
 use Rattle.bson_program.specs.declared.order.Command.{Command}
 use Rattle.bson_program.specs.declared.order.Flag.TheVariants as flag
 use Rattle.bson_program.specs.declared.order.Misuse.{Misuse}
+use Rattle.bson_program.specs.declared.order.Purpose.{Purpose}
+use Rattle.bson_program.specs.declared.order.Purpose.TheVariants as purpose
+use Rattle.bson_convert.specs.declared.mode.Mode.TheVariants as modes
 
 -- ---- options leave a task its name
 
@@ -60,30 +64,73 @@ named : (taking : Option Taking) (b : Bool) (task : Task)
 named None b task = chosen_name b task
 named (Some it) b task = taken_name it (cond b task (task_in_order task)) ∙ chosen_name b task
 
+-- ---- digests and comparisons are of canonical text, with keys in ascending order
+
+named_for : (it : Purpose) (task verb : Task) → task_name task ≡ task_name verb → mode_word it task ≡ mode_word it verb
+named_for purpose.Output task verb e = e
+named_for purpose.Digests task verb e = refl
+named_for purpose.Comparison task verb e = refl
+
+canonical_taken : (taking : Option Taking) (it : Purpose)
+    → IsTaskFor it (option_map_or (λ t. first_taken t (Write modes.Canonical)) taking (Write modes.Canonical))
+canonical_taken None purpose.Output = tt
+canonical_taken None purpose.Digests = refl
+canonical_taken None purpose.Comparison = refl
+canonical_taken (Some taking) purpose.Output = tt
+canonical_taken (Some taking) purpose.Digests = refl
+canonical_taken (Some taking) purpose.Comparison = refl
+
+unjudged : (b : Bool) → judged b (Write modes.Canonical) ≡ Write modes.Canonical
+unjudged true = refl
+unjudged false = refl
+
+-- with what sorts the keys, and what is looked for in a text first
+sorted_for : (it : Purpose) (b sorts strict : Bool) (taking : Option Taking) (verb : Task) → IsVerbFor it verb
+    → IsTaskFor it (let task = cond (not (is_output it) || sorts || strict) (judged b verb) (task_in_order (judged b verb)) in
+    option_map_or (λ t. first_taken t task) taking task)
+sorted_for purpose.Output b sorts strict taking verb is = tt
+sorted_for purpose.Digests b sorts strict taking verb is =
+    subst (λ task. IsTaskFor purpose.Digests (option_map_or (λ t. first_taken t task) taking task))
+    (sym (ap (judged b) is ∙ unjudged b)) (canonical_taken taking purpose.Digests)
+sorted_for purpose.Comparison b sorts strict taking verb is =
+    subst (λ task. IsTaskFor purpose.Comparison (option_map_or (λ t. first_taken t task) taking task))
+    (sym (ap (judged b) is ∙ unjudged b)) (canonical_taken taking purpose.Comparison)
+
 -- ---- the answer
 
-verb_there : (words : List (List ℕ)) (o : Option Task) (verb : Task) → IfSome o (λ it. Contains words (task_name it))
-    → o ≡ Some verb → Contains words (task_name verb)
-verb_there words o verb h e = subst (λ it. IfSome it (λ it. Contains words (task_name it))) e h
+-- the mode is among the words
+abbrev pub IsThere : List (List ℕ) → Purpose → Task → Type 0
+IsThere words it verb = Contains words (mode_word it verb) × IsVerbFor it verb
+
+verb_there : (words : List (List ℕ)) (it : Purpose) (o : Option Task) (verb : Task) → IfSome o (IsThere words it)
+    → o ≡ Some verb → IsThere words it verb
+verb_there words it o verb h e = subst (λ o. IfSome o (IsThere words it)) e h
 
 answered : (words : List (List ℕ)) (given : Given) (asked : Asked) → AreGiven words given
-    → IfSome given.task (λ verb. Contains words (task_name verb)) → IsAnswer given asked → IsAskedBy words asked
-answered words given (Run order) are h is = (
-  subst (Contains words)
-      (sym (ap task_name is.task ∙ named _ _ (judged given.is_canonical is.verb) ∙ judged_name given.is_canonical is.verb))
-      (verb_there words given.task is.verb h is.is_verb),
-  (given, are, is),
-)
+    → IfSome given.task (IsThere words given.purpose) → IsAnswer given asked → IsAskedBy words asked
+answered words given (Run order) are h is =
+    let there : IsThere words given.purpose is.verb = verb_there words given.purpose given.task is.verb h is.is_verb in
+    let name : task_name order.task ≡ task_name is.verb =
+    ap task_name is.task ∙ named _ _ (judged given.is_canonical is.verb) ∙ judged_name given.is_canonical is.verb in (
+      subst (λ it. Contains words (mode_word it order.task)) (sym is.purpose)
+          (subst (Contains words) (sym (named_for given.purpose order.task is.verb name)) there.0),
+      subst (λ it. IsTaskFor it order.task) (sym is.purpose)
+          (subst (IsTaskFor given.purpose) (sym is.task)
+          (sorted_for given.purpose given.is_canonical given.sorts_keys given.is_strict
+          (taking_of given.is_distinct given.is_legacy) is.verb there.1)),
+      (given, are, is),
+    )
 answered words given (Help command) are h is = absurd is
 answered words given Version are h is = absurd is
 answered words given (Wrong wrong) are h is = (given, is.1, inl (are, is.0))
 
-pub still_there : (words : List (List ℕ)) (word : List ℕ) (old new : Option Task) → Contains words word
-    → IfSome old (λ verb. Contains words (task_name verb))
-    → IfSome new (λ verb. (old ≡ Some verb) ⊎ (word ≡ task_name verb)) → IfSome new (λ verb. Contains words (task_name verb))
-still_there words word old None there h is = tt
-still_there words word old (Some verb) there h (inl e) = verb_there words old verb h e
-still_there words word old (Some verb) there h (inr e) = subst (Contains words) e there
+pub still_there : (words : List (List ℕ)) (word : List ℕ) (before after : Purpose) (old new : Option Task) → Contains words word
+    → IfSome old (IsThere words before)
+    → IfSome new (λ verb. ((old ≡ Some verb) × (after ≡ before)) ⊎ IsNamed word after verb) → IfSome new (IsThere words after)
+still_there words word before after old None there h is = tt
+still_there words word before after old (Some verb) there h (inl e) =
+    subst (λ it. IsThere words it verb) (sym e.1) (verb_there words before old verb h e.0)
+still_there words word before after old (Some verb) there h (inr e) = (subst (Contains words) e.0 there, e.1)
 
 pub version_there : (words : List (List ℕ)) (word : List ℕ) (given : Given) (it : arguments.Taken) → Contains words word
     → IsTaken given word it → it ≡ taken.Version → IsAskedBy words Version
@@ -101,7 +148,7 @@ word_there f all xs i x word same within is of =
     (i, subst (λ n. i < n) (sym (length-map xs f)) within, get_or-map f xs i x (f x) within ∙ ap f (sym is)))
 
 pub answer : {E : Type 0} (words : List (List ℕ)) (given : Given) (r : Result Asked E) → AreGiven words given
-    → IfSome given.task (λ verb. Contains words (task_name verb)) → IfOk r (λ asked. IsAnswer given asked)
+    → IfSome given.task (IsThere words given.purpose) → IfOk r (λ asked. IsAnswer given asked)
     → IfOk r (λ asked. IsAskedBy words asked)
 answer words given (Ok asked) are h is = answered words given asked are h is
 answer words given (Err e) are h is = tt

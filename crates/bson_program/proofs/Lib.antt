@@ -1,5 +1,7 @@
 mod Asking
+mod DigestLaws
 mod Dumping
+mod SameLaws
 mod Spaces
 mod Telling
 mod Verdicts

@@ -20,7 +20,7 @@ by_test true x xs is other = ap (λ y. (y ∷ []) ∷ spans xs) (sym (is refl))
 by_test false x xs is other = other refl
 
 -- the first piece of what begins with x
-first : (x : ℕ) (xs : List ℕ)
+pub first : (x : ℕ) (xs : List ℕ)
     → spans (x ∷ xs) ≡ take (line_len (x ∷ xs)) (x ∷ xs) ∷ spans (drop (line_len (x ∷ xs)) (x ∷ xs))
 first x [] = by_test (x == 10) x [] (is_newline x) (λ e. refl)
 first x (y ∷ ys) = by_test (x == 10) x (y ∷ ys) (is_newline x) (λ e. ap (onto_first x) (first y ys))

@@ -1,5 +1,5 @@
 -- The options: which of them each command has, and which of them are given.
-use Rattle.std.specs.Prelude.{ℕ, Bool, true, false, not, List, codes, is_some, if◌then◌else◌}
+use Rattle.std.specs.Prelude.{ℕ, Bool, true, false, not, ◌&&◌, List, codes, is_some, if◌then◌else◌}
 use Rattle.bson_convert.specs.declared.mode.Mode.TheVariants.{Show}
 use Rattle.bson_run.specs.declared.order.Criterion.TheVariants as criterion
 use Rattle.bson_run.specs.declared.order.Task.{Task}
@@ -7,9 +7,11 @@ use Rattle.bson_run.specs.declared.order.Task.TheVariants.{Write, Check, Encode}
 use Rattle.bson_program.specs.declared.arguments.Given.{Given}
 use Rattle.bson_program.specs.declared.order.Flag.{Flag}
 use Rattle.bson_program.specs.declared.order.Flag.TheVariants.{SortKeys, Strict, Legacy, NoDoubleKeys, Canonical, Indent, KeepGoing, Jobs}
-use Rattle.bson_program.specs.declared.order.Flag.TheVariants.{Output}
+use Rattle.bson_program.specs.declared.order.Flag.TheVariants.{Output, Unordered}
 use Rattle.bson_program.specs.declared.order.Input.{Input}
 use Rattle.bson_program.specs.declared.order.Input.TheVariants.{Text, Documents}
+use Rattle.bson_program.specs.declared.order.Purpose.{Purpose}
+use Rattle.bson_program.specs.declared.order.Purpose.TheVariants as purpose
 
 -- ---- the table of options
 --
@@ -61,6 +63,20 @@ accepts Indent input task = false
 accepts KeepGoing input task = reads_many input
 accepts Jobs input task = reads_many input
 accepts Output input task = has_output task
+accepts Unordered input task = true
+
+-- modes with this purpose have the option
+abbrev pub serves : Flag → Purpose → Bool
+serves SortKeys purpose.Output = true
+serves SortKeys other = false
+serves Indent purpose.Output = true
+serves Indent other = false
+serves KeepGoing purpose.Comparison = false
+serves Jobs purpose.Comparison = false
+serves Output purpose.Comparison = false
+serves Unordered purpose.Comparison = true
+serves Unordered other = false
+serves flag other = true
 
 -- ---- given options
 
@@ -74,10 +90,11 @@ has_flag Indent given = is_some given.indent
 has_flag KeepGoing given = given.keeps_going
 has_flag Jobs given = is_some given.jobs
 has_flag Output given = is_some given.output
+has_flag Unordered given = given.is_unordered
 
 -- an option is given that the command does not have
 abbrev pub clashes : Flag → Given → Task → Bool
-clashes flag given task = if accepts flag given.input task then false else has_flag flag given
+clashes flag given task = if serves flag given.purpose && accepts flag given.input task then false else has_flag flag given
 
 -- ---- the words of options
 
@@ -91,3 +108,4 @@ flag_name Indent = codes "--indent"
 flag_name KeepGoing = codes "--keep-going"
 flag_name Jobs = codes "--jobs"
 flag_name Output = codes "--output"
+flag_name Unordered = codes "--unordered"

@@ -8,19 +8,21 @@ use Rattle.bson_codec.specs.declared.run_end.RunFault.{RunFault}
 use Rattle.bson_codec.specs.declared.run_end.RunFault.TheVariants as run_fault
 use Rattle.bson_convert.specs.declared.error.Error.{Error}
 use Rattle.bson_convert.specs.declared.error.Error.TheVariants as error
-use Rattle.bson_run.specs.Words.{task_name}
 use Rattle.bson_run.specs.declared.lines.Counts.{Counts}
 use Rattle.bson_run.specs.declared.order.Taking.TheVariants as taking
 use Rattle.bson_run.specs.declared.order.Task.{Task}
 use Rattle.bson_run.specs.declared.order.Task.TheVariants as task
 use Rattle.bson_run.specs.declared.order.Work.TheVariants as work
 use Rattle.bson_program.specs.Messages.{line_len, shown_name}
+use Rattle.bson_program.specs.Order.{mode_word}
 use Rattle.bson_program.specs.declared.hints.Hint.{Hint}
 use Rattle.bson_program.specs.declared.hints.Hint.TheVariants as hint
 use Rattle.bson_program.specs.declared.hints.Rejected.{Rejected}
 use Rattle.bson_program.specs.declared.order.Input.{Input}
 use Rattle.bson_program.specs.declared.order.Input.TheVariants.{Text, Lines, Documents}
 use Rattle.bson_program.specs.declared.order.Order.{Order}
+use Rattle.bson_program.specs.declared.order.Purpose.{Purpose}
+use Rattle.bson_program.specs.declared.order.Purpose.TheVariants as purpose
 use Rattle.bson_program.specs.declared.run.Stop.{Stop}
 use Rattle.bson_program.specs.declared.run.Stop.TheVariants as stop
 
@@ -175,18 +177,17 @@ told_of hint.LongTextsToEncode words =
 told_of hint.Doubles words = codes "has numbers that are read without --strict"
 
 -- the mode of a command that reads the input; lines that become bytes are texts for `canonical`
-abbrev pub reading_mode : Input → Task → List ℕ
-reading_mode Lines task.Encode = codes "canonical"
-reading_mode Lines task.EncodeInOrder = codes "canonical"
-reading_mode input task = task_name task
+abbrev pub reading_mode : Input → Purpose → Task → List ℕ
+reading_mode Lines purpose task.Encode = codes "canonical"
+reading_mode Lines purpose task.EncodeInOrder = codes "canonical"
+reading_mode input purpose task = mode_word purpose task
 
--- keys are sorted, and not because the run is strict
-abbrev pub sorts_keys : Doubles → Task → Bool
-sorts_keys Special task = false
-sorts_keys Finite (task.Write mode) = true
-sorts_keys Finite task.Encode = true
-sorts_keys Finite (task.Taken taking (work.Write mode)) = true
-sorts_keys Finite task = false
+-- the option that sorts keys is given, and not another that sorts them
+abbrev pub sorts_keys : Purpose → Doubles → Task → Bool
+sorts_keys purpose.Output Finite (task.Write mode) = true
+sorts_keys purpose.Output Finite task.Encode = true
+sorts_keys purpose.Output Finite (task.Taken taking (work.Write mode)) = true
+sorts_keys purpose doubles task = false
 
 abbrev pub is_strict : Doubles → Bool
 is_strict Special = true
@@ -203,8 +204,8 @@ option_if is_given option = if is_given then option else []
 
 -- the mode and the options of a command that reads the input
 abbrev pub reading_words : Order → List ℕ
-reading_words order = reading_mode order.input order.task
-    ++ option_if (sorts_keys order.options.doubles order.task) (codes " --sort-keys")
+reading_words order = reading_mode order.input order.purpose order.task
+    ++ option_if (sorts_keys order.purpose order.options.doubles order.task) (codes " --sort-keys")
     ++ option_if (is_strict order.options.doubles) (codes " --strict") ++ taking_options order.task
 
 -- the line on standard error

@@ -7,3 +7,5 @@ pub mod Dump
 pub mod Whole
 pub mod Hints
 pub mod Texts
+pub mod Digests
+pub mod Same

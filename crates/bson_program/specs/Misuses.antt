@@ -1,17 +1,18 @@
 -- What is told of arguments that the program does not accept.
 use Rattle.std.specs.Prelude.{ℕ, List, ◌++◌, codes}
-use Rattle.bson_run.specs.Words.{task_name}
 use Rattle.bson_run.specs.declared.order.Criterion.TheVariants.{Canonical}
 use Rattle.bson_run.specs.declared.order.Task.{Task}
 use Rattle.bson_run.specs.declared.order.Task.TheVariants.{Check}
 use Rattle.bson_program.specs.Flags.{flag_name}
 use Rattle.bson_program.specs.Messages.{escaped_name}
+use Rattle.bson_program.specs.Order.{mode_word}
 use Rattle.bson_program.specs.declared.order.Command.{Command}
 use Rattle.bson_program.specs.declared.order.Command.TheVariants as command
 use Rattle.bson_program.specs.declared.order.Flag.{Flag}
 use Rattle.bson_program.specs.declared.order.Flag.TheVariants as flag
 use Rattle.bson_program.specs.declared.order.Misuse.{Misuse}
 use Rattle.bson_program.specs.declared.order.Misuse.TheVariants as misuse
+use Rattle.bson_program.specs.declared.order.Purpose.{Purpose}
 
 -- the words behind which a command's options and its help are
 abbrev pub command_name : Command → List ℕ
@@ -22,10 +23,10 @@ command_name command.Decode = codes "bson decode"
 command_name command.Encode = codes "bson encode"
 
 -- the mode that does not have an option, and behind it the option by which it does not
-abbrev pub mode_without : Flag → Task → List ℕ
-mode_without flag.Canonical task = task_name task
-mode_without option (Check Canonical) = codes "check --canonical"
-mode_without option task = task_name task
+abbrev pub mode_without : Flag → Purpose → Task → List ℕ
+mode_without flag.Canonical purpose task = mode_word purpose task
+mode_without option purpose (Check Canonical) = codes "check --canonical"
+mode_without option purpose task = mode_word purpose task
 
 -- a mode with its command
 abbrev pub full_name : Command → (mode : List ℕ) → List ℕ
@@ -49,8 +50,9 @@ misuse_message it (misuse.Twice flag) word = codes "bson: " ++ flag_name flag ++
 misuse_message it (misuse.NoValue flag.Indent) word = codes "bson: --indent needs a number from 1 to 16"
 misuse_message it (misuse.NoValue flag.Jobs) word = codes "bson: --jobs needs a number from 1 to 9999"
 misuse_message it (misuse.NoValue flag) word = codes "bson: " ++ flag_name flag ++ codes " needs a file"
-misuse_message it (misuse.Unfit flag task) word =
-    codes "bson: " ++ full_name it (mode_without flag task) ++ codes " does not accept " ++ flag_name flag
+misuse_message it (misuse.Unfit flag purpose task) word =
+    codes "bson: " ++ full_name it (mode_without flag purpose task) ++ codes " does not accept " ++ flag_name flag
 misuse_message it misuse.NoMode word = codes "bson: no " ++ kind_of_word it ++ codes " is given"
-misuse_message it misuse.ManyFiles word = codes "bson: one document is read from one file; `bson lines` reads several"
+misuse_message it misuse.TwoFiles word = codes "bson: " ++ full_name it (codes "same") ++ codes " needs two files"
+misuse_message it misuse.StandardTwice word = codes "bson: standard input is given twice"
 misuse_message it misuse.NotUtf8 word = codes "bson: an argument is not UTF-8"

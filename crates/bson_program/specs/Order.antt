@@ -1,8 +1,11 @@
 -- What the words after the program's name ask for.
 use Rattle.std.specs.Prelude.{◌≡◌, ◌==◌, ◌≢◌, ◌⊎◌, ◌<◌, ◌≤◌, ◌++◌, ℕ, Bool, true, false, List, [], ◌∷◌, Option, None, Some, codes}
-use Rattle.std.specs.Prelude.{bytes_eq, ◌||◌, Contains, get_or, length, map, string_bytes, slice_index, take, vec_len, if◌then◌else◌}
+use Rattle.std.specs.Prelude.{bytes_eq, ◌||◌, not, Contains, get_or, length, map, string_bytes, slice_index, take, vec_len}
+use Rattle.std.specs.Prelude.{if◌then◌else◌, String, Vec}
+use Rattle.std.specs.declared.alloc.Global.{Global}
 use Rattle.std.specs.Fmt.{decimal}
 use Rattle.std.specs.Option.{option_map_or}
+use Rattle.bson_convert.specs.declared.mode.Mode.TheVariants as modes
 use Rattle.bson_run.specs.Words.{task_name}
 use Rattle.bson_run.specs.declared.order.Criterion.TheVariants.{Canonical, Valid}
 use Rattle.bson_run.specs.declared.order.OnRefusal.TheVariants.{KeepGoing, Stop}
@@ -24,6 +27,8 @@ use Rattle.bson_program.specs.declared.order.Input.TheVariants.{Text, Lines, Doc
 use Rattle.bson_program.specs.declared.order.Misuse.{Misuse}
 use Rattle.bson_program.specs.declared.order.Misuse.TheVariants as misuse
 use Rattle.bson_program.specs.declared.order.Order.{Order}
+use Rattle.bson_program.specs.declared.order.Purpose.{Purpose}
+use Rattle.bson_program.specs.declared.order.Purpose.TheVariants as purpose
 use Rattle.bson_program.specs.declared.arguments.Given.{Given}
 use Rattle.bson_program.specs.declared.arguments.Taken as arguments
 use Rattle.bson_program.specs.declared.arguments.Taken.TheVariants as taken
@@ -79,11 +84,40 @@ IsNoCount most word = (count : ℕ) → 0 < count → count ≤ most → word �
 -- the words that are options, each with its value in the word or behind it
 abbrev pub is_option : List ℕ → Bool
 is_option word = bytes_eq word (codes "--sort-keys") || bytes_eq word (codes "--strict") || bytes_eq word (codes "--legacy")
-    || bytes_eq word (codes "--no-double-keys") || bytes_eq word (codes "--canonical")
+    || bytes_eq word (codes "--no-double-keys") || bytes_eq word (codes "--canonical") || bytes_eq word (codes "--unordered")
     || bytes_eq word (codes "--keep-going") || bytes_eq word (codes "--indent")
     || bytes_eq word (codes "--jobs") || bytes_eq word (codes "-o") || bytes_eq word (codes "--output")
     || bytes_eq word (codes "--help") || bytes_eq word (codes "-h") || bytes_eq word (codes "--version")
     || bytes_eq word (codes "-v") || bytes_eq word (codes "--")
+
+-- ---- modes
+
+-- the word that names a mode
+abbrev pub mode_word : Purpose → Task → List ℕ
+mode_word purpose.Output task = task_name task
+mode_word purpose.Digests task = codes "hash"
+mode_word purpose.Comparison task = codes "same"
+
+-- digests and comparisons are of canonical text
+abbrev pub IsVerbFor : Purpose → (verb : Task) → Type 0
+IsVerbFor purpose.Output verb = Unit {0}
+IsVerbFor other verb = verb ≡ Write modes.Canonical
+
+-- with the keys of each document in ascending order
+abbrev pub IsTaskFor : Purpose → Task → Type 0
+IsTaskFor purpose.Output task = Unit {0}
+IsTaskFor other (Write mode) = mode ≡ modes.Canonical
+IsTaskFor other (Taken taking (work.Write mode)) = mode ≡ modes.Canonical
+IsTaskFor other task = ⊥
+
+-- the output is written as it is
+abbrev pub is_output : Purpose → Bool
+is_output purpose.Output = true
+is_output other = false
+
+-- the word names this mode
+abbrev pub IsNamed : (word : List ℕ) → Purpose → (verb : Task) → Type 0
+IsNamed word purpose verb = (word ≡ mode_word purpose verb) × IsVerbFor purpose verb
 
 -- ---- commands
 
@@ -122,6 +156,7 @@ given_of word given = record given {
   is_distinct = bytes_eq word (codes "--no-double-keys") || given.is_distinct;
   is_legacy = bytes_eq word (codes "--legacy") || given.is_legacy;
   is_canonical = bytes_eq word (codes "--canonical") || given.is_canonical;
+  is_unordered = bytes_eq word (codes "--unordered") || given.is_unordered;
   next = if bytes_eq word (codes "--") then Name
       else (if bytes_eq word (codes "-o") || bytes_eq word (codes "--output") then Output
       else (if bytes_eq word (codes "--indent") then Indent
@@ -132,6 +167,7 @@ given_of word given = record given {
 abbrev pub Sets : (word : List ℕ) → (old new : Given) → Type 0
 Sets word old new = new ≡ record (given_of word old) {
   task = new.task;
+  purpose = new.purpose;
   indent = new.indent;
   jobs = new.jobs;
   output = new.output;
@@ -144,7 +180,12 @@ TakesFor Any word old new = Sets word old new
 TakesFor Output word old new = new ≡ record old { next = Any; output = new.output }
 TakesFor Indent word old new = new ≡ record old { next = Any; indent = new.indent }
 TakesFor Jobs word old new = new ≡ record old { next = Any; jobs = new.jobs }
-TakesFor Name word old new = new ≡ record old { task = new.task; input = input_of word old; inputs = new.inputs }
+TakesFor Name word old new = new ≡ record old {
+  task = new.task;
+  purpose = new.purpose;
+  input = input_of word old;
+  inputs = new.inputs;
+}
 
 abbrev pub AcceptsWord : (word : List ℕ) → (old new : Given) → Type 0
 AcceptsWord word old new = TakesFor old.next word old new
@@ -153,6 +194,7 @@ AcceptsWord word old new = TakesFor old.next word old new
 abbrev pub IsInitial : Given → Type 0
 IsInitial given = given ≡ record given {
   task = None;
+  purpose = purpose.Output;
   input = Text;
   keeps_going = false;
   sorts_keys = false;
@@ -160,6 +202,7 @@ IsInitial given = given ≡ record given {
   is_distinct = false;
   is_legacy = false;
   is_canonical = false;
+  is_unordered = false;
   indent = None;
   jobs = None;
   output = None;
@@ -176,8 +219,10 @@ pub data AreGiven : List (List ℕ) → Given → Type 0 where
 
 -- the word names a mode, or, as the first, a command
 abbrev pub IsMode : Input → (word : List ℕ) → Type 0
-IsMode Text word = ((task : Task) × (word ≡ task_name task)) ⊎ (word ≡ codes "lines") ⊎ (word ≡ codes "decode")
-IsMode input word = (task : Task) × (task ≢ Encode) × (task ≢ EncodeInOrder) × (word ≡ task_name task)
+IsMode Text word = ((purpose : Purpose) × (task : Task) × (word ≡ mode_word purpose task)) ⊎ (word ≡ codes "lines")
+    ⊎ (word ≡ codes "decode")
+IsMode input word = (purpose : Purpose) × (task : Task) × (task ≢ Encode) × (task ≢ EncodeInOrder)
+    × (word ≡ mode_word purpose task)
 
 -- the value that is expected of the word, or of what is behind its option, is not there
 abbrev pub IsUnnumbered : (most : ℕ) → (option word : List ℕ) → Type 0
@@ -221,16 +266,27 @@ pub record AllFit (given : Given) (task : Task) : Type 0 where
   pub keep_going : clashes flag.KeepGoing given task ≡ false
   pub jobs : clashes flag.Jobs given task ≡ false
   pub output : clashes flag.Output given task ≡ false
+  pub unordered : clashes flag.Unordered given task ≡ false
 
--- one document is of one file, and the command has the options
+-- the file at this place among the files is standard input
+abbrev pub IsStandardAt : (at : ℕ) → Vec (String Global) Global → Type 0
+IsStandardAt at inputs = (name : String Global) × (name ≡ get_or inputs.items at name) × (string_bytes name ≡ codes "-")
+
+-- two files, one of which is not standard input
+abbrev pub AreTwoFiles : Vec (String Global) Global → Type 0
+AreTwoFiles inputs = (vec_len inputs ≡ 2) × ((IsStandardAt 0 inputs × IsStandardAt 1 inputs) → ⊥)
+
+-- the mode has the options, and a comparison is of two files
 pub record TaskFits (given : Given) (task : Task) : Type 0 where
-  pub files : given.input ≡ Text → vec_len given.inputs ≤ 1
+  pub files : given.purpose ≡ purpose.Comparison → AreTwoFiles given.inputs
   pub options : AllFit given task
 
 -- why they do not fit
 abbrev pub IsMisfit : Given → Task → Misuse → Type 0
-IsMisfit given task misuse.ManyFiles = (given.input ≡ Text) × (1 < vec_len given.inputs)
-IsMisfit given task (misuse.Unfit flag verb) = (verb ≡ task) × (clashes flag given task ≡ true)
+IsMisfit given task (misuse.Unfit flag mode verb) = (mode ≡ given.purpose) × (verb ≡ task) × (clashes flag given task ≡ true)
+IsMisfit given task misuse.TwoFiles = (given.purpose ≡ purpose.Comparison) × (vec_len given.inputs ≢ 2)
+IsMisfit given task misuse.StandardTwice =
+    (given.purpose ≡ purpose.Comparison) × IsStandardAt 0 given.inputs × IsStandardAt 1 given.inputs
 IsMisfit given task other = ⊥
 
 -- the option whose value is missing
@@ -242,11 +298,12 @@ awaited next = None
 
 -- ---- what is asked for
 
--- the task of a verb with the options: keys keep their order, unless they are sorted or the run is strict
+-- the task of a verb with the options: keys keep their order, unless they are sorted, the run is strict, or it has digests
+-- or a comparison
 abbrev pub task_of : Given → (verb : Task) → Task
 task_of given verb =
     let it = judged given.is_canonical verb in
-    let task = if given.sorts_keys || given.is_strict then it else task_in_order it in
+    let task = if not (is_output given.purpose) || given.sorts_keys || given.is_strict then it else task_in_order it in
     option_map_or (λ taking. first_taken taking task) (taking_of given.is_distinct given.is_legacy) task
 
 -- the files, or the standard stream where none is given
@@ -263,6 +320,8 @@ pub record IsGiven (given : Given) (order : Order) : Type 0 where
   pub task : order.task ≡ task_of given verb
   pub options : order.options ≡ options_of given.is_strict
   pub on_refusal : order.on_refusal ≡ (if given.keeps_going then KeepGoing else Stop)
+  pub purpose : order.purpose ≡ given.purpose
+  pub unordered : order.is_unordered ≡ given.is_unordered
   pub input : order.input ≡ given.input
   pub indent : order.indent ≡ given.indent
   pub output : string_bytes order.output ≡ option_map_or string_bytes given.output (codes "-")
@@ -291,7 +350,8 @@ pub record IsWordAfter (words : List (List ℕ)) (given : Given) (word : List �
 -- asks for help, or is not accepted, or to all words
 abbrev pub IsAskedBy : (words : List (List ℕ)) → Asked → Type 0
 IsAskedBy words (Run order) =
-    Contains words (task_name order.task) × ((given : Given) × AreGiven words given × IsGiven given order)
+    Contains words (mode_word order.purpose order.task) × IsTaskFor order.purpose order.task
+    × ((given : Given) × AreGiven words given × IsGiven given order)
 IsAskedBy words (Help command) = (given : Given) × (word : List ℕ) × IsWordAfter words given word × IsHelp given word
     × (command ≡ command_of given.input given.task)
 IsAskedBy words Version = Contains words (codes "--version") ⊎ Contains words (codes "-v")

@@ -1,14 +1,17 @@
 //! What the words after the program's name give, one after the other.
 ghost use Rattle.std.specs.Prelude.{◌≡◌, ◌⊎◌, None, OnOk, IfOk, IfSome, string_bytes, if◌then◌else◌, true, vec_len};
 ghost use Rattle.bson_program.specs.Flags.{has_flag};
-ghost use Rattle.bson_program.specs.Order.{command_of, input_of, is_text};
+ghost use Rattle.bson_program.specs.Order.{command_of, input_of, is_text, IsNamed};
 ghost use Rattle.bson_program.specs.Order.{IsAnswer, IsAskedWrong, IsInitial, IsValueInWord, IsNumbered, IsStored, IsTaken, Sets, AcceptsWord};
 ghost use Rattle.bson_run.specs.Words.{task_name};
 
-use crate::choices::{awaited, first_taken, in_order, judged, options_of, taking_of};
+use crate::choices::{
+    awaited, first_taken, in_order, is_sorted, judged, options_of, set, taking_of,
+};
 use crate::fits::misfit;
-use crate::order::{Asked, Command, Flag, Input, Misuse, Order, STANDARD, Wrong};
+use crate::order::{Asked, Command, Flag, Input, Misuse, Order, Purpose, STANDARD, Wrong};
 use crate::values::{inputs_of, is_dashed, number, output_in};
+use bson_convert::mode::Mode;
 use bson_run::order::{OnRefusal, Task};
 use std::alloc::{AllocError, Global};
 
@@ -23,6 +26,7 @@ const MOST_JOBS: usize = 9999;
 pub struct Given {
     alloc: Global,
     pub task: Option<Task>,
+    pub purpose: Purpose,
     pub input: Input,
     pub keeps_going: bool,
     pub sorts_keys: bool,
@@ -30,6 +34,7 @@ pub struct Given {
     pub is_distinct: bool,
     pub is_legacy: bool,
     pub is_canonical: bool,
+    pub is_unordered: bool,
     pub indent: Option<usize>,
     pub jobs: Option<usize>,
     pub output: Option<String>,
@@ -71,6 +76,7 @@ impl Given {
         Given {
             alloc,
             task: None,
+            purpose: Purpose::Output,
             input: Input::Text,
             keeps_going: false,
             sorts_keys: false,
@@ -78,6 +84,7 @@ impl Given {
             is_distinct: false,
             is_legacy: false,
             is_canonical: false,
+            is_unordered: false,
             indent: None,
             jobs: None,
             output: None,
@@ -113,13 +120,14 @@ impl Given {
             Flag::KeepGoing => self.keeps_going,
             Flag::Jobs => self.jobs.is_some(),
             Flag::Output => self.output.is_some(),
+            Flag::Unordered => self.is_unordered,
         }
     }
 
     /// Accepts the next word, or says why not.
     pub fn take(&mut self, word: &str) -> Result<Taken, AllocError>
         ensures given { AcceptsWord word.now self.old self.new }
-        ensures verb { IfSome self.new.task (λ verb. (self.old.task ≡ Some verb) ⊎ (word.now ≡ task_name verb)) }
+        ensures verb { IfSome self.new.task (λ verb. ((self.old.task ≡ Some verb) × (self.new.purpose ≡ self.old.purpose)) ⊎ IsNamed word.now self.new.purpose verb) }
         ensures taken { IfOk result (IsTaken self.old word.now) }
     {
         match self.next {
@@ -143,7 +151,7 @@ impl Given {
     // Accepts a word that no option waits for.
     fn take_any(&mut self, word: &str) -> Result<Taken, AllocError>
         ensures given { Sets word.now self.old self.new }
-        ensures verb { IfSome self.new.task (λ verb. (self.old.task ≡ Some verb) ⊎ (word.now ≡ task_name verb)) }
+        ensures verb { IfSome self.new.task (λ verb. ((self.old.task ≡ Some verb) × (self.new.purpose ≡ self.old.purpose)) ⊎ IsNamed word.now self.new.purpose verb) }
         ensures taken { IfOk result (IsTaken self.old word.now) }
     {
         match word {
@@ -159,9 +167,10 @@ impl Given {
             "--no-double-keys" => Ok(set(&mut self.is_distinct, Flag::NoDoubleKeys)),
             "--legacy" => Ok(set(&mut self.is_legacy, Flag::Legacy)),
             "--canonical" => Ok(set(&mut self.is_canonical, Flag::Canonical)),
+            "--unordered" => Ok(set(&mut self.is_unordered, Flag::Unordered)),
             "--doubles" | "--keep-order" => Ok(Taken::Wrong(Misuse::Former)),
             "help" => self.take_help(word),
-            STANDARD | "lines" | "decode" | "encode" => self.take_name(word),
+            STANDARD | "lines" | "decode" | "encode" | "hash" | "same" => self.take_name(word),
             _ => {
                 if is_dashed(word) {
                     self.take_joined(word)
@@ -257,8 +266,8 @@ impl Given {
 
     // Accepts a command or a mode, and behind them files.
     fn take_name(&mut self, word: &str) -> Result<Taken, AllocError>
-        ensures given { self.new ≡ record self.old { task = self.new.task; input = input_of word.now self.old; inputs = self.new.inputs } }
-        ensures verb { IfSome self.new.task (λ verb. (self.old.task ≡ Some verb) ⊎ (word.now ≡ task_name verb)) }
+        ensures given { self.new ≡ record self.old { task = self.new.task; purpose = self.new.purpose; input = input_of word.now self.old; inputs = self.new.inputs } }
+        ensures verb { IfSome self.new.task (λ verb. ((self.old.task ≡ Some verb) × (self.new.purpose ≡ self.old.purpose)) ⊎ IsNamed word.now self.new.purpose verb) }
         ensures taken { IfOk result (IsTaken self.old word.now) }
     {
         if self.task.is_some() {
@@ -269,17 +278,20 @@ impl Given {
             "lines" => Ok(self.take_command(Input::Lines, None)),
             "decode" => Ok(self.take_command(Input::Documents, None)),
             "encode" => Ok(self.take_command(Input::Lines, Some(Task::Encode))),
+            "hash" => Ok(self.take_purpose(Purpose::Digests)),
+            "same" => Ok(self.take_purpose(Purpose::Comparison)),
             _ => Ok(self.take_mode(word)),
         }
     }
 
     // Accepts the word of a command, which is the first.
     fn take_command(&mut self, input: Input, task: Option<Task>) -> Taken
-        ensures given { self.new ≡ record self.old { input = input; task = task } }
+        ensures given { self.new ≡ record self.old { input = input; purpose = Purpose.Output; task = task } }
         ensures taken { result ≡ (if is_text self.old.input then Taken.Word else Taken.Wrong Misuse.UnknownMode) }
     {
         let is_first = self.input == Input::Text;
         self.input = input;
+        self.purpose = Purpose::Output;
         self.task = task;
         if is_first {
             Taken::Word
@@ -288,12 +300,23 @@ impl Given {
         }
     }
 
+    // Accepts a mode in which the sorted canonical text of each value is read.
+    fn take_purpose(&mut self, purpose: Purpose) -> Taken
+        ensures given { self.new ≡ record self.old { task = Some (Task.Write Mode.Canonical); purpose = purpose } }
+        ensures taken { result ≡ Taken.Word }
+    {
+        self.purpose = purpose;
+        self.task = Some(Task::Write(Mode::Canonical));
+        Taken::Word
+    }
+
     // Accepts a mode.
     fn take_mode(&mut self, word: &str) -> Taken
-        ensures given { self.new ≡ record self.old { task = self.new.task } }
+        ensures given { self.new ≡ record self.old { task = self.new.task; purpose = Purpose.Output } }
         ensures verb { IfSome self.new.task (λ verb. word.now ≡ task_name verb) }
         ensures taken { (result ≡ Taken.Word) ⊎ ((result ≡ Taken.Wrong Misuse.UnknownMode) × ((task : Task) → word.now ≡ task_name task → ⊥)) }
     {
+        self.purpose = Purpose::Output;
         self.task = Task::from_name(word);
         if self.task.is_some() {
             Taken::Word
@@ -320,11 +343,13 @@ impl Given {
         let Given {
             alloc,
             keeps_going,
+            purpose,
             input,
             sorts_keys,
             is_strict,
             is_distinct,
             is_legacy,
+            is_unordered,
             indent,
             output,
             inputs,
@@ -334,7 +359,7 @@ impl Given {
             Some(name) => name,
             None => String::from_str(alloc, STANDARD)?,
         };
-        let task = if sorts_keys || is_strict {
+        let task = if is_sorted(purpose, sorts_keys) || is_strict {
             task
         } else {
             in_order(task)
@@ -350,6 +375,8 @@ impl Given {
             } else {
                 OnRefusal::Stop
             },
+            purpose,
+            is_unordered,
             input,
             indent,
             output,
@@ -367,16 +394,4 @@ fn wrong(alloc: Global, misuse: Misuse, command: Command) -> Asked
         command,
         word: String::new(alloc),
     })
-}
-
-// Sets what an option sets, unless it is given twice.
-fn set(is_given: &mut bool, flag: Flag) -> Taken
-    ensures word { result ≡ (if is_given.old then Taken.Wrong (Misuse.Twice flag) else Taken.Word) }
-    ensures set { is_given.new ≡ true }
-{
-    if *is_given {
-        return Taken::Wrong(Misuse::Twice(flag));
-    }
-    *is_given = true;
-    Taken::Word
 }

@@ -1,11 +1,24 @@
-//! What follows from the options that are given: the task, and which doubles have a text.
-ghost use Rattle.std.specs.Prelude.{◌≡◌};
-ghost use Rattle.bson_program.specs.Order.{awaited, first_taken, task_in_order, judged, options_of, taking_of};
+//! What follows from the options that are given: the task, which doubles have a text, and that an option
+//! is given once.
+ghost use Rattle.std.specs.Prelude.{◌≡◌, ◌||◌, not, true, if◌then◌else◌};
+ghost use Rattle.bson_program.specs.Order.{awaited, first_taken, is_output, task_in_order, judged, options_of, taking_of};
 
-use crate::arguments::Next;
-use crate::order::Flag;
+use crate::arguments::{Next, Taken};
+use crate::order::{Flag, Misuse, Purpose};
 use bson::extjson::{Doubles, KeyOrder, Options};
 use bson_run::order::{Criterion, Taking, Task, Work};
+
+/// Sets what an option sets, unless it is given twice.
+pub fn set(is_given: &mut bool, flag: Flag) -> Taken
+    ensures word { result ≡ (if is_given.old then Taken.Wrong (Misuse.Twice flag) else Taken.Word) }
+    ensures set { is_given.new ≡ true }
+{
+    if *is_given {
+        return Taken::Wrong(Misuse::Twice(flag));
+    }
+    *is_given = true;
+    Taken::Word
+}
 
 /// Returns the option that waits for its value.
 pub fn awaited(next: Next) -> Option<Flag>
@@ -32,6 +45,13 @@ pub fn options_of(is_strict: bool) -> Options
         doubles,
         key_order: KeyOrder::Ascending,
     }
+}
+
+/// Returns whether keys are sorted: that is asked for, or the run has digests or a comparison.
+pub fn is_sorted(purpose: Purpose, sorts_keys: bool) -> bool
+    ensures { result ≡ (not (is_output purpose) || sorts_keys) }
+{
+    purpose != Purpose::Output || sorts_keys
 }
 
 /// Returns the task that keeps the keys of each document in their order.

@@ -1,10 +1,11 @@
 //! Which options each command has, and whether the given ones are among them.
 ghost use Rattle.std.specs.Prelude.{◌≡◌, IfSome, None, true};
 ghost use Rattle.bson_program.specs.Flags as flags;
-ghost use Rattle.bson_program.specs.Order.{AllFit, TaskFits, IsMisfit};
+ghost use Rattle.bson_program.specs.Order.{AllFit, AreTwoFiles, IsMisfit, TaskFits};
+ghost use Rattle.bson_run.specs.declared.order.Task.{Task};
 
 use crate::arguments::Given;
-use crate::order::{Flag, Input, Misuse};
+use crate::order::{Flag, Input, Misuse, Purpose, STANDARD};
 use bson_convert::mode::Mode;
 use bson_run::order::{Criterion, Task};
 
@@ -13,13 +14,32 @@ pub fn misfit(given: &Given, task: Task) -> Option<Misuse>
     ensures some { IfSome result (IsMisfit given.now task) }
     ensures none { result ≡ None → TaskFits given.now task }
 {
-    if given.input == Input::Text && given.inputs.len() > 1 {
-        return Some(Misuse::ManyFiles);
+    if let Some(flag) = unfit(given, task) {
+        return Some(Misuse::Unfit(flag, given.purpose, task));
     }
-    match unfit(given, task) {
-        Some(flag) => Some(Misuse::Unfit(flag, task)),
-        None => None,
+    if given.purpose == Purpose::Comparison {
+        two_files(given)
+    } else {
+        None
     }
+}
+
+// Returns what is wrong with the files of a comparison.
+fn two_files(given: &Given) -> Option<Misuse>
+    ensures some { (task : Task) → given.now.purpose ≡ Purpose.Comparison → IfSome result (IsMisfit given.now task) }
+    ensures none { result ≡ None → AreTwoFiles given.now.inputs }
+{
+    let inputs = &given.inputs;
+    if inputs.len() != 2 {
+        return Some(Misuse::TwoFiles);
+    }
+    if inputs[0].as_str() != STANDARD {
+        return None;
+    }
+    if inputs[1].as_str() != STANDARD {
+        return None;
+    }
+    Some(Misuse::StandardTwice)
 }
 
 // Returns the first given option that the command does not have.
@@ -54,6 +74,9 @@ fn unfit(given: &Given, task: Task) -> Option<Flag>
     if clashes(Flag::Output, given, task) {
         return Some(Flag::Output);
     }
+    if clashes(Flag::Unordered, given, task) {
+        return Some(Flag::Unordered);
+    }
     None
 }
 
@@ -61,10 +84,22 @@ fn unfit(given: &Given, task: Task) -> Option<Flag>
 fn clashes(flag: Flag, given: &Given, task: Task) -> bool
     ensures { result ≡ flags.clashes flag given.now task }
 {
-    if accepts(flag, given.input, task) {
+    if serves(flag, given.purpose) && accepts(flag, given.input, task) {
         false
     } else {
         given.has(flag)
+    }
+}
+
+// Returns whether the option is one of modes with this purpose.
+fn serves(flag: Flag, purpose: Purpose) -> bool
+    ensures { result ≡ flags.serves flag purpose }
+{
+    match flag {
+        Flag::SortKeys | Flag::Indent => purpose == Purpose::Output,
+        Flag::KeepGoing | Flag::Jobs | Flag::Output => purpose != Purpose::Comparison,
+        Flag::Unordered => purpose == Purpose::Comparison,
+        Flag::Strict | Flag::Legacy | Flag::NoDoubleKeys | Flag::Canonical => true,
     }
 }
 
@@ -80,6 +115,7 @@ fn accepts(flag: Flag, input: Input, task: Task) -> bool
         Flag::Canonical => input != Input::Documents && is_check(task),
         Flag::Indent => input == Input::Text && is_form(task),
         Flag::KeepGoing | Flag::Jobs => input != Input::Text,
+        Flag::Unordered => true,
     }
 }
 

@@ -3,12 +3,15 @@
 //!
 //! The library `bson_run` converts. This crate has the arguments (`order`, `arguments`, `values`,
 //! `choices`, `fits`), the files (`run`, `streams`, `output`; `texts` for JSON texts with `whole` for
-//! each, `dump` for BSON documents), the line of progress (`progress`), the lines on standard error (`messages`, `misuse`,
-//! `hints`, `rejected`), the help (`words`) and the statuses.
+//! each, `dump` for BSON documents), digests of lines (`digests`), comparisons (`compared`, `same`),
+//! the line of progress (`progress`), the lines on standard error (`messages`, `misuse`, `hints`,
+//! `rejected`), the help (`words`) and the statuses.
 #![tactic(auto)]
 
 mod arguments;
 mod choices;
+mod compared;
+mod digests;
 mod dump;
 mod fits;
 mod hints;
@@ -19,15 +22,17 @@ mod output;
 mod progress;
 mod rejected;
 mod run;
+mod same;
 mod streams;
 mod texts;
 mod values;
 mod whole;
 mod words;
 
+use crate::compared::{compare_files, line_for};
 use crate::messages::{line_of, summary};
 use crate::misuse::misuse_line;
-use crate::order::{Asked, Command, Misuse, Order, STANDARD, Wrong, parse_arguments};
+use crate::order::{Asked, Command, Misuse, Order, Purpose, STANDARD, Wrong, parse_arguments};
 use crate::run::{Stop, run};
 use crate::words::{OUT_OF_MEMORY, VERSION, help_of, usage_of};
 use bson_convert::fault::Fault;
@@ -44,6 +49,7 @@ const NO_READER: u8 = 141;
 // nobody reads the output any more, and nothing is told.
 fn main(rt: HostRuntime) -> ExitCode {
     match read_order(&rt) {
+        Ok(Asked::Run(order)) if order.purpose == Purpose::Comparison => compare_order(&rt, &order),
         Ok(Asked::Run(order)) => run_order(&rt, &order),
         Ok(Asked::Help(command)) => print_text(&rt, help_of(command)),
         Ok(Asked::Version) => print_text(&rt, VERSION),
@@ -83,23 +89,39 @@ fn run_order(rt: &HostRuntime, order: &Order) -> ExitCode {
     let mut hints = Vec::new(rt.alloc());
     let status = match run(rt, order, &mut hints) {
         Ok(counts) if counts.refused == 0 => ExitCode::SUCCESS,
-        Ok(counts) => end_with(rt, summary(rt.alloc(), order.input, counts)),
+        Ok(counts) => end_with(rt, summary(rt.alloc(), order.input, counts), 1),
         Err(Stop::Output(_, Some(error))) if error.kind() == ErrorKind::BrokenPipe => {
             ExitCode::from(NO_READER)
         }
-        Err(stop) => end_with(rt, line_of(rt.alloc(), stop)),
+        Err(stop) => end_with(rt, line_of(rt.alloc(), stop), 1),
     };
-    for hint in hints.iter() {
-        let _ = rt.eprintln(hint.as_str());
-    }
+    print_hints(rt, &hints);
     status
 }
 
-// Status 1, once the line was given to standard error.
-fn end_with(rt: &HostRuntime, line: Result<String, AllocError>) -> ExitCode {
+// Compares two files. The status is 1 if and only if their values differ.
+fn compare_order(rt: &HostRuntime, order: &Order) -> ExitCode {
+    let mut hints = Vec::new(rt.alloc());
+    let status = match compare_files(rt, order, &mut hints) {
+        Ok(None) => ExitCode::SUCCESS,
+        Ok(Some(difference)) => end_with(rt, line_for(rt.alloc(), order, difference), 1),
+        Err(stop) => end_with(rt, line_of(rt.alloc(), stop), 2),
+    };
+    print_hints(rt, &hints);
+    status
+}
+
+fn print_hints(rt: &HostRuntime, hints: &Vec<String>) {
+    for hint in hints.iter() {
+        let _ = rt.eprintln(hint.as_str());
+    }
+}
+
+// This status, once the line was given to standard error.
+fn end_with(rt: &HostRuntime, line: Result<String, AllocError>, status: u8) -> ExitCode {
     match line {
-        Ok(line) => report_failure(rt, &line, 1),
-        Err(_) => report_failure(rt, OUT_OF_MEMORY, 1),
+        Ok(line) => report_failure(rt, &line, status),
+        Err(_) => report_failure(rt, OUT_OF_MEMORY, status),
     }
 }
 
@@ -108,6 +130,10 @@ fn print_text(rt: &HostRuntime, text: &str) -> ExitCode {
     match rt.println(text) {
         Ok(()) => ExitCode::SUCCESS,
         Err(error) if error.kind() == ErrorKind::BrokenPipe => ExitCode::from(NO_READER),
-        Err(error) => end_with(rt, line_of(rt.alloc(), Stop::Output(STANDARD, Some(error)))),
+        Err(error) => end_with(
+            rt,
+            line_of(rt.alloc(), Stop::Output(STANDARD, Some(error))),
+            1,
+        ),
     }
 }

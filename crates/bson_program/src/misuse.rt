@@ -3,12 +3,13 @@ ghost use Rattle.std.specs.Prelude.{◌≡◌, ℕ, List, IfOk, string_bytes};
 ghost use Rattle.bson_program.specs.Flags.{flag_name};
 ghost use Rattle.bson_program.specs.Misuses.{command_name, full_name, kind_of_word, mode_without, see, misuse_message};
 ghost use Rattle.bson_program.specs.Messages.{escaped_name};
+ghost use Rattle.bson_program.specs.Order.{mode_word};
 ghost use Rattle.bson_convert.specs.Words.{name_of};
 ghost use Rattle.bson_run.specs.Words.{task_name};
 ghost use Rattle.bson_run.specs.declared.order.Task.{Task};
 
 use crate::messages::escape_name;
-use crate::order::{Command, Flag, Misuse, Wrong};
+use crate::order::{Command, Flag, Misuse, Purpose, Wrong};
 use bson_convert::mode::Mode;
 use bson_run::order::{Criterion, Task, Work};
 use std::alloc::{AllocError, Global};
@@ -27,15 +28,13 @@ pub fn misuse_line(alloc: Global, wrong: &Wrong) -> Result<String, AllocError>
             format!(in alloc; "bson: {name} is given twice")
         }
         Misuse::NoValue(flag) => no_value(alloc, flag),
-        Misuse::Unfit(flag, task) => unfit(alloc, command, flag, task),
+        Misuse::Unfit(flag, purpose, task) => unfit(alloc, command, flag, purpose, task),
         Misuse::NoMode => {
             let kind = kind_of_word(command);
             format!(in alloc; "bson: no {kind} is given")
         }
-        Misuse::ManyFiles => String::from_str(
-            alloc,
-            "bson: one document is read from one file; `bson lines` reads several",
-        ),
+        Misuse::TwoFiles => two_files(alloc, command),
+        Misuse::StandardTwice => String::from_str(alloc, "bson: standard input is given twice"),
         Misuse::NotUtf8 => String::from_str(alloc, "bson: an argument is not UTF-8"),
     }
 }
@@ -81,13 +80,27 @@ fn no_value(alloc: Global, flag: Flag) -> Result<String, AllocError>
     }
 }
 
-// Names a command and an option that it does not have.
-fn unfit(alloc: Global, command: Command, flag: Flag, task: Task) -> Result<String, AllocError>
-    ensures { (word : List ℕ) → IfOk result (λ line. string_bytes line ≡ misuse_message command (Misuse.Unfit flag task) word) }
+// Names a mode and an option that it does not have.
+fn unfit(
+    alloc: Global,
+    command: Command,
+    flag: Flag,
+    purpose: Purpose,
+    task: Task,
+) -> Result<String, AllocError>
+    ensures { (word : List ℕ) → IfOk result (λ line. string_bytes line ≡ misuse_message command (Misuse.Unfit flag purpose task) word) }
 {
-    let name = full_name(alloc, command, mode_without(flag, task))?;
+    let name = full_name(alloc, command, mode_without(flag, purpose, task))?;
     let option = flag_name(flag);
     format!(in alloc; "bson: {name} does not accept {option}")
+}
+
+// Says that a comparison needs two files.
+fn two_files(alloc: Global, command: Command) -> Result<String, AllocError>
+    ensures { (word : List ℕ) → IfOk result (λ line. string_bytes line ≡ misuse_message command Misuse.TwoFiles word) }
+{
+    let name = full_name(alloc, command, "same")?;
+    format!(in alloc; "bson: {name} needs two files")
 }
 
 // Says where the help is.
@@ -132,17 +145,28 @@ fn kind_of_word(command: Command) -> &'static str
 }
 
 // Returns the mode that does not have an option, and behind it the option by which it does not.
-fn mode_without(flag: Flag, task: Task) -> &'static str
-    ensures { result.now ≡ mode_without flag task }
+fn mode_without(flag: Flag, purpose: Purpose, task: Task) -> &'static str
+    ensures { result.now ≡ mode_without flag purpose task }
 {
     match task {
         Task::Check(Criterion::Canonical) if flag != Flag::Canonical => "check --canonical",
-        other => task_name(other),
+        other => mode_word(purpose, other),
     }
 }
 
-/// Returns the name of a task.
-pub fn task_name(task: Task) -> &'static str
+/// Returns the word that names a mode.
+pub fn mode_word(purpose: Purpose, task: Task) -> &'static str
+    ensures { result.now ≡ mode_word purpose task }
+{
+    match purpose {
+        Purpose::Output => task_name(task),
+        Purpose::Digests => "hash",
+        Purpose::Comparison => "same",
+    }
+}
+
+// Returns the name of a task.
+fn task_name(task: Task) -> &'static str
     ensures { result.now ≡ task_name task }
 {
     match task {
@@ -180,5 +204,6 @@ fn flag_name(flag: Flag) -> &'static str
         Flag::KeepGoing => "--keep-going",
         Flag::Jobs => "--jobs",
         Flag::Output => "--output",
+        Flag::Unordered => "--unordered",
     }
 }

@@ -64,12 +64,14 @@ pub enum Misuse {
     Twice(Flag),
     /// An option has no value, or not one that it can have.
     NoValue(Flag),
-    /// The command does not have an option.
-    Unfit(Flag, Task),
+    /// The mode does not have an option.
+    Unfit(Flag, Purpose, Task),
     /// No mode is given.
     NoMode,
-    /// A single document is read from several files.
-    ManyFiles,
+    /// A comparison needs two files.
+    TwoFiles,
+    /// Standard input is named twice.
+    StandardTwice,
     /// A word is not UTF-8.
     NotUtf8,
 }
@@ -95,6 +97,19 @@ pub enum Flag {
     Jobs,
     /// `-o FILE`.
     Output,
+    /// `--unordered`.
+    Unordered,
+}
+
+/// What a run makes of the output.
+#[derive(Clone, Copy, PartialEq, Eq)]
+pub enum Purpose {
+    /// The output is written.
+    Output,
+    /// The digest of each line of the output is written.
+    Digests,
+    /// The outputs of two files are compared.
+    Comparison,
 }
 
 /// What the input is.
@@ -117,6 +132,10 @@ pub struct Order {
     pub options: Options,
     /// What becomes of the run at a line or a document that is refused.
     pub on_refusal: OnRefusal,
+    /// What the run makes of the output.
+    pub purpose: Purpose,
+    /// Whether a comparison ignores the order of values.
+    pub is_unordered: bool,
     /// What the input is.
     pub input: Input,
     /// How many spaces indent the output for each bracket, where it is laid out over several lines.
@@ -135,13 +154,15 @@ impl Order {
         self.task == Task::Encode || self.task == Task::EncodeInOrder
     }
 
-    /// Whether what is read is only judged.
+    /// Whether what is read is only judged or compared.
     pub fn writes_nothing(&self) -> bool
         ensures { IsTrue result
-            ↔ (((criterion : Criterion) × (self.now.task ≡ Task.Check criterion))
+            ↔ ((self.now.purpose ≡ Purpose.Comparison)
+            ⊎ ((criterion : Criterion) × (self.now.task ≡ Task.Check criterion))
             ⊎ ((taking : Taking) × (self.now.task ≡ Task.Taken taking Work.Check))) }
     {
-        matches!(self.task, Task::Check(_) | Task::Taken(_, Work::Check))
+        self.purpose == Purpose::Comparison
+            || matches!(self.task, Task::Check(_) | Task::Taken(_, Work::Check))
     }
 }
 

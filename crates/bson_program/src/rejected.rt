@@ -5,8 +5,8 @@ ghost use Rattle.bson_program.specs.Hints.{sorts_keys, taking_options, told_of};
 
 use crate::hints::{Hint, Rejected, hint_for};
 use crate::messages::show_name;
-use crate::misuse::task_name;
-use crate::order::{Input, Order, STANDARD};
+use crate::misuse::mode_word;
+use crate::order::{Input, Order, Purpose, STANDARD};
 use crate::run::Stop;
 use bson::extjson::{Doubles, Options};
 use bson_codec::run_end::RunFault;
@@ -120,7 +120,7 @@ fn words_of(alloc: Global, order: &Order) -> Result<String, AllocError>
 {
     let mode = mode_for(order);
     let doubles = order.options.doubles;
-    let sorts_keys = option_if(sorts_keys(doubles, order.task), " --sort-keys");
+    let sorts_keys = option_if(sorts_keys(order.purpose, doubles, order.task), " --sort-keys");
     let strict = option_if(is_strict(doubles), " --strict");
     let taking = taking_options(order.task);
     format!(in alloc; "{mode}{sorts_keys}{strict}{taking}")
@@ -128,11 +128,20 @@ fn words_of(alloc: Global, order: &Order) -> Result<String, AllocError>
 
 // The mode of a command that reads the input.
 fn mode_for(order: &Order) -> &'static str
-    ensures { result.now ≡ reading_mode order.now.input order.now.task }
+    ensures { result.now ≡ reading_mode order.now.input order.now.purpose order.now.task }
 {
     match (order.input, order.task) {
         (Input::Lines, Task::Encode | Task::EncodeInOrder) => "canonical",
-        (_, task) => task_name(task),
+        (_, task) => mode_word(order.purpose, task),
+    }
+}
+
+fn is_strict(doubles: Doubles) -> bool
+    ensures { result ≡ is_strict doubles }
+{
+    match doubles {
+        Doubles::Special => true,
+        Doubles::Finite => false,
     }
 }
 
@@ -162,15 +171,15 @@ fn taking_options(task: Task) -> &'static str
     }
 }
 
-// Whether keys are sorted, and not because the run is strict.
-fn sorts_keys(doubles: Doubles, task: Task) -> bool
-    ensures { result ≡ sorts_keys doubles task }
+// Whether the option that sorts keys is given, and not another that sorts them.
+fn sorts_keys(purpose: Purpose, doubles: Doubles, task: Task) -> bool
+    ensures { result ≡ sorts_keys purpose doubles task }
 {
-    match doubles {
-        Doubles::Special => false,
-        Doubles::Finite => {
+    match (purpose, doubles) {
+        (Purpose::Output, Doubles::Finite) => {
             matches!(task, Task::Write(_) | Task::Encode | Task::Taken(_, Work::Write(_)))
         }
+        _ => false,
     }
 }
 

@@ -4,6 +4,7 @@ ghost use Rattle.bson_run.specs.Lines.{text_held};
 ghost use Rattle.bson_run.specs.Place.{IsWhere};
 ghost use Rattle.bson_program.specs.Stops.{IsTitle, IsUnread, IsUnwritten};
 
+use crate::digests::hasher_for;
 use crate::dump::run_dump;
 use crate::messages::head_of;
 use crate::order::{Input, Order, STANDARD};
@@ -61,6 +62,7 @@ pub fn run<'a>(
         Ok(output) => output,
         Err(error) => return Err(Stop::Output(name, Some(error))),
     };
+    output.sink.hasher = hasher_for(rt.alloc(), order.purpose);
     let progress = Progress::new(rt, total(rt, order), order.input != Input::Documents);
     let counts = run_all(rt, order, &mut output.sink, &progress, hints);
     progress.clear();
@@ -95,8 +97,8 @@ fn run_all<'a>(
     Ok(all)
 }
 
-// Converts the lines of one file.
-fn run_one<'a>(
+/// Converts the lines of one file.
+pub fn run_one<'a>(
     rt: &HostRuntime,
     order: &'a Order,
     name: &'a str,
@@ -221,8 +223,8 @@ fn title<'a>(rt: &HostRuntime, order: &Order, name: &'a str) -> Result<Option<St
     }
 }
 
-// A file to read opens, and is none of those that are written.
-fn try_input<'a>(rt: &HostRuntime, order: &Order, name: &'a str) -> Result<(), Stop<'a>> {
+/// A file to read opens, and is none of those that are written.
+pub fn try_input<'a>(rt: &HostRuntime, order: &Order, name: &'a str) -> Result<(), Stop<'a>> {
     let input = if name == STANDARD {
         fs::metadata(rt, "/dev/stdin")
     } else {
@@ -257,9 +259,9 @@ fn is_written(rt: &HostRuntime, file: &Metadata, name: &str) -> bool {
     }
 }
 
-// How many bytes are to be read, where progress is told: standard error is a terminal to which no
-// output goes, and all that is read is files.
-fn total(rt: &HostRuntime, order: &Order) -> Option<u64> {
+/// How many bytes are to be read, where progress is told: standard error is a terminal to which no
+/// output goes, and all that is read is files.
+pub fn total(rt: &HostRuntime, order: &Order) -> Option<u64> {
     let is_apart = order.output.as_str() != STANDARD
         || order.writes_nothing()
         || !rt.stdout().is_terminal();

@@ -1,7 +1,10 @@
 //! What is read and written: standard streams and files, with the cause where that fails.
-ghost use Rattle.std.specs.Prelude.{◌≡◌, IsOk, None};
+ghost use Rattle.std.specs.Prelude.{◌≡◌, ℕ, IsOk, None, Vec};
+ghost use Rattle.std.specs.Io.{WritesAtMost};
 ghost use Rattle.std.specs.declared.rt.Stdout.{Stdout};
 
+use crate::digests::LineHasher;
+use std::alloc::Global;
 use std::fs::File;
 use std::io;
 use std::io::{Read, Write};
@@ -28,15 +31,26 @@ impl Read for Source {
 pub enum Target {
     Stdout(Stdout),
     File(File),
+    Memory(Vec<u8>),
 }
 
 impl Target {
+    /// Returns what was written to memory, and nothing of any other target.
+    pub fn into_memory(self, alloc: Global) -> Vec<u8>
+        ensures { (bytes : Vec ℕ Global) → self ≡ Target.Memory bytes → result ≡ bytes }
+    {
+        match self {
+            Target::Memory(bytes) => bytes,
+            Target::Stdout(_) | Target::File(_) => Vec::new(alloc),
+        }
+    }
+
     /// Waits until the system has kept all of a file.
     pub fn sync(&self) -> io::Result<()>
         ensures { (stdout : Stdout) → self.now ≡ Target.Stdout stdout → IsOk result }
     {
         match self {
-            Target::Stdout(_) => Ok(()),
+            Target::Stdout(_) | Target::Memory(_) => Ok(()),
             Target::File(file) => file.sync_all(),
         }
     }
@@ -47,6 +61,7 @@ impl Write for Target {
         match self {
             Target::Stdout(stdout) => stdout.write(buf),
             Target::File(file) => file.write(buf),
+            Target::Memory(bytes) => bytes.write(buf),
         }
     }
 
@@ -54,6 +69,7 @@ impl Write for Target {
         match self {
             Target::Stdout(stdout) => stdout.flush(),
             Target::File(file) => file.flush(),
+            Target::Memory(_) => Ok(()),
         }
     }
 }
@@ -62,6 +78,8 @@ impl Write for Target {
 #[derive(Drop)]
 pub struct Sink {
     pub target: Target,
+    /// If it is given, the digest of each line is written in place of the line.
+    pub hasher: Option<LineHasher>,
     pub error: Option<io::Error>,
 }
 
@@ -72,14 +90,29 @@ impl Sink {
     {
         Sink {
             target,
+            hasher: None,
             error: None,
+        }
+    }
+
+    // Writes the bytes, or the digests of the lines that end in them.
+    fn put(&mut self, bytes: &[u8]) -> io::Result<usize>
+        ensures { WritesAtMost result bytes.now }
+    {
+        match &mut self.hasher {
+            Some(hasher) => {
+                let digests = hasher.digests_of(bytes)?;
+                self.target.write_all(&digests)?;
+                Ok(bytes.len())
+            }
+            None => self.target.write(bytes),
         }
     }
 }
 
 impl Write for Sink {
     fn write(&mut self, buf: &[u8]) -> io::Result<usize> {
-        match self.target.write(buf) {
+        match self.put(buf) {
             Ok(count) => Ok(count),
             Err(error) => {
                 self.error = Some(error);

@@ -21,70 +21,90 @@ pub fn help_of(command: Command) -> &'static str {
 pub fn usage_of(command: Command) -> &'static str {
     match command {
         Command::All => USAGE,
-        Command::Text => "usage: bson canonical|relaxed|show|check [OPTION ..] [FILE]",
-        Command::Lines => "usage: bson lines canonical|relaxed|show|check [OPTION ..] [FILE ..]",
-        Command::Decode => "usage: bson decode canonical|relaxed|show|check [OPTION ..] [FILE ..]",
+        Command::Text => {
+            "usage: bson canonical|relaxed|show|check|hash [OPTION ..] [FILE ..]
+       bson same [OPTION ..] FILE FILE"
+        }
+        Command::Lines => {
+            "usage: bson lines canonical|relaxed|show|check|hash [OPTION ..] [FILE ..]
+       bson lines same [OPTION ..] FILE FILE"
+        }
+        Command::Decode => {
+            "usage: bson decode canonical|relaxed|show|check|hash [OPTION ..] [FILE ..]
+       bson decode same [OPTION ..] FILE FILE"
+        }
         Command::Encode => "usage: bson encode [OPTION ..] [FILE ..]",
     }
 }
 
 /// The usage of all commands.
-pub const USAGE: &str = "usage: bson canonical|relaxed|show|check [OPTION ..] [FILE]
-       bson lines canonical|relaxed|show|check [OPTION ..] [FILE ..]
-       bson decode canonical|relaxed|show|check [OPTION ..] [FILE ..]
+pub const USAGE: &str = "usage: bson canonical|relaxed|show|check|hash [OPTION ..] [FILE ..]
+       bson lines canonical|relaxed|show|check|hash [OPTION ..] [FILE ..]
+       bson decode canonical|relaxed|show|check|hash [OPTION ..] [FILE ..]
+       bson same|lines same|decode same [OPTION ..] FILE FILE
        bson encode [OPTION ..] [FILE ..]";
 
-/// The help of `canonical`, `relaxed`, `show` and `check`.
-const TEXT: &str = "usage: bson canonical|relaxed|show|check [OPTION ..] [FILE]
+/// The help of `canonical`, `relaxed`, `show`, `check`, `hash` and `same`.
+const TEXT: &str = "usage: bson canonical|relaxed|show|check|hash [OPTION ..] [FILE ..]
+       bson same [OPTION ..] FILE FILE
 
-Reads JSON documents from FILE or standard input as MongoDB Extended JSON v2: one document, or several with white space
-between. For each it writes one line:
+Reads JSON documents from each FILE or standard input as MongoDB Extended JSON v2: one document, or several with white
+space between. For each it writes one line:
   canonical   its canonical form, which keeps every type
   relaxed     its relaxed form, with plain numbers, and with dates as strings
   show        the value as the library's Display writes it, which is not JSON
   check       nothing; it only reports a rejected document
+  hash        the SHA-256 digest of its canonical form with sorted keys, as 64 hexadecimal digits
+`same` compares the values of two files, and reports the first difference.
 
-  --sort-keys             (not check) writes keys in ascending order at every depth
-  --strict                reads one document, and accepts of all doubles only zeros, infinities and NaNs; keys are
-                          written in ascending order
+  --sort-keys             (canonical, relaxed, show) writes keys in ascending order at every depth
+  --strict                reads one document of a file, and accepts of all doubles only zeros, infinities and NaNs; keys
+                          are written in ascending order
   --legacy                also reads three objects of Extended JSON v1
   --no-double-keys        rejects input in which an object has a duplicate key, at any depth
   --canonical             (check) accepts only canonical JSON, byte for byte as `canonical --sort-keys` writes it
   --indent N              (canonical, relaxed) writes each document over several lines, with N spaces for each bracket
-  -o FILE, --output FILE  (not check) writes the output to FILE, as a whole at the end
+  --unordered             (same) ignores the order of values
+  -o FILE, --output FILE  (not check, same) writes the output to FILE, as a whole at the end
 
 `bson --help` says more of each option, and lists the statuses.";
 
 /// The help of `lines`.
-const LINES: &str = "usage: bson lines canonical|relaxed|show|check [OPTION ..] [FILE ..]
+const LINES: &str = "usage: bson lines canonical|relaxed|show|check|hash [OPTION ..] [FILE ..]
+       bson lines same [OPTION ..] FILE FILE
 
 Reads one JSON document per line, from files or standard input, and writes a line for each. It needs the memory of the
 longest line. A rejected line is reported as FILE:LINE:, or with its number for standard input. `check` writes only these
-reports. Blank lines are counted, and write nothing.
+reports. `hash` writes the SHA-256 digest of each canonical form with sorted keys. `same` compares the values of two
+files, and reports the first difference. Blank lines are counted, and write nothing.
 
-  --sort-keys             (not check) writes keys in ascending order at every depth
+  --sort-keys             (canonical, relaxed, show) writes keys in ascending order at every depth
   --strict                accepts of all doubles only zeros, infinities and NaNs; keys are written in ascending order
   --legacy                also reads three objects of Extended JSON v1
   --no-double-keys        rejects a line in which an object has a duplicate key, at any depth
   --canonical             (check) accepts only canonical JSON, byte for byte as `canonical --sort-keys` writes it
-  --keep-going            skips a rejected line and reports it; without it the run ends there
-  --jobs N                converts N parts of named files at a time, with GNU parallel
-  -o FILE, --output FILE  (not check) writes the output to FILE, as a whole at the end
+  --keep-going            (not same) skips a rejected line and reports it; without it the run ends there
+  --jobs N                (not same) converts N parts of named files at a time, with GNU parallel
+  --unordered             (same) ignores the order of values
+  -o FILE, --output FILE  (not check, same) writes the output to FILE, as a whole at the end
 
 `bson --help` says more of each option, and lists the statuses.";
 
 /// The help of `decode`.
-const DECODE: &str = "usage: bson decode canonical|relaxed|show|check [OPTION ..] [FILE ..]
+const DECODE: &str = "usage: bson decode canonical|relaxed|show|check|hash [OPTION ..] [FILE ..]
+       bson decode same [OPTION ..] FILE FILE
 
 Reads concatenated documents of BSON 1.1, as in a dump, and writes a line for each. It needs the memory of the largest
-document, which may nest 100 levels deep. `check` only checks the bytes. A rejected document is reported with its number,
-its offset in the file, and the offset of the error in it.
+document, which may nest 100 levels deep. `check` only checks the bytes. `hash` writes the SHA-256 digest of each canonical
+form with sorted keys. `same` compares the documents of two files, and reports the first difference. A rejected document is
+reported with its number, its offset in the file, and the offset of the error in it.
 
   --sort-keys             (canonical, relaxed) writes keys in ascending order at every depth
-  --strict                (canonical, relaxed) rejects finite doubles other than zeros; keys are written in ascending order
-  --keep-going            skips a rejected document and reports it, if all the bytes of its length are present
-  --jobs N                converts N parts of named files at a time, with GNU parallel
-  -o FILE, --output FILE  (not check) writes the output to FILE, as a whole at the end
+  --strict                (not show, check) rejects finite doubles other than zeros; keys are written in ascending order
+  --keep-going            (not same) skips a rejected document and reports it, if all the bytes of its length are present
+  --jobs N                (not same) converts N parts of named files at a time, with GNU parallel
+  --unordered             (same) ignores the order of documents
+  -o FILE, --output FILE  (not check, same) writes the output to FILE, as a whole at the end
 
 `bson --help` says more of each option, and lists the statuses.";
 
@@ -104,17 +124,22 @@ than 2^31 bytes. Bytes are not written to a terminal.
 `bson --help` says more of each option, and lists the statuses.";
 
 /// The help of all commands.
-pub const HELP: &str = "usage: bson canonical|relaxed|show|check [OPTION ..] [FILE]
-       bson lines canonical|relaxed|show|check [OPTION ..] [FILE ..]
-       bson decode canonical|relaxed|show|check [OPTION ..] [FILE ..]
+pub const HELP: &str = "usage: bson canonical|relaxed|show|check|hash [OPTION ..] [FILE ..]
+       bson lines canonical|relaxed|show|check|hash [OPTION ..] [FILE ..]
+       bson decode canonical|relaxed|show|check|hash [OPTION ..] [FILE ..]
+       bson same|lines same|decode same [OPTION ..] FILE FILE
        bson encode [OPTION ..] [FILE ..]
 
-Reads JSON documents from FILE or standard input as MongoDB Extended JSON v2, in either form or mixed: one document, or
-several with white space between. For each it writes one line:
+Reads JSON documents from each FILE or standard input as MongoDB Extended JSON v2, in either form or mixed: one document,
+or several with white space between. For each it writes one line:
   canonical   its canonical form, which keeps every type
   relaxed     its relaxed form, with plain numbers, and with dates as strings
   show        the value as the library's Display writes it, which is not JSON
   check       nothing; it only reports a rejected document
+  hash        the SHA-256 digest of its canonical form with sorted keys, as 64 hexadecimal digits
+
+`same` compares the values of two files, each with its canonical form and sorted keys, and keeps both in memory. It writes
+nothing if the values are the same in the same order. Otherwise it reports the first difference.
 
 Keys keep the order of the input. A duplicate key has its last value at its first position. A number that is not a
 64-bit integer, such as 1.5, is read as the nearest double. A double is written as its shortest decimal.
@@ -133,8 +158,8 @@ the offset of the error in it.
 `decode canonical` reads this dump as the same lines. A line is rejected if its value is not a document, or if a key or
 a regular expression has a 0 byte. Each part must have fewer than 2^31 bytes. Bytes are not written to a terminal.
 
-  --sort-keys             (not check, decode show) writes keys in ascending order at every depth, so that equal values
-                          have equal output
+  --sort-keys             (not check, hash, same, decode show) writes keys in ascending order at every depth, so that
+                          equal values have equal output
   --strict                (not decode show, decode check) accepts of all doubles only zeros, infinities and NaNs, and
                           rejects numbers such as 1.5 and 0.0; a double zero is {\"$numberDouble\": \"0.0\"}. Keys are
                           written in ascending order at every depth. A file has one document, unless `lines` or
@@ -148,22 +173,24 @@ a regular expression has a 0 byte. Each part must have fewer than 2^31 bytes. By
                           `canonical --sort-keys` writes it, with its newline or without; not with the two options above
   --indent N              (canonical, relaxed) writes a document over several lines, one for each member and element,
                           with N spaces for each bracket, N from 1 to 16; it reads as exactly the same tree
-  --keep-going            (lines, decode, encode) skips a rejected line or document and reports it; a rejected BSON
-                          document is skipped if all the bytes of its length are present
-  --jobs N                (lines, decode, encode) cuts named files at ends of lines, or at the start of documents, and
-                          converts N parts at a time, with GNU parallel. Output, messages and status are those of one
-                          job. Many small files are one job
-  -o FILE, --output FILE  writes the output to FILE, as a whole at the end; if a run ends early, FILE stays as it was
+  --keep-going            (lines, decode, encode; not same) skips a rejected line or document and reports it; a rejected
+                          BSON document is skipped if all the bytes of its length are present
+  --jobs N                (lines, decode, encode; not same) cuts named files at ends of lines, or at the start of
+                          documents, and converts N parts at a time, with GNU parallel. Output, messages and status are
+                          those of one job. Many small files are one job
+  --unordered             (same) ignores the order of values: each value must occur as often in both files
+  -o FILE, --output FILE  (not check, same) writes the output to FILE, as a whole at the end; if a run ends early, FILE
+                          stays as it was
   -h, --help; -v, --version  after a command, `--help` writes the help of that command alone
 
 Options can be anywhere before the word --, and FILE - is standard input or output. If a file is both input and output,
 the run is rejected before anything is read. A byte order mark at the start of a named file is skipped.
 
 Status:
-  0    done; no line or document was rejected
+  0    done; no line or document was rejected. For `same`: the values are the same
   1    the input was rejected, or a file could not be read or written as a whole. The output has every document before
-       the error, and with --keep-going all that were not rejected
-  2    wrong arguments
+       the error, and with --keep-going all that were not rejected. For `same`: the values differ
+  2    wrong arguments. For `same` also: an input was rejected, or could not be read
   3    the program is not built, and cannot be built here
   141  nobody reads the output any more
   128 and more  a signal ended the program

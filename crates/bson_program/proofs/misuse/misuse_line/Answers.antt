@@ -13,3 +13,9 @@ returns-in-Unfit c =
     let wrong = c.args.wrong.now in
     subst (λ why. IfOk c.unfit.result (λ line. string_bytes line ≡ misuse_message wrong.command why (string_bytes wrong.word)))
     (sym c.in-Unfit.is) (c.unfit.ensures (string_bytes wrong.word))
+
+pub returns-in-TwoFiles : goal.returns-in-TwoFiles
+returns-in-TwoFiles c =
+    let wrong = c.args.wrong.now in
+    subst (λ why. IfOk c.two_files.result (λ line. string_bytes line ≡ misuse_message wrong.command why (string_bytes wrong.word)))
+    (sym c.in-TwoFiles.is) (c.two_files.ensures (string_bytes wrong.word))

@@ -5,7 +5,7 @@ use Rattle.bson_program.proofs.misuse.unfit.Goals as goal
 pub returns : goal.returns
 returns c = λ word.
     let it = c.args.command in
-    let own = full_name it (mode_without c.args.flag c.args.task) in
+    let own = full_name it (mode_without c.args.flag c.args.purpose c.args.task) in
     let name : string_bytes c.in_ok-name.name ≡ own = c.in_ok-name.ensures ∙ ap (full_name it) c.mode_without.ensures in
     subst (λ option. IfOk c.format.result (λ line. string_bytes line
     ≡ codes "bson: " ++ own ++ codes " does not accept " ++ option)) c.flag_name-option.ensures

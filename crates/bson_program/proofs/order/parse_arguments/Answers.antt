@@ -1,12 +1,10 @@
 use Rattle.std.proofs.Common.{◌≡◌, ◌∙◌, None, ap, arith, inr, length, map, string_bytes, subst, sym, take}
 use Rattle.std.proofs.lemmas.List.{length-map, take_all}
-use Rattle.std.specs.List.{Contains}
 use Rattle.std.specs.Option.{IfSome}
 use Rattle.bson_program.specs.Order.{none, AreGiven, IsWordAfter, IsMisuse}
-use Rattle.bson_run.specs.Words.{task_name}
 use Rattle.bson_program.specs.declared.arguments.Given.{Given}
 use Rattle.bson_program.proofs.Asking.{answer, behind, help_behind, more_given, refused_behind, still_there, version_there}
-use Rattle.bson_program.proofs.Asking.{word_there}
+use Rattle.bson_program.proofs.Asking.{word_there, IsThere}
 use Rattle.bson_program.proofs.order.parse_arguments.Goals as goal
 
 pub returns-in-Help : goal.returns-in-Help
@@ -51,8 +49,8 @@ loop-word-preserved c =
       given = more_given string_bytes c.args.words.items c.deref-word-items.result.now _ _ c.as_str.result.now
           c.loop-word.given c.take.new.self c.deref-word-items.ensures.value (omega arith) c.word-item.is
           c.as_str.ensures.value c.loop-word.invariant.given c.take.ensures.given;
-      verb = still_there words c.as_str.result.now c.loop-word.given.task c.take.new.self.task there
-          c.loop-word.invariant.verb c.take.ensures.verb;
+      verb = still_there words c.as_str.result.now c.loop-word.given.purpose c.take.new.self.purpose c.loop-word.given.task
+          c.take.new.self.task there c.loop-word.invariant.verb c.take.ensures.verb;
     }
 
 pub loop-word-init : goal.loop-word-init
@@ -62,7 +60,7 @@ loop-word-init c =
     let unnamed : c.new-given.result.task ≡ None = ap (λ (g : Given). g.task) first in
     record {
       given = none c.new-given.result first c.new-given.ensures.inputs;
-      verb = subst (λ task. IfSome task (λ verb. Contains words (task_name verb))) (sym unnamed) tt;
+      verb = subst (λ task. IfSome task (IsThere words c.new-given.result.purpose)) (sym unnamed) tt;
     }
 
 pub returns : goal.returns

@@ -1,10 +1,10 @@
-use Rattle.std.specs.Prelude.{Contains, IfSome, map, string_bytes, take}
+use Rattle.std.specs.Prelude.{IfSome, map, string_bytes, take}
 use Rattle.bson_program.specs.Order.{AreGiven}
-use Rattle.bson_run.specs.Words.{task_name}
+use Rattle.bson_program.proofs.Asking.{IsThere}
 use Rattle.bson_program.proofs.order.parse_arguments.Given as goal
 
 abbrev pub invariant-loop-word : goal.invariant-loop-word
 invariant-loop-word l = record {
   given : AreGiven (take l.word-index (map string_bytes l.fn.words.items)) l.given;
-  verb : IfSome l.given.task (λ verb. Contains (map string_bytes l.fn.words.items) (task_name verb));
+  verb : IfSome l.given.task (IsThere (map string_bytes l.fn.words.items) l.given.purpose);
 }

@@ -1,0 +1,115 @@
+-- The digests of lines, byte by byte.
+use Rattle.std.proofs.Common.{◌≡◌, ◌∙◌, ℕ, Bool, true, false, List, [], ◌∷◌, ◌++◌, ◌+◌, ◌-◌, ◌<◌, ◌≤◌, ap, sym, refl, subst, append_assoc, append-nil, cond, drop, suc, take, length, length-drop, get_or, arith, add-one}
+use Rattle.std.proofs.Math.Seq.{take-suc}
+use Rattle.std.proofs.lemmas.List.{get_or-drop, take_more}
+use Rattle.std.proofs.lemmas.Bool.Decides.{nat_tests}
+use Rattle.std.specs.Prelude.{◌==◌, if◌then◌else◌, slice_range}
+use Rattle.sha2.specs.Hashers.{Holds256}
+use Rattle.sha2.specs.declared.Sha256.{Sha256}
+use Rattle.bson_program.specs.Digests.{HasBegun, begun_after, digest_line, digests_from}
+
+-- ---- one more byte
+
+not_equal : (a b : ℕ) → (a ≡ b → ⊥) → (a == b) ≡ false
+not_equal a b other = grind (arith, nat_tests)
+
+pub begun_more : (begun xs : List ℕ) (b : ℕ)
+    → begun_after begun (xs ++ b ∷ []) ≡ (if b == 10 then [] else begun_after begun xs ++ b ∷ [])
+unfolding begun_after
+begun_more begun [] b = refl
+begun_more begun (x ∷ xs) b = elim (x == 10) as (λ t. (if t then begun_after [] (xs ++ b ∷ []) else begun_after (begun ++ x ∷ []) (xs ++ b ∷ []))
+    ≡ (if b == 10 then [] else (if t then begun_after [] xs else begun_after (begun ++ x ∷ []) xs) ++ b ∷ []))
+    [ true ↦ begun_more [] xs b | false ↦ begun_more (begun ++ x ∷ []) xs b ]
+
+pub digests_more : (begun xs : List ℕ) (b : ℕ)
+    → digests_from begun (xs ++ b ∷ []) ≡ digests_from begun xs ++ (if b == 10 then digest_line (begun_after begun xs) else [])
+unfolding begun_after digests_from
+digests_more begun [] b = elim (b == 10) as (λ t. (if t then digest_line begun ++ [] else []) ≡ [] ++ (if t then digest_line begun else []))
+    [ true ↦ append-nil (digest_line begun) | false ↦ refl ]
+digests_more begun (x ∷ xs) b = elim (x == 10) as (λ t. (if t then digest_line begun ++ digests_from [] (xs ++ b ∷ []) else digests_from (begun ++ x ∷ []) (xs ++ b ∷ []))
+    ≡ (if t then digest_line begun ++ digests_from [] xs else digests_from (begun ++ x ∷ []) xs)
+    ++ (if b == 10 then digest_line (if t then begun_after [] xs else begun_after (begun ++ x ∷ []) xs) else [])) [
+      | true ↦ ap (λ l. digest_line begun ++ l) (digests_more [] xs b) ∙ sym (append_assoc (digest_line begun) (digests_from [] xs) _)
+      | false ↦ digests_more (begun ++ x ∷ []) xs b
+    ]
+
+-- ---- the steps of a run
+
+pub none_ended : (begun : List ℕ) → [] ≡ digests_from begun []
+unfolding digests_from
+none_ended begun = refl
+
+pub none_begun : (hasher : Sha256) (begun bytes : List ℕ) → Holds256 hasher begun → HasBegun hasher begun bytes 0 0
+unfolding begun_after
+none_begun hasher begun bytes holds = record { kept = begun; holds = holds; line = append-nil begun }
+
+one_more_from : (bytes : List ℕ) (start at : ℕ) → start ≤ at → at < length bytes
+    → slice_range bytes start (at + 1) ≡ slice_range bytes start at ++ get_or bytes at 0 ∷ []
+one_more_from bytes start at before within =
+    let length : at - start < length (drop start bytes) = simp length-drop (omega arith) in
+    let next : at + 1 - start ≡ suc (at - start) = omega arith in
+    let place : start + (at - start) ≡ at = omega arith in
+    let byte : get_or (drop start bytes) (at - start) 0 ≡ get_or bytes at 0 =
+    get_or-drop start bytes (at - start) 0 ∙ ap (λ i. get_or bytes i 0) place in
+    ap (λ n. take n (drop start bytes)) next ∙ take-suc (drop start bytes) (at - start) 0 length
+    ∙ ap (λ x. take (at - start) (drop start bytes) ++ x ∷ []) byte
+
+-- a byte that ends a line
+pub line_ended : (hasher : Sha256) (begun bytes : List ℕ) (at : ℕ) → at < length bytes → get_or bytes at 0 ≡ 10
+    → Holds256 hasher [] → HasBegun hasher begun bytes (at + 1) (at + 1)
+line_ended hasher begun bytes at within is holds = record {
+  kept = [];
+  holds = holds;
+  line =
+      let ended : begun_after begun (take at bytes ++ get_or bytes at 0 ∷ []) ≡ [] =
+      begun_more begun (take at bytes) (get_or bytes at 0)
+      ∙ ap (λ (x : ℕ). if x == 10 then [] else begun_after begun (take at bytes) ++ x ∷ []) is in
+      let empty : (at + 1) - (at + 1) ≡ 0 = omega arith in
+      let none : slice_range bytes (at + 1) (at + 1) ≡ [] = ap (λ n. take n (drop (at + 1) bytes)) empty in
+      none ∙ sym (ap (begun_after begun) (take_more bytes at 0 within) ∙ ended);
+}
+
+pub digest_added : (begun bytes old new : List ℕ) (at : ℕ) → at < length bytes → get_or bytes at 0 ≡ 10
+    → old ≡ digests_from begun (take at bytes) → new ≡ old ++ digest_line (begun_after begun (take at bytes))
+    → new ≡ digests_from begun (take (at + 1) bytes)
+digest_added begun bytes old new at within is before grown =
+    let more : digests_from begun (take at bytes ++ get_or bytes at 0 ∷ [])
+    ≡ digests_from begun (take at bytes) ++ digest_line (begun_after begun (take at bytes)) =
+    digests_more begun (take at bytes) (get_or bytes at 0)
+    ∙ ap (λ (x : ℕ). digests_from begun (take at bytes)
+    ++ (if x == 10 then digest_line (begun_after begun (take at bytes)) else [])) is in
+    grown ∙ ap (λ l. l ++ digest_line (begun_after begun (take at bytes))) before ∙ sym more
+    ∙ ap (digests_from begun) (sym (take_more bytes at 0 within))
+
+-- a byte of a line
+pub line_grown : (hasher : Sha256) (begun bytes : List ℕ) (start at : ℕ) → start ≤ at → at < length bytes
+    → (get_or bytes at 0 ≡ 10 → ⊥) → HasBegun hasher begun bytes start at → HasBegun hasher begun bytes start (at + 1)
+line_grown hasher begun bytes start at before within other it = record {
+  kept = it.kept;
+  holds = it.holds;
+  line =
+      let test : (get_or bytes at 0 == 10) ≡ false = not_equal (get_or bytes at 0) 10 other in
+      let grown : begun_after begun (take at bytes ++ get_or bytes at 0 ∷ []) ≡ begun_after begun (take at bytes) ++ get_or bytes at 0 ∷ [] =
+      begun_more begun (take at bytes) (get_or bytes at 0)
+      ∙ ap (λ (t : Bool). if t then [] else begun_after begun (take at bytes) ++ get_or bytes at 0 ∷ []) test in
+      ap (λ l. it.kept ++ l) (one_more_from bytes start at before within)
+      ∙ sym (append_assoc it.kept (slice_range bytes start at) (get_or bytes at 0 ∷ []))
+      ∙ ap (λ l. l ++ get_or bytes at 0 ∷ []) it.line ∙ sym grown ∙ ap (begun_after begun) (sym (take_more bytes at 0 within));
+}
+
+pub digests_kept : (begun bytes digests : List ℕ) (at : ℕ) → at < length bytes → (get_or bytes at 0 ≡ 10 → ⊥)
+    → digests ≡ digests_from begun (take at bytes) → digests ≡ digests_from begun (take (at + 1) bytes)
+digests_kept begun bytes digests at within other before =
+    let test : (get_or bytes at 0 == 10) ≡ false = not_equal (get_or bytes at 0) 10 other in
+    let more : digests_from begun (take at bytes ++ get_or bytes at 0 ∷ []) ≡ digests_from begun (take at bytes) =
+    digests_more begun (take at bytes) (get_or bytes at 0)
+    ∙ ap (λ (t : Bool). digests_from begun (take at bytes)
+    ++ (if t then digest_line (begun_after begun (take at bytes)) else [])) test
+    ∙ append-nil (digests_from begun (take at bytes)) in
+    before ∙ sym more ∙ ap (digests_from begun) (sym (take_more bytes at 0 within))
+
+-- the hasher, once it has the rest of the line up to this place
+pub line_fed : (old new : Sha256) (begun bytes : List ℕ) (start at : ℕ) → HasBegun old begun bytes start at
+    → ((m : List ℕ) → Holds256 old m → Holds256 new (m ++ slice_range bytes start at))
+    → Holds256 new (begun_after begun (take at bytes))
+line_fed old new begun bytes start at it fed = subst (Holds256 new) it.line (fed it.kept it.holds)

@@ -1,0 +1,29 @@
+-- The digests of lines.
+use Rattle.std.specs.Prelude.{◌≡◌, ◌==◌, ℕ, List, [], ◌∷◌, ◌++◌, if◌then◌else◌, slice_range, take}
+use Rattle.hex.specs.Hex.{encode_lower}
+use Rattle.sha2.specs.Hashers.{Holds256}
+use Rattle.sha2.specs.Sha256.{sha256}
+use Rattle.sha2.specs.declared.Sha256.{Sha256}
+
+-- the digest of a line without its newline, as hex digits, and a newline
+abbrev pub digest_line : List ℕ → List ℕ
+digest_line line = encode_lower (sha256 line) ++ 10 ∷ []
+
+-- the digests of the lines that end in the bytes; the first line begins with what is before them
+unfoldable pub digests_from : (begun bytes : List ℕ) → List ℕ
+digests_from line [] = []
+digests_from line (byte ∷ bytes) =
+    if byte == 10 then digest_line line ++ digests_from [] bytes else digests_from (line ++ byte ∷ []) bytes
+
+-- the bytes of the last line, which no newline ends
+unfoldable pub begun_after : (begun bytes : List ℕ) → List ℕ
+begun_after line [] = line
+begun_after line (byte ∷ bytes) = if byte == 10 then begun_after [] bytes else begun_after (line ++ byte ∷ []) bytes
+
+-- ---- for private clauses
+
+-- the hasher has the beginning of the line that is not ended before this place, up to where the rest of it starts
+pub record HasBegun (hasher : Sha256) (begun bytes : List ℕ) (start at : ℕ) : Type 0 where
+  pub kept : List ℕ
+  pub holds : Holds256 hasher kept
+  pub line : kept ++ slice_range bytes start at ≡ begun_after begun (take at bytes)

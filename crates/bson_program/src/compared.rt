@@ -1,0 +1,80 @@
+//! A comparison of the values of two files.
+use crate::messages::show_name;
+use crate::order::{Input, Order, STANDARD};
+use crate::progress::Progress;
+use crate::run::{Stop, run_one, total, try_input};
+use crate::same::{Difference, compare_outputs, difference_line};
+use crate::streams::{Sink, Target};
+use bson_convert::error;
+use std::alloc::{AllocError, Global};
+
+/// Returns how the values of two files differ, or `None` if they are the same. It reads both files
+/// whole, and keeps their output in memory. If an input is rejected for what it holds instead, a hint
+/// is added.
+pub fn compare_files<'a>(
+    rt: &HostRuntime,
+    order: &'a Order,
+    hints: &mut Vec<String>,
+) -> Result<Option<Difference>, Stop<'a>> {
+    for name in order.inputs.iter() {
+        try_input(rt, order, name.as_str())?;
+    }
+    let progress = Progress::new(rt, total(rt, order), order.input != Input::Documents);
+    let difference = compare(rt, order, &progress, hints);
+    progress.clear();
+    difference
+}
+
+fn compare<'a>(
+    rt: &HostRuntime,
+    order: &'a Order,
+    progress: &Progress<'_>,
+    hints: &mut Vec<String>,
+) -> Result<Option<Difference>, Stop<'a>> {
+    let (name, other) = (name_at(order, 0), name_at(order, 1));
+    let first = output_of(rt, order, name, progress, hints)?;
+    let second = output_of(rt, order, other, progress, hints)?;
+    match compare_outputs(rt.alloc(), order.is_unordered, &first, &second) {
+        Ok(difference) => Ok(difference),
+        Err(_) => Err(out_of_memory(rt.alloc(), name)),
+    }
+}
+
+// Returns the output of one file.
+fn output_of<'a>(
+    rt: &HostRuntime,
+    order: &'a Order,
+    name: &'a str,
+    progress: &Progress<'_>,
+    hints: &mut Vec<String>,
+) -> Result<Vec<u8>, Stop<'a>> {
+    let mut sink = Sink::new(Target::Memory(Vec::new(rt.alloc())));
+    match run_one(rt, order, name, &mut sink, progress, hints) {
+        Ok(_) => Ok(sink.target.into_memory(rt.alloc())),
+        Err(Stop::Output(name, _)) => Err(out_of_memory(rt.alloc(), name)),
+        Err(stop) => Err(stop),
+    }
+}
+
+fn out_of_memory(alloc: Global, name: &str) -> Stop<'_> {
+    Stop::Text(name, 0, error::Error::OutOfMemory, String::new(alloc))
+}
+
+// Returns the name of the first file (0) or of the second (1).
+fn name_at(order: &Order, at: usize) -> &str {
+    match order.inputs.get(at) {
+        Some(name) => name.as_str(),
+        None => STANDARD,
+    }
+}
+
+/// Returns the line that says how the two files differ.
+pub fn line_for(
+    alloc: Global,
+    order: &Order,
+    difference: Difference,
+) -> Result<String, AllocError> {
+    let first = show_name(alloc, name_at(order, 0), "input")?;
+    let second = show_name(alloc, name_at(order, 1), "input")?;
+    difference_line(alloc, &first, &second, difference)
+}
