@@ -1,7 +1,7 @@
 -- The texts of a sequence, one after the other, and where a run over them stops.
-use Rattle.std.proofs.Common.{◌≡◌, ◌⊎◌, inl, inr, ◌<◌, ◌≤◌, ◌+◌, ◌-◌, ℕ, zero, suc, Bool, true, false, cond, List, [], ◌∷◌, ◌++◌, Option, Result, Ok, Err, OnOk, IfErr}
+use Rattle.std.proofs.Common.{◌≡◌, ◌⊎◌, inl, inr, ◌<◌, ◌+◌, ◌-◌, ℕ, Bool, true, false, cond, List, [], ◌∷◌, ◌++◌, Option, Result, Ok, Err, OnOk, IfErr}
 use Rattle.std.proofs.Common.{length, drop, take, refl, ap, sym, subst, ◌∙◌, append_assoc, append-nil, length-append, nat_lt, arith}
-use Rattle.std.proofs.KnownBytes.{Appends-nil, Appends-trans, Keeps-refl}
+use Rattle.std.proofs.KnownBytes.{Appends-nil, Appends-trans}
 use Rattle.std.proofs.lemmas.Bool.Decides.{nat_tests}
 use Rattle.std.proofs.lemmas.Str.{IsUtf8-append, IsUtf8-nil}
 use Rattle.std.specs.Prelude.{IsUtf8}
@@ -217,6 +217,11 @@ stops_whole order stop name content had holds alone stops = record {
   stops = stops;
 }
 
+-- what was read has the bytes
+pub content_read : (order : Order) (name content read bytes : List ℕ) → content ≡ content_of order name read → read ≡ bytes
+    → content ≡ content_of order name bytes
+content_read order name content read bytes is same = is ∙ ap (content_of order name) same
+
 -- all was read before it
 pub reads_and_stops : (order : Order) (stop : Stop) (name content bytes : List ℕ) (before after had holds : Option (List ℕ))
     → ReadsAll before after bytes → content ≡ content_of order name bytes → StopsAt order stop name content had holds
@@ -244,10 +249,16 @@ module _ (order : Order) (name content : List ℕ) (accepted : Accepted) (had ho
 
   one_text_stops : (stop : Stop) → AcceptedStops order stop name accepted had holds
       → TextStops order stop name content 0 content had holds
-  one_text_stops (stops.Output it error) h = (h.0, (h.1.0, record {
-    gives = has.given h.1.0 h.1.1;
-    utf8 = λ t. h.1.2 (utf8 t);
-  }))
+  one_text_stops (stops.Output it error) h = (
+    h.0,
+    (
+      h.1.0,
+      record {
+        gives = has.given h.1.0 h.1.1;
+        utf8 = λ t. h.1.2 (utf8 t);
+      },
+    ),
+  )
   one_text_stops (stops.Text it number OutOfMemory place) h = (h.0, (h.1, h.2), h.3)
   one_text_stops (stops.Text it number CannotRead place) h = absurd h
   one_text_stops (stops.Text it number CannotWrite place) h = absurd h

@@ -120,7 +120,10 @@ fn words_of(alloc: Global, order: &Order) -> Result<String, AllocError>
 {
     let mode = mode_for(order);
     let doubles = order.options.doubles;
-    let sorts_keys = option_if(sorts_keys(order.purpose, doubles, order.task), " --sort-keys");
+    let sorts_keys = option_if(
+        sorts_keys(order.purpose, doubles, order.task),
+        " --sort-keys",
+    );
     let strict = option_if(is_strict(doubles), " --strict");
     let taking = taking_options(order.task);
     format!(in alloc; "{mode}{sorts_keys}{strict}{taking}")
@@ -133,15 +136,6 @@ fn mode_for(order: &Order) -> &'static str
     match (order.input, order.task) {
         (Input::Lines, Task::Encode | Task::EncodeInOrder) => "canonical",
         (_, task) => mode_word(order.purpose, task),
-    }
-}
-
-fn is_strict(doubles: Doubles) -> bool
-    ensures { result ≡ is_strict doubles }
-{
-    match doubles {
-        Doubles::Special => true,
-        Doubles::Finite => false,
     }
 }
 
@@ -177,7 +171,10 @@ fn sorts_keys(purpose: Purpose, doubles: Doubles, task: Task) -> bool
 {
     match (purpose, doubles) {
         (Purpose::Output, Doubles::Finite) => {
-            matches!(task, Task::Write(_) | Task::Encode | Task::Taken(_, Work::Write(_)))
+            matches!(
+                task,
+                Task::Write(_) | Task::Encode | Task::Taken(_, Work::Write(_))
+            )
         }
         _ => false,
     }

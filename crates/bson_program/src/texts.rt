@@ -264,7 +264,10 @@ fn place_of(
         Error::NotJson => syntax_place(alloc, found),
         Error::NotCanonical(_) => Ok((1, explain_under(alloc, task, fault, found.text)?)),
         Error::OutOfMemory => Ok((0, String::new(alloc))),
-        _ => Ok((begin_line(found) as u64, explain_under(alloc, task, fault, found.text)?)),
+        _ => Ok((
+            begin_line(found) as u64,
+            explain_under(alloc, task, fault, found.text)?,
+        )),
     }
 }
 
@@ -277,7 +280,10 @@ fn syntax_place(alloc: Global, found: Found<'_>) -> Result<(u64, String), AllocE
         offset: found.start.saturating_add(stop.offset),
         ..stop
     };
-    Ok((stop.line(found.content) as u64, stop.message(alloc, found.content)?))
+    Ok((
+        stop.line(found.content) as u64,
+        stop.message(alloc, found.content)?,
+    ))
 }
 
 // Returns the line on which a text of a sequence begins; 0 for a text that is all bytes.

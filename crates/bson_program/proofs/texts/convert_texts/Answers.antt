@@ -1,7 +1,7 @@
-use Rattle.std.proofs.Common.{ap, subst, sym, ◌∙◌}
-use Rattle.bson_program.specs.Texts.{content_of, TextStops}
+use Rattle.std.proofs.Common.{subst, sym}
+use Rattle.bson_program.specs.Texts.{TextStops}
 use Rattle.bson_program.specs.Whole.{IsUngiven}
-use Rattle.bson_program.proofs.Sequences.{accepted_stops, if_err, on_ok, one_text_done, reads_and_stops, stops_whole}
+use Rattle.bson_program.proofs.Sequences.{accepted_stops, content_read, if_err, on_ok, one_text_done, reads_and_stops, stops_whole}
 use Rattle.bson_program.proofs.texts.convert_texts.Goals as goal
 
 pub returns-in-Err-accept-clause-stops : goal.returns-in-Err-accept-clause-stops
@@ -14,7 +14,8 @@ returns-in-Err-accept-clause-stops g c =
     let found = c.whole.result in
     reads_and_stops order stop name content c.in-Ok.bytes.items (g.R.Read.remaining c.args.reader.now)
     (g.R.Read.remaining c.read_whole.new.reader) had had c.in-Ok.ensures.all
-    (c.content_of-content.ensures ∙ ap (content_of order name) c.deref.ensures.value)
+    (content_read order name c.content_of-content.result.now c.deref.result.now c.in-Ok.bytes.items
+    c.content_of-content.ensures c.deref.ensures.value)
     (stops_whole order stop name content had had (λ is. c.has_several.ensures.one c.if-has_several.false (c.stop_at.ensures.same is))
     (subst (λ t. TextStops order stop name content 0 t had had) c.whole.ensures.text
     (subst (λ n. TextStops order stop name content n found.text.now had had) c.whole.ensures.start
@@ -29,7 +30,8 @@ returns-clause-done g c =
     on_ok c.write_accepted.result _ _ (one_text_done order name c.content_of-content.result.now c.in-Ok-accept.accepted
     (g.W.Write.contents c.args.writer.now) (g.W.Write.contents c.write_accepted.new.writer) c.in-Ok-accept.ensures.ok
     c.in-Ok-accept.ensures.utf8 (g.R.Read.remaining c.args.reader.now) (g.R.Read.remaining c.read_whole.new.reader)
-    c.in-Ok.bytes.items c.in-Ok.ensures.all (c.content_of-content.ensures ∙ ap (content_of order name) c.deref.ensures.value))
+    c.in-Ok.bytes.items c.in-Ok.ensures.all (content_read order name c.content_of-content.result.now c.deref.result.now c.in-Ok.bytes.items
+    c.content_of-content.ensures c.deref.ensures.value))
     c.write_accepted.ensures.done
 
 pub returns-clause-stops : goal.returns-clause-stops
@@ -41,6 +43,7 @@ returns-clause-stops g c =
     let holds = g.W.Write.contents c.write_accepted.new.writer in
     if_err c.write_accepted.result _ _ (λ stop h. reads_and_stops order stop name content c.in-Ok.bytes.items
     (g.R.Read.remaining c.args.reader.now) (g.R.Read.remaining c.read_whole.new.reader) had holds c.in-Ok.ensures.all
-    (c.content_of-content.ensures ∙ ap (content_of order name) c.deref.ensures.value)
+    (content_read order name c.content_of-content.result.now c.deref.result.now c.in-Ok.bytes.items
+    c.content_of-content.ensures c.deref.ensures.value)
     (accepted_stops order name content c.in-Ok-accept.accepted had holds c.in-Ok-accept.ensures.ok c.in-Ok-accept.ensures.utf8
     stop h)) c.write_accepted.ensures.stops

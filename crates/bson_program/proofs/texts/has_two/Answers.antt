@@ -1,4 +1,4 @@
-use Rattle.std.proofs.Common.{length, arith}
+use Rattle.std.proofs.Common.{arith}
 use Rattle.std.proofs.lemmas.Bool.Decides.{nat_tests}
 use Rattle.bson_program.proofs.Sequences.{less_than_two}
 use Rattle.bson_program.proofs.texts.has_two.Goals as goal
