@@ -1,23 +1,22 @@
 -- The lines of two outputs.
-use Rattle.std.proofs.Common.{◌≡◌, ◌∙◌, ◌++◌, ◌+◌, ◌<◌, ◌≤◌, ℕ, zero, suc, Bool, true, false, not, cond, List, [], ◌∷◌, Bor, ap, arith, add-one}
-use Rattle.std.proofs.Common.{rules, zero-add, append_assoc, drop, get_or, length, map, min, refl, subst, sym, take, nat_eq}
+use Rattle.std.proofs.Common.{◌≡◌, ◌∙◌, ◌++◌, ◌+◌, ◌<◌, ℕ, zero, suc, Bool, true, false, not, cond, List, [], ◌∷◌, Bor, ap, arith}
+use Rattle.std.proofs.Common.{rules, zero-add, append_assoc, drop, get_or, length, map, refl, subst, sym, take, nat_eq}
 use Rattle.std.proofs.lemmas.Cmp.{nat_list_cmp_total}
-use Rattle.std.proofs.lemmas.List.{map-append, get_or-map, length-map, take_all, take_more}
-use Rattle.std.proofs.lemmas.List.Sorted.{IsPermutation-map, IsPermutation-sym, IsPermutation-trans, length_permutation, ranks_by, sorted_far, sum_by-IsPermutation}
+use Rattle.std.proofs.lemmas.List.{map-append, get_or-map, length-map, take_more}
+use Rattle.std.proofs.lemmas.List.Sorted.{IsPermutation-map, IsPermutation-sym, IsPermutation-trans, ranks_by, sorted_far, sum_by-IsPermutation}
 use Rattle.std.proofs.lemmas.List.Sums.{sum_by-cons}
 use Rattle.std.proofs.lemmas.Map.Text.{is_eq-slice_cmp}
 use Rattle.std.proofs.lemmas.Slice.Eq.{bytes_eq-Decides}
 use Rattle.std.specs.Cmp.Lexicographic.{pointwise, slice_cmp}
-use Rattle.std.specs.Cmp.{IsTotalOrder}
 use Rattle.std.specs.List.{sum_by}
 use Rattle.std.specs.List.Sorted.{IsPermutation, IsSorted, IsSortedBy}
 use Rattle.std.specs.Ordering.{is_eq, is_lt, nat_cmp, ordering_reverse}
-use Rattle.std.specs.Prelude.{◌≢◌, bytes_eq}
+use Rattle.std.specs.Prelude.{bytes_eq}
 use Rattle.std.specs.declared.cmp.Ordering.{Ordering}
 use Rattle.std.specs.declared.cmp.Ordering.TheVariants.{Less, Equal, Greater}
 use Rattle.bson_program.proofs.Verdicts.{first}
 use Rattle.bson_program.specs.Messages.{line_len, spans}
-use Rattle.bson_program.specs.Same.{DifferFirstAt, EndsEarlier, IsDifference}
+use Rattle.bson_program.specs.Same.{DifferFirstAt, IsDifference}
 use Rattle.bson_program.specs.declared.same.Difference.{Difference}
 use Rattle.bson_program.specs.declared.same.Difference.TheVariants.{At, Counts, Lines}
 

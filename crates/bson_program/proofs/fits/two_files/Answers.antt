@@ -1,4 +1,4 @@
-use Rattle.std.proofs.Common.{◌≡◌, rules}
+use Rattle.std.proofs.Common.{rules}
 use Rattle.bson_program.proofs.fits.two_files.Goals as goal
 
 pub returns-clause-some : goal.returns-clause-some

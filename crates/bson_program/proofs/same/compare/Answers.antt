@@ -1,4 +1,4 @@
-use Rattle.std.proofs.Common.{◌≡◌, ◌<◌, ◌∙◌, arith, length, refl, sym}
+use Rattle.std.proofs.Common.{◌∙◌, arith, refl, sym}
 use Rattle.bson_program.proofs.SameLaws.{differ_here, same_more}
 use Rattle.bson_program.proofs.same.compare.Goals as goal
 

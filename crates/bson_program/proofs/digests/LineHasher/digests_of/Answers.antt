@@ -1,4 +1,4 @@
-use Rattle.std.proofs.Common.{◌≡◌, ◌∙◌, ◌+◌, ap, arith, subst, sym}
+use Rattle.std.proofs.Common.{◌∙◌, ◌+◌, ap, arith, subst, sym}
 use Rattle.bson_program.specs.Digests.{HasBegun}
 use Rattle.bson_program.proofs.DigestLaws.{digest_added, digests_kept, line_ended, line_fed, line_grown, none_begun, none_ended}
 use Rattle.bson_program.proofs.digests.LineHasher.digests_of.Goals as goal

@@ -1,4 +1,4 @@
-use Rattle.std.specs.Prelude.{◌≡◌, ◌≤◌, ℕ, List, length, take}
+use Rattle.std.specs.Prelude.{◌≡◌, ◌≤◌, ℕ, List, take}
 use Rattle.sha2.specs.Hashers.{Holds256}
 use Rattle.bson_program.specs.Digests.{HasBegun, digests_from}
 use Rattle.bson_program.proofs.digests.LineHasher.digests_of.Given as goal
