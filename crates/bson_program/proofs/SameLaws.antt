@@ -1,5 +1,5 @@
 -- The lines of two outputs.
-use Rattle.std.proofs.Common.{◌≡◌, ◌∙◌, ◌++◌, ◌+◌, ◌<◌, ℕ, zero, suc, Bool, true, false, not, cond, List, [], ◌∷◌, Bor, ap, arith}
+use Rattle.std.proofs.Common.{◌≡◌, ◌∙◌, ◌++◌, ◌+◌, ◌<◌, ℕ, suc, Bool, true, false, not, cond, List, [], ◌∷◌, Bor, ap, arith}
 use Rattle.std.proofs.Common.{rules, zero-add, append_assoc, drop, get_or, length, map, refl, subst, sym, take, nat_eq}
 use Rattle.std.proofs.lemmas.Cmp.{nat_list_cmp_total}
 use Rattle.std.proofs.lemmas.List.{map-append, get_or-map, length-map, take_more}

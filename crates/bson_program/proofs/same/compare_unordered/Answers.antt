@@ -1,4 +1,4 @@
-use Rattle.std.proofs.Common.{◌∙◌, length, map, sym}
+use Rattle.std.proofs.Common.{◌∙◌, sym}
 use Rattle.std.proofs.lemmas.List.{length-map}
 use Rattle.bson_program.proofs.SameLaws.{differ_sorted, same_from_sorted}
 use Rattle.bson_program.proofs.same.compare_unordered.Goals as goal
