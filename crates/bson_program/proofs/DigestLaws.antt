@@ -8,30 +8,54 @@ use Rattle.sha2.specs.Hashers.{Holds256}
 use Rattle.sha2.specs.declared.Sha256.{Sha256}
 use Rattle.bson_program.specs.Digests.{HasBegun, begun_after, digest_line, digests_from}
 
+-- ---- output in pieces
+
+-- the line after two pieces is that after the second, begun by the first
+begun_of_pieces : (begun xs ys : List ℕ) → begun_after begun (xs ++ ys) ≡ begun_after (begun_after begun xs) ys
+unfolding begun_after
+begun_of_pieces begun [] ys = refl
+begun_of_pieces begun (x ∷ xs) ys =
+    elim (x == 10) as (λ t. (if t then begun_after [] (xs ++ ys) else begun_after (begun ++ x ∷ []) (xs ++ ys))
+    ≡ begun_after (if t then begun_after [] xs else begun_after (begun ++ x ∷ []) xs) ys)
+    [ true ↦ begun_of_pieces [] xs ys | false ↦ begun_of_pieces (begun ++ x ∷ []) xs ys ]
+
+-- the digests of two pieces are those of the whole
+digests_of_pieces : (begun xs ys : List ℕ)
+    → digests_from begun (xs ++ ys) ≡ digests_from begun xs ++ digests_from (begun_after begun xs) ys
+unfolding begun_after digests_from
+digests_of_pieces begun [] ys = refl
+digests_of_pieces begun (x ∷ xs) ys =
+    elim (x == 10) as (λ t. (if t then digest_line begun ++ digests_from [] (xs ++ ys) else digests_from (begun ++ x ∷ []) (xs ++ ys))
+    ≡ (if t then digest_line begun ++ digests_from [] xs else digests_from (begun ++ x ∷ []) xs)
+    ++ digests_from (if t then begun_after [] xs else begun_after (begun ++ x ∷ []) xs) ys) [
+      | true ↦ ap (λ l. digest_line begun ++ l) (digests_of_pieces [] xs ys)
+          ∙ sym (append_assoc (digest_line begun) (digests_from [] xs) (digests_from (begun_after [] xs) ys))
+      | false ↦ digests_of_pieces (begun ++ x ∷ []) xs ys
+    ]
+
 -- ---- one more byte
 
 not_equal : (a b : ℕ) → (a ≡ b → ⊥) → (a == b) ≡ false
 not_equal a b other = grind (arith, nat_tests)
 
+begun_by : (line : List ℕ) (b : ℕ) → begun_after line (b ∷ []) ≡ (if b == 10 then [] else line ++ b ∷ [])
+unfolding begun_after
+begun_by line b = refl
+
 pub begun_more : (begun xs : List ℕ) (b : ℕ)
     → begun_after begun (xs ++ b ∷ []) ≡ (if b == 10 then [] else begun_after begun xs ++ b ∷ [])
-unfolding begun_after
-begun_more begun [] b = refl
-begun_more begun (x ∷ xs) b = elim (x == 10) as (λ t. (if t then begun_after [] (xs ++ b ∷ []) else begun_after (begun ++ x ∷ []) (xs ++ b ∷ []))
-    ≡ (if b == 10 then [] else (if t then begun_after [] xs else begun_after (begun ++ x ∷ []) xs) ++ b ∷ []))
-    [ true ↦ begun_more [] xs b | false ↦ begun_more (begun ++ x ∷ []) xs b ]
+begun_more begun xs b = begun_of_pieces begun xs (b ∷ []) ∙ begun_by (begun_after begun xs) b
+
+digests_by : (line : List ℕ) (b : ℕ) → digests_from line (b ∷ []) ≡ (if b == 10 then digest_line line else [])
+unfolding digests_from
+digests_by line b =
+    elim (b == 10) as (λ t. (if t then digest_line line ++ [] else []) ≡ (if t then digest_line line else []))
+    [ true ↦ append-nil (digest_line line) | false ↦ refl ]
 
 pub digests_more : (begun xs : List ℕ) (b : ℕ)
     → digests_from begun (xs ++ b ∷ []) ≡ digests_from begun xs ++ (if b == 10 then digest_line (begun_after begun xs) else [])
-unfolding begun_after digests_from
-digests_more begun [] b = elim (b == 10) as (λ t. (if t then digest_line begun ++ [] else []) ≡ [] ++ (if t then digest_line begun else []))
-    [ true ↦ append-nil (digest_line begun) | false ↦ refl ]
-digests_more begun (x ∷ xs) b = elim (x == 10) as (λ t. (if t then digest_line begun ++ digests_from [] (xs ++ b ∷ []) else digests_from (begun ++ x ∷ []) (xs ++ b ∷ []))
-    ≡ (if t then digest_line begun ++ digests_from [] xs else digests_from (begun ++ x ∷ []) xs)
-    ++ (if b == 10 then digest_line (if t then begun_after [] xs else begun_after (begun ++ x ∷ []) xs) else [])) [
-      | true ↦ ap (λ l. digest_line begun ++ l) (digests_more [] xs b) ∙ sym (append_assoc (digest_line begun) (digests_from [] xs) _)
-      | false ↦ digests_more (begun ++ x ∷ []) xs b
-    ]
+digests_more begun xs b =
+    digests_of_pieces begun xs (b ∷ []) ∙ ap (λ l. digests_from begun xs ++ l) (digests_by (begun_after begun xs) b)
 
 -- ---- the steps of a run
 

@@ -272,7 +272,7 @@ pub record AllFit (given : Given) (task : Task) : Type 0 where
 abbrev pub IsStandardAt : (at : ℕ) → Vec (String Global) Global → Type 0
 IsStandardAt at inputs = (name : String Global) × (name ≡ get_or inputs.items at name) × (string_bytes name ≡ codes "-")
 
--- two files, one of which is not standard input
+-- two files, at most one of which is standard input
 abbrev pub AreTwoFiles : Vec (String Global) Global → Type 0
 AreTwoFiles inputs = (vec_len inputs ≡ 2) × ((IsStandardAt 0 inputs × IsStandardAt 1 inputs) → ⊥)
 

@@ -1,5 +1,5 @@
 //! What the words after the program's name give, one after the other.
-ghost use Rattle.std.specs.Prelude.{◌≡◌, ◌⊎◌, None, OnOk, IfOk, IfSome, string_bytes, if◌then◌else◌, true, vec_len};
+ghost use Rattle.std.specs.Prelude.{◌≡◌, ◌⊎◌, None, OnOk, IfOk, IfSome, string_bytes, if◌then◌else◌, vec_len};
 ghost use Rattle.bson_program.specs.Flags.{has_flag};
 ghost use Rattle.bson_program.specs.Order.{command_of, input_of, is_text, IsNamed};
 ghost use Rattle.bson_program.specs.Order.{IsAnswer, IsAskedWrong, IsInitial, IsValueInWord, IsNumbered, IsStored, IsTaken, Sets, AcceptsWord};
