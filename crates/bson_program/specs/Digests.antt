@@ -10,20 +10,20 @@ abbrev pub digest_line : List ℕ → List ℕ
 digest_line line = encode_lower (sha256 line) ++ 10 ∷ []
 
 -- the digests of the lines that end in the bytes; the first line begins with what is before them
-unfoldable pub digests_from : (begun bytes : List ℕ) → List ℕ
+unfoldable pub digests_from : (open_line bytes : List ℕ) → List ℕ
 digests_from line [] = []
 digests_from line (byte ∷ bytes) =
     if byte == 10 then digest_line line ++ digests_from [] bytes else digests_from (line ++ byte ∷ []) bytes
 
 -- the bytes of the last line, which no newline ends
-unfoldable pub begun_after : (begun bytes : List ℕ) → List ℕ
-begun_after line [] = line
-begun_after line (byte ∷ bytes) = if byte == 10 then begun_after [] bytes else begun_after (line ++ byte ∷ []) bytes
+unfoldable pub open_line_after : (open_line bytes : List ℕ) → List ℕ
+open_line_after line [] = line
+open_line_after line (byte ∷ bytes) = if byte == 10 then open_line_after [] bytes else open_line_after (line ++ byte ∷ []) bytes
 
 -- ---- for private clauses
 
 -- the hasher has the beginning of the line that is not ended before this place, up to where the rest of it starts
-pub record HasBegun (hasher : Sha256) (begun bytes : List ℕ) (start at : ℕ) : Type 0 where
+pub record HasOpenLine (hasher : Sha256) (open_line bytes : List ℕ) (start at : ℕ) : Type 0 where
   pub kept : List ℕ
   pub holds : Holds256 hasher kept
-  pub line : kept ++ slice_range bytes start at ≡ begun_after begun (take at bytes)
+  pub line : kept ++ slice_range bytes start at ≡ open_line_after open_line (take at bytes)

@@ -1,7 +1,7 @@
 //! The SHA-256 digests of lines.
 ghost use Rattle.std.specs.Prelude.{◌≡◌, ◌≢◌, ◌++◌, [], ℕ, List, None, IfOk, IfSome, OnOk};
 ghost use Rattle.sha2.specs.Hashers.{Holds256};
-ghost use Rattle.bson_program.specs.Digests.{digest_line, digests_from, begun_after};
+ghost use Rattle.bson_program.specs.Digests.{digest_line, digests_from, open_line_after};
 
 use crate::order::Purpose;
 use sha2::{Digest, Sha256};
@@ -41,10 +41,10 @@ impl LineHasher {
     /// Returns the digests of the lines that end in the bytes, each as hex digits and a newline. The
     /// hasher keeps the bytes after the last newline, which begin the next line.
     pub fn digests_of(&mut self, bytes: &[u8]) -> Result<Vec<u8>, AllocError>
-        ensures digests { (begun : List ℕ) → Holds256 self.old.line begun
-            → IfOk result (λ digests. digests.items ≡ digests_from begun bytes.now) }
-        ensures line { (begun : List ℕ) → Holds256 self.old.line begun
-            → OnOk result (Holds256 self.new.line (begun_after begun bytes.now)) }
+        ensures digests { (open_line : List ℕ) → Holds256 self.old.line open_line
+            → IfOk result (λ digests. digests.items ≡ digests_from open_line bytes.now) }
+        ensures line { (open_line : List ℕ) → Holds256 self.old.line open_line
+            → OnOk result (Holds256 self.new.line (open_line_after open_line bytes.now)) }
     {
         let mut digests = Vec::new(self.alloc);
         let mut start = 0;
