@@ -84,7 +84,7 @@ files, and reports the first difference. Blank lines are counted, and write noth
   --no-double-keys        rejects a line in which an object has a duplicate key, at any depth
   --canonical             (check) accepts only canonical JSON, byte for byte as `canonical --sort-keys` writes it
   --keep-going            (not same) skips a rejected line and reports it; without it the run ends there
-  --jobs N                (not same) converts N parts of named files at a time, with GNU parallel
+  --jobs N                (not same) converts N parts of named files at a time
   --unordered             (same) ignores the order of values
   -o FILE, --output FILE  (not check, same) writes the output to FILE, as a whole at the end
 
@@ -102,7 +102,7 @@ reported with its number, its offset in the file, and the offset of the error in
   --sort-keys             (canonical, relaxed) writes keys in ascending order at every depth
   --strict                (not show, check) rejects finite doubles other than zeros; keys are written in ascending order
   --keep-going            (not same) skips a rejected document and reports it, if all the bytes of its length are present
-  --jobs N                (not same) converts N parts of named files at a time, with GNU parallel
+  --jobs N                (not same) converts N parts of named files at a time
   --unordered             (same) ignores the order of documents
   -o FILE, --output FILE  (not check, same) writes the output to FILE, as a whole at the end
 
@@ -118,7 +118,7 @@ than 2^31 bytes. Bytes are not written to a terminal.
   --sort-keys             writes keys in ascending order at every depth
   --strict                accepts of all doubles only zeros, infinities and NaNs; keys are written in ascending order
   --keep-going            skips a rejected line and reports it; without it the run ends there
-  --jobs N                converts N parts of named files at a time, with GNU parallel
+  --jobs N                converts N parts of named files at a time
   -o FILE, --output FILE  writes the output to FILE, as a whole at the end
 
 `bson --help` says more of each option, and lists the statuses.";
@@ -176,8 +176,8 @@ a regular expression has a 0 byte. Each part must have fewer than 2^31 bytes. By
   --keep-going            (lines, decode, encode; not same) skips a rejected line or document and reports it; a rejected
                           BSON document is skipped if all the bytes of its length are present
   --jobs N                (lines, decode, encode; not same) cuts named files at ends of lines, or at the start of
-                          documents, and converts N parts at a time, with GNU parallel. Output, messages and status are
-                          those of one job. Many small files are one job
+                          documents, and converts N parts at a time. Output, messages and status are those of one job.
+                          Many small files are one job
   --unordered             (same) ignores the order of values: each value must occur as often in both files
   -o FILE, --output FILE  (not check, same) writes the output to FILE, as a whole at the end; if a run ends early, FILE
                           stays as it was
