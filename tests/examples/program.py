@@ -10,12 +10,8 @@ HERE = os.path.dirname(os.path.realpath(__file__))
 LITERAL = re.compile(r"""(?s)b?r(#*)".*?"\1|b?"(?:\\.|[^"\\])*"|b?'(?:\\[^']+|[^'\\])'|//[^\n]*""")
 # The first name of a path: of a type or a constant, or of what is called or has the next name in it.
 FIRST = re.compile(r"(?:(?<=\.\.)|(?<![\w.:]))(?:([A-Z]\w*)|([a-z]\w*)(?=\(|::))(?:::(\w+))?")
-<<<<<<< HEAD
-PRELUDE = {"Err", "None", "Ok", "Result", "Some", "String", "Vec", "drop", "str"}
-=======
 PRELUDE = {"Err", "None", "Ok", "Result", "Some", "String", "Vec", "drop", "bool", "char", "f64", "str"}
 PRELUDE |= {f"{sign}{size}" for sign in "iu" for size in (8, 16, 32, 64, 128, "size")}
->>>>>>> 3e4109516153707278ca76c5a99705434ac813f0
 # What an example may use and need not make, each with the function of given.txt that makes it, and where that is another.
 GIVEN = {"document": "document", "pairs": "pairs"}
 OTHERS = {"crates/bson_store/src/indexed/into_iter.rt": {"pairs": "indexed_pairs"}}
