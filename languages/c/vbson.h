@@ -33,8 +33,8 @@ extern "C" {
 #define VBSON_CAST(type, value) ((type)(value))
 #endif
 
-#define VBSON_VERSION 200 /* 10000 * major + 100 * minor + patch */
-#define VBSON_VERSION_TEXT "0.2.0"
+#define VBSON_VERSION 300 /* 10000 * major + 100 * minor + patch */
+#define VBSON_VERSION_TEXT "0.3.0"
 
 /* Returns VBSON_VERSION of the library that is linked. */
 uint32_t vbson_version(void);

@@ -4,7 +4,7 @@ use crate::order::Command;
 /// The message if there is no memory for any other.
 pub const OUT_OF_MEMORY: &str = "bson: out of memory";
 
-pub const VERSION: &str = "bson 0.2.0";
+pub const VERSION: &str = "bson 0.3.0";
 
 /// Returns the help of a command.
 pub fn help_of(command: Command) -> &'static str {

@@ -7,7 +7,7 @@ from .errors import Error
 
 
 def version() -> str:
-    """Returns the version of the library, for example '0.2.0'."""
+    """Returns the version of the library, for example '0.3.0'."""
     number = _calls.library.vbson_version()
     return f"{number // 10000}.{number // 100 % 100}.{number % 100}"
 
