@@ -12,13 +12,13 @@ use Rattle.bson.specs.Refused.{IsErrorOf}
 
 fails : {Y : Type 0} (read : Result Y Fault) (f : Fault) (reason : Reason) (e : Error) → IsErrorOf reason e
     → IsReason f reason → read ≡ Err f → Fails e read
-fails read f (BadObjectId id) (InvalidObjectId d) is told h =
-    (told.0, h ∙ ap Err told.1, subst (IsIdFault told.0) (sym is) told.2)
-fails read f (BadObjectId id) (DeserializationError m) is told h = absurd is
-fails read f (BadObjectId id) OutOfMemory is told h = tt
-fails read f (WrongShape m) (InvalidObjectId d) is told h = absurd is
-fails read f (WrongShape m) (DeserializationError n) is told h = h ∙ ap Err told
-fails read f (WrongShape m) OutOfMemory is told h = tt
+fails read f (BadObjectId id) (InvalidObjectId d) is reported h =
+    (reported.0, h ∙ ap Err reported.1, subst (IsIdFault reported.0) (sym is) reported.2)
+fails read f (BadObjectId id) (DeserializationError m) is reported h = absurd is
+fails read f (BadObjectId id) OutOfMemory is reported h = tt
+fails read f (WrongShape m) (InvalidObjectId d) is reported h = absurd is
+fails read f (WrongShape m) (DeserializationError n) is reported h = h ∙ ap Err reported
+fails read f (WrongShape m) OutOfMemory is reported h = tt
 
 -- what is built, each seen as what it stands for and in range
 module _ {X Y : Type 0} (see : X → Y) (InRange : X → Type 0) (read : Result Y Fault) (lies : Fault → List PathSegment → Type 0)

@@ -27,7 +27,7 @@ use Rattle.bson.specs.declared.bson.Bson.TheVariants as bson
 use Rattle.bson.specs.declared.document.Document.{Document}
 use Rattle.bson.specs.declared.extjson.key_order.KeyOrder.{KeyOrder}
 use Rattle.bson.specs.declared.extjson.key_order.KeyOrder.TheVariants.{Ascending, AsGiven}
-use Rattle.bson.specs.declared.extjson.value_writer.Begun.{Begun}
+use Rattle.bson.specs.declared.extjson.value_writer.Enclosing.{Enclosing}
 use Rattle.bson.specs.declared.extjson.value_writer.BsonWriter.{BsonWriter}
 use Rattle.bson.specs.declared.extjson.value_writer.Container.{Container}
 use Rattle.bson.specs.declared.extjson.value_writer.Container.TheVariants.{Array, Document as OfPairs}
@@ -193,28 +193,28 @@ pushed_around start now new k l outer x order around key later kind last = (
 )
 
 -- it is an array that was begun, and a document
-pub still_array : (vs : Values) (k : List ℕ) (start mid now : BsonWriter) (begun : Begun) → ArrayOpened start k begun mid
+pub still_array : (vs : Values) (k : List ℕ) (start mid now : BsonWriter) (enclosing : Enclosing) → ArrayOpened start k enclosing mid
     → ItemsWritten ValuePushed (λ i. []) 0 vs mid now → is_document now.container ≡ false
-still_array vs k start mid now begun begins written =
+still_array vs k start mid now enclosing begins written =
     let (xs, (order, same, items), all) = items_pushed 0 vs mid now written in same ∙ begins.1
 
-pub still_document : (ps : Pairs) (start mid now : BsonWriter) (begun : Begun) → DocumentOpened start begun mid
+pub still_document : (ps : Pairs) (start mid now : BsonWriter) (enclosing : Enclosing) → DocumentOpened start enclosing mid
     → PairsWritten ValuePushed (λ a k b. b ≡ a) ps mid now → is_document now.container ≡ true
-still_document ps start mid now begun begins written =
+still_document ps start mid now enclosing begins written =
     let (es, (order, same, items), all) = pairs_pushed ps mid now begins.1 written in same ∙ begins.1
 
-pub array_pushed : (vs : Values) (k : List ℕ) (start mid now new : BsonWriter) (begun : Begun) (v w : Vec Bson Global)
-    (outer : Container) → ArrayOpened start k begun mid → ItemsWritten ValuePushed (λ i. []) 0 vs mid now
-    → now.container ≡ Array v → outer ≡ begun.outer → w.items ≡ v.items → new.order ≡ now.order
+pub array_pushed : (vs : Values) (k : List ℕ) (start mid now new : BsonWriter) (enclosing : Enclosing) (v w : Vec Bson Global)
+    (outer : Container) → ArrayOpened start k enclosing mid → ItemsWritten ValuePushed (λ i. []) 0 vs mid now
+    → now.container ≡ Array v → outer ≡ enclosing.outer → w.items ≡ v.items → new.order ≡ now.order
     → is_document new.container ≡ is_document outer
-    → held new.container ≡ held outer ++ (key_in outer (string_bytes begun.key), bson.Array w) ∷ []
+    → held new.container ≡ held outer ++ (key_in outer (string_bytes enclosing.key), bson.Array w) ∷ []
     → ValuePushed start k (array vs) new
-array_pushed vs k start mid now new begun v w outer (mode, is_array, empty, around, key) written kind after own later same
+array_pushed vs k start mid now new enclosing v w outer (mode, is_array, empty, around, key) written kind after own later same
     last =
     let (xs, (order, still, items), all) = items_pushed 0 vs mid now written in
     let all_items = items_are v.items xs (sym (ap held kind) ∙ items ∙ ap (λ l. l ++ unnamed xs) empty) in (
       bson.Array w,
-      pushed_around start now new k (string_bytes begun.key) outer (bson.Array w) (order ∙ mode) (after ∙ around) key
+      pushed_around start now new k (string_bytes enclosing.key) outer (bson.Array w) (order ∙ mode) (after ∙ around) key
           later same last,
       bson_view-Array w ∙ ap (λ l. array (values_view l)) (own ∙ all_items)
           ∙ ap array (all ∙ ap (λ o. items_by o vs) mode) ∙ sym (array_is start.order vs),
@@ -233,20 +233,20 @@ once_by : (o : KeyOrder) (ps : Pairs) → document_by o (each_by o ps) ≡ pairs
 once_by Ascending ps = turns_sorted ps no_pairs ∙ sym (once_sorted ps)
 once_by AsGiven ps = ap once (each_as_given ps)
 
-pub document_pushed : (ps : Pairs) (start mid now new : BsonWriter) (begun : Begun) (v : Vec Member Global) (d : Document)
-    (outer : Container) → DocumentOpened start begun mid → PairsWritten ValuePushed (λ a k b. b ≡ a) ps mid now
-    → now.container ≡ OfPairs v → outer ≡ begun.outer → document_view d ≡ document_by now.order (collected_pairs v.items)
+pub document_pushed : (ps : Pairs) (start mid now new : BsonWriter) (enclosing : Enclosing) (v : Vec Member Global) (d : Document)
+    (outer : Container) → DocumentOpened start enclosing mid → PairsWritten ValuePushed (λ a k b. b ≡ a) ps mid now
+    → now.container ≡ OfPairs v → outer ≡ enclosing.outer → document_view d ≡ document_by now.order (collected_pairs v.items)
     → new.order ≡ now.order → is_document new.container ≡ is_document outer
-    → held new.container ≡ held outer ++ (key_in outer (string_bytes begun.key), bson.Document d) ∷ []
+    → held new.container ≡ held outer ++ (key_in outer (string_bytes enclosing.key), bson.Document d) ∷ []
     → DocumentPushed start (once ps) new
-document_pushed ps start mid now new begun v d outer (mode, is_pairs, empty, around, key) written kind after seen later
+document_pushed ps start mid now new enclosing v d outer (mode, is_pairs, empty, around, key) written kind after seen later
     same last =
     let (es, (order, still, items), all) = pairs_pushed ps mid now is_pairs written in
     let first = order ∙ mode in
     let pairs : collected_pairs v.items ≡ each_by start.order ps =
     ap pairs_view (sym (ap held kind) ∙ items ∙ ap (λ l. l ++ es) empty) ∙ all ∙ ap (λ o. each_by o ps) mode in (
       d,
-      pushed_around start now new (string_bytes start.key) (string_bytes begun.key) outer (bson.Document d) first
+      pushed_around start now new (string_bytes start.key) (string_bytes enclosing.key) outer (bson.Document d) first
           (after ∙ around) key later same last,
       seen ∙ ap (document_by now.order) pairs ∙ ap (λ o. document_by o (each_by start.order ps)) first
           ∙ once_by start.order ps,
@@ -277,13 +277,13 @@ same_document d e is =
 same_code : (s t : String Global) → bson.JavaScriptCode s ≡ bson.JavaScriptCode t → s ≡ t
 same_code s t is = cc
 
-pub code_begun : (s k : List ℕ) (old new : BsonWriter) (begun : Begun) (c : Container) (v : Vec Bson Global)
+pub code_begun : (s k : List ℕ) (old new : BsonWriter) (enclosing : Enclosing) (c : Container) (v : Vec Bson Global)
     (code : String Global) → c ≡ Array v → v.items ≡ [] → new.order ≡ old.order
     → is_document new.container ≡ is_document c
-    → held new.container ≡ held c ++ (key_in c [], bson.JavaScriptCode code) ∷ [] → begun.outer ≡ old.container
-    → key_in old.container (string_bytes begun.key) ≡ key_in old.container k → string_bytes code ≡ s
-    → CodeBegun old k s begun new
-code_begun s k old new begun c v code is empty order kind all around key text = (
+    → held new.container ≡ held c ++ (key_in c [], bson.JavaScriptCode code) ∷ [] → enclosing.outer ≡ old.container
+    → key_in old.container (string_bytes enclosing.key) ≡ key_in old.container k → string_bytes code ≡ s
+    → CodeBegun old k s enclosing new
+code_begun s k old new enclosing c v code is empty order kind all around key text = (
   code,
   text,
   (
@@ -297,12 +297,12 @@ code_begun s k old new begun c v code is empty order kind all around key text = 
 )
 
 -- code and its scope are in an array
-pub code_items : (s : List ℕ) (ps : Pairs) (k : List ℕ) (start mid now : BsonWriter) (begun : Begun)
-    → CodeBegun start k s begun mid → DocumentPushed mid ps now
+pub code_items : (s : List ℕ) (ps : Pairs) (k : List ℕ) (start mid now : BsonWriter) (enclosing : Enclosing)
+    → CodeBegun start k s enclosing mid → DocumentPushed mid ps now
     → (is_document now.container ≡ false) × (code : String Global) × (d : Document)
     × (held now.container ≡ unnamed (bson.JavaScriptCode code ∷ bson.Document d ∷ []))
     × (string_bytes code ≡ s) × (document_view d ≡ pairs_by mid.order ps)
-code_items s ps k start mid now begun (code, text, (mode, kind, empty, around, key)) (d, (order, same, items), seen) = (
+code_items s ps k start mid now enclosing (code, text, (mode, kind, empty, around, key)) (d, (order, same, items), seen) = (
   same ∙ kind,
   code,
   d,
@@ -316,17 +316,17 @@ code_items s ps k start mid now begun (code, text, (mode, kind, empty, around, k
     none (Array v) is = refl
     none (OfPairs v) is = cc
 
-pub code_pushed : (s : List ℕ) (ps : Pairs) (k : List ℕ) (start mid now new : BsonWriter) (begun : Begun)
+pub code_pushed : (s : List ℕ) (ps : Pairs) (k : List ℕ) (start mid now new : BsonWriter) (enclosing : Enclosing)
     (v : Vec Bson Global) (kept rest : List Bson) (code : String Global) (scope : Document) (x y z : Bson)
-    (outer : Container) → CodeBegun start k s begun mid → DocumentPushed mid ps now → now.container ≡ Array v
-    → outer ≡ begun.outer → v.items ≡ kept ++ y ∷ [] → y ≡ bson.Document scope → kept ≡ rest ++ z ∷ [] → z ≡ bson.JavaScriptCode code
+    (outer : Container) → CodeBegun start k s enclosing mid → DocumentPushed mid ps now → now.container ≡ Array v
+    → outer ≡ enclosing.outer → v.items ≡ kept ++ y ∷ [] → y ≡ bson.Document scope → kept ≡ rest ++ z ∷ [] → z ≡ bson.JavaScriptCode code
     → bson_view x ≡ code_scope (string_bytes code) (document_view scope) → new.order ≡ now.order
     → is_document new.container ≡ is_document outer
-    → held new.container ≡ held outer ++ (key_in outer (string_bytes begun.key), x) ∷ []
+    → held new.container ≡ held outer ++ (key_in outer (string_bytes enclosing.key), x) ∷ []
     → ValuePushed start k (code_scope s ps) new
-code_pushed s ps k start mid now new begun v kept rest code scope x y z outer begins framed kind after last of_scope
+code_pushed s ps k start mid now new enclosing v kept rest code scope x y z outer begins framed kind after last of_scope
     former of_code seen later same is =
-    let (is_array, own, d, items, text, pairs) = code_items s ps k start mid now begun begins framed in
+    let (is_array, own, d, items, text, pairs) = code_items s ps k start mid now enclosing begins framed in
     let (own_code, own_text, (mode, own_kind, empty, around, key)) = begins in
     let (own_scope, (order, still, more), own_seen) = framed in
     let all = items_are v.items (bson.JavaScriptCode own ∷ bson.Document d ∷ []) (sym (ap held kind) ∙ items) in
@@ -335,7 +335,7 @@ code_pushed s ps k start mid now new begun v kept rest code scope x y z outer be
     let one_scope = same_document scope d (sym of_scope ∙ scopes.1) in
     let one_code = same_code code own (sym of_code ∙ codes.1) in (
       x,
-      pushed_around start now new k (string_bytes begun.key) outer x (order ∙ mode) (after ∙ around) key later same is,
+      pushed_around start now new k (string_bytes enclosing.key) outer x (order ∙ mode) (after ∙ around) key later same is,
       seen ∙ ap (λ (t : String Global). code_scope (string_bytes t) (document_view scope)) one_code
           ∙ ap (code_scope (string_bytes own)) one_scope
           ∙ ap (λ t. code_scope t (document_view d)) text ∙ ap (code_scope s) (pairs ∙ ap (λ o. pairs_by o ps) mode)

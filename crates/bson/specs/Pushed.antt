@@ -11,7 +11,7 @@ use Rattle.bson.specs.declared.bson.Bson.TheVariants as bson
 use Rattle.bson.specs.declared.document.Document.{Document}
 use Rattle.bson.specs.declared.extjson.key_order.KeyOrder.{KeyOrder}
 use Rattle.bson.specs.declared.extjson.key_order.KeyOrder.TheVariants.{Ascending, AsGiven}
-use Rattle.bson.specs.declared.extjson.value_writer.Begun.{Begun}
+use Rattle.bson.specs.declared.extjson.value_writer.Enclosing.{Enclosing}
 use Rattle.bson.specs.declared.extjson.value_writer.BsonWriter.{BsonWriter}
 use Rattle.bson.specs.declared.extjson.value_writer.Container.{Container}
 use Rattle.bson.specs.declared.extjson.value_writer.Container.TheVariants.{Array, Document as OfPairs}
@@ -62,16 +62,16 @@ DocumentPushed old ps new = (d : Document) × Pushed old (string_bytes old.key) 
     × (document_view d ≡ pairs_by old.order ps)
 
 -- the old container was put aside, with the key there, for one of this kind that holds these
-abbrev pub IsContainerOpened : BsonWriter → List ℕ → Begun → Bool → List (List ℕ × Bson) → BsonWriter → Type 0
-IsContainerOpened old k begun kind ps new = (new.order ≡ old.order) × (is_document new.container ≡ kind) × (held new.container ≡ ps)
-    × (begun.outer ≡ old.container) × (key_in old.container (string_bytes begun.key) ≡ key_in old.container k)
+abbrev pub IsContainerOpened : BsonWriter → List ℕ → Enclosing → Bool → List (List ℕ × Bson) → BsonWriter → Type 0
+IsContainerOpened old k enclosing kind ps new = (new.order ≡ old.order) × (is_document new.container ≡ kind) × (held new.container ≡ ps)
+    × (enclosing.outer ≡ old.container) × (key_in old.container (string_bytes enclosing.key) ≡ key_in old.container k)
 
-abbrev pub ArrayOpened : BsonWriter → List ℕ → Begun → BsonWriter → Type 0
-ArrayOpened old k begun new = IsContainerOpened old k begun false [] new
+abbrev pub ArrayOpened : BsonWriter → List ℕ → Enclosing → BsonWriter → Type 0
+ArrayOpened old k enclosing new = IsContainerOpened old k enclosing false [] new
 
-abbrev pub DocumentOpened : BsonWriter → Begun → BsonWriter → Type 0
-DocumentOpened old begun new = IsContainerOpened old (string_bytes old.key) begun true [] new
+abbrev pub DocumentOpened : BsonWriter → Enclosing → BsonWriter → Type 0
+DocumentOpened old enclosing new = IsContainerOpened old (string_bytes old.key) enclosing true [] new
 
-abbrev pub CodeBegun : BsonWriter → List ℕ → List ℕ → Begun → BsonWriter → Type 0
-CodeBegun old k s begun new = (code : String Global) × (string_bytes code ≡ s)
-    × IsContainerOpened old k begun false (([], bson.JavaScriptCode code) ∷ []) new
+abbrev pub CodeBegun : BsonWriter → List ℕ → List ℕ → Enclosing → BsonWriter → Type 0
+CodeBegun old k s enclosing new = (code : String Global) × (string_bytes code ≡ s)
+    × IsContainerOpened old k enclosing false (([], bson.JavaScriptCode code) ∷ []) new

@@ -8,7 +8,7 @@
 //! text is read).
 mod builder;
 pub mod de;
-mod direct;
+mod in_place;
 mod key_order;
 mod options;
 mod read;

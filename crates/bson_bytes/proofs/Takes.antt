@@ -56,9 +56,9 @@ done x = Ok x
 pub regroup : (k a b c : List ℕ) → k ++ 0 ∷ (a ++ (b ++ c)) ≡ (k ++ 0 ∷ (a ++ b)) ++ c
 regroup k a b c = simp append_assoc
 
-behind_name : (k rest : List ℕ) → IsBytes (k ++ 0 ∷ rest) → IsBytes rest
-behind_name [] rest h = IsBytes-rest 0 rest h
-behind_name (b ∷ k) rest h = behind_name k rest (IsBytes-rest b (k ++ 0 ∷ rest) h)
+after_name : (k rest : List ℕ) → IsBytes (k ++ 0 ∷ rest) → IsBytes rest
+after_name [] rest h = IsBytes-rest 0 rest h
+after_name (b ∷ k) rest h = after_name k rest (IsBytes-rest b (k ++ 0 ∷ rest) h)
 
 same_number : (n a b c m : ℕ) → n + c ≡ m → m ≡ 4 + (a + b + c) → n ≡ 4 + (a + b)
 same_number n a b c m e f = omega arith
@@ -144,8 +144,8 @@ regex_takes {keys} d bytes p fits e =
     let o = bind_ok (name_at a.0.1) (λ o. Ok (model.scalar (kind.regex a.0.0 o.0), o.1)) p a.2 in
     let first = name_takes bytes a.0.0 a.0.1 a.1 in
     let second = name_takes a.0.1 o.0.0 o.0.1 o.1 in
-    let fits1 = behind_name a.0.0 a.0.1 (subst IsBytes first.1 fits) in
-    let fits2 = behind_name o.0.0 o.0.1 (subst IsBytes second.1 fits1) in
+    let fits1 = after_name a.0.0 a.0.1 (subst IsBytes first.1 fits) in
+    let fits2 = after_name o.0.0 o.0.1 (subst IsBytes second.1 fits1) in
     subst (λ (q : Value × List ℕ). Of (IsValue keys) d tag.RegularExpression bytes q) (ok_is (model.scalar (kind.regex a.0.0 o.0.0), o.0.1) p o.2)
     record { front = a.0.0 ++ 0 ∷ (o.0.0 ++ 0 ∷ []); spelled = is_regex d a.0.0 o.0.0 first.0 second.0; parts = first.1 ∙ ap (λ (x : List ℕ). a.0.0 ++ 0 ∷ x) second.1 ∙ regroup a.0.0 o.0.0 (0 ∷ []) o.0.1; rest_bytes = fits2 }
 
@@ -261,7 +261,7 @@ list_takes {keys} d h before (suc m) bytes p fits e =
           let tag = tag_from t.0 k.0 (or_fault_ok (kind_of t.0) Tag bytes k.0 k.1) in
           let key = key_takes before t.1 s.0.0 s.0.1 s.1 in
           let name = name_takes t.1 s.0.0 s.0.1 key.0 in
-          let fits2 = behind_name s.0.0 s.0.1 (subst IsBytes name.1 fits1) in
+          let fits2 = after_name s.0.0 s.0.1 (subst IsBytes name.1 fits1) in
           let val = value_takes d h k.0 s.0.1 v.0 fits2 v.1 in
           let others = list_takes d h (noted s.0.0 before) m v.0.1 x.0 val.rest_bytes x.1 in
           let whole : bytes ≡ (tag_of k.0 ∷ (s.0.0 ++ 0 ∷ (val.front ++ others.list))) ++ 0 ∷ x.0.1 =

@@ -6,7 +6,7 @@ ghost use Rattle.bson_model.specs.Value.{Pairs};
 
 use crate::fault::Fault;
 use crate::fixed::FixedScalar;
-use crate::parts::behind_name;
+use crate::parts::after_name;
 use crate::sink::ValueSink;
 use crate::source::read_document;
 use crate::stop::Stop;
@@ -79,7 +79,7 @@ impl ValueSink for Nothing {
         _list: &(),
         bytes: &'b [u8],
     ) -> Result<((), &'b [u8]), Stop> {
-        Ok(((), behind_name(bytes)?))
+        Ok(((), after_name(bytes)?))
     }
 
     fn element(

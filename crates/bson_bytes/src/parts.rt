@@ -168,7 +168,7 @@ pub fn name_at(bytes: &[u8]) -> Result<(&str, &[u8]), Fault>
 }
 
 // Passes over the name of an element, which may be of any bytes.
-fn behind_any_name(bytes: &[u8]) -> Result<&[u8], Fault>
+fn after_any_name(bytes: &[u8]) -> Result<&[u8], Fault>
     ensures given { ReturnsReading (λ x. x.now) result (passed (name_at bytes.now)) }
     ensures shorter { IfOk result (λ x. length x.now ≤ length bytes.now) }
 {
@@ -182,7 +182,7 @@ fn behind_any_name(bytes: &[u8]) -> Result<&[u8], Fault>
 ///
 /// - `Short`: no byte is 0.
 /// - `Utf8`: the bytes before the first 0 are not UTF-8.
-pub fn behind_name(bytes: &[u8]) -> Result<&[u8], Fault>
+pub fn after_name(bytes: &[u8]) -> Result<&[u8], Fault>
     ensures given { ReturnsReading (λ x. x.now) result (passed (name_at bytes.now)) }
     ensures shorter { IfOk result (λ x. length x.now ≤ length bytes.now) }
 {
@@ -191,7 +191,7 @@ pub fn behind_name(bytes: &[u8]) -> Result<&[u8], Fault>
             return Ok(&bytes[i + 1..]);
         }
         if *byte >= 0x80 {
-            return behind_any_name(bytes);
+            return after_any_name(bytes);
         }
     }
     Err(fault_at(FaultKind::Short, bytes))

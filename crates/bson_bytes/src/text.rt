@@ -200,7 +200,7 @@ impl ValueSink for TextSink {
     }
 
     fn end_document(&mut self, list: usize) -> Result<(), Stop> {
-        if !end_apart(&mut self.digests, list) {
+        if !pop_distinct(&mut self.digests, list) {
             return Err(Stop::PossibleDuplicate);
         }
         Ok(self.out.end_object()?)
@@ -229,30 +229,30 @@ fn can_be_written(value: &Scalar)
 }
 
 // Removes the numbers from this index on, and returns whether no two of them are equal.
-fn end_apart(numbers: &mut Vec<u64>, start: usize) -> bool
-    requires { start ≤ length numbers.old.items }
-    ensures apart { IsTrue result → AllPairs (λ a b. a ≢ b) (drop start numbers.old.items) }
-    ensures kept { numbers.new.items ≡ take start numbers.old.items }
+fn pop_distinct(key_digests: &mut Vec<u64>, start: usize) -> bool
+    requires { start ≤ length key_digests.old.items }
+    ensures apart { IsTrue result → AllPairs (λ a b. a ≢ b) (drop start key_digests.old.items) }
+    ensures kept { key_digests.new.items ≡ take start key_digests.old.items }
 {
-    let apart = are_apart(&mut numbers.as_mut_slice()[start..]);
-    numbers.truncate(start);
+    let apart = are_distinct(&mut key_digests.as_mut_slice()[start..]);
+    key_digests.truncate(start);
     apart
 }
 
 // Returns whether no two of the numbers are equal, and may change their order.
-fn are_apart(numbers: &mut [u64]) -> bool
-    ensures { IsTrue result → AllPairs (λ a b. a ≢ b) numbers.old }
+fn are_distinct(key_digests: &mut [u64]) -> bool
+    ensures { IsTrue result → AllPairs (λ a b. a ≢ b) key_digests.old }
 {
-    numbers.sort_unstable();
-    rise(numbers)
+    key_digests.sort_unstable();
+    are_increasing(key_digests)
 }
 
 // Returns whether each number is greater than the one before it.
-fn rise(numbers: &[u64]) -> bool
-    ensures { IsTrue result → IsStrictlyIncreasing numbers.now }
+fn are_increasing(key_digests: &[u64]) -> bool
+    ensures { IsTrue result → IsStrictlyIncreasing key_digests.now }
 {
-    for next in 1..numbers.len() {
-        if numbers[next - 1] >= numbers[next] {
+    for next in 1..key_digests.len() {
+        if key_digests[next - 1] >= key_digests[next] {
             return false;
         }
     }

@@ -21,7 +21,7 @@ use Rattle.bson.specs.Texts.{IsTextInOrder}
 use Rattle.bson_bytes.specs.Printed.{IsPrinted}
 use Rattle.bson_codec.specs.Documents.{IsLine, WritesLine}
 use Rattle.bson_codec.specs.Texts.{IsDocumentTextOf}
-use Rattle.bson_codec.specs.Told.{newline}
+use Rattle.bson_codec.specs.Diagnostics.{newline}
 use Rattle.bson_codec.specs.declared.documents.Line.TheVariants.{TextInOrder}
 use Rattle.bson_codec.specs.declared.documents.Run.{Run}
 

@@ -87,8 +87,8 @@ justified_by run (Some all) (Some left) fault number start own taken more said g
       λ over. e.last (subst (IsPassedOver run) (sym first) over),
     )
 
-pub justified : {run : Run} {before after had holds told tells : Option (List ℕ)} {fault : RunFault}
-    {number refused start : ℕ} → EndsAt run before after had holds told tells fault number refused start
+pub justified : {run : Run} {before after had holds reported reports : Option (List ℕ)} {fault : RunFault}
+    {number refused start : ℕ} → EndsAt run before after had holds reported reports fault number refused start
     → IsJustified run before fault start
 justified {run = run} {before = before} {after = after} {fault = fault} {number = number} {start = start} h =
     justified_by run before after fault number start h.done h.taken h.more h.said h.given h.place h.reason h.front

@@ -1,3 +1,3 @@
 -- The laws that the crates above use. No other file of these proofs is cited from outside.
 pub use Rattle.bson_codec.proofs.Inside.{ends_inside}
-pub use Rattle.bson_codec.proofs.Utf8.{dump_utf8, told_utf8}
+pub use Rattle.bson_codec.proofs.Utf8.{dump_utf8, diagnostic_utf8}

@@ -89,12 +89,12 @@ items_put n (value v vs) old new (mid, (typed, put, grows), more) =
     )
 
 -- where the length of an array stands that was begun
-pub array_room : (k : List ℕ) (start : ℕ) (vs : Values) (old begun now : ElementWriter)
-    → ArrayUnder k start old.bytes.items begun.bytes.items → ItemsWritten Wrote (λ i. decimal i) 0 vs begun now
+pub array_room : (k : List ℕ) (start : ℕ) (vs : Values) (old mark now : ElementWriter)
+    → ArrayUnder k start old.bytes.items mark.bytes.items → ItemsWritten Wrote (λ i. decimal i) 0 vs mark now
     → start + 4 ≤ length now.bytes.items
-array_room k start vs old begun now begins written =
-    let all = items_put 0 vs begun now written in
-    let here = room start (old.bytes.items ++ name_bytes tag.Array k) begun.bytes.items begins in
+array_room k start vs old mark now begins written =
+    let all = items_put 0 vs mark now written in
+    let here = room start (old.bytes.items ++ name_bytes tag.Array k) mark.bytes.items begins in
     omega (arith, all.2, here)
 
 array_value : (vs : Values) (old now new : List ℕ) → put_items 0 vs (put_room old) ≡ Ok now
@@ -102,14 +102,14 @@ array_value : (vs : Values) (old now new : List ℕ) → put_items 0 vs (put_roo
 unfolding put_value
 array_value vs old now new put ended = ap (λ (r : Put). then r (put_end (length old))) put ∙ ended
 
-pub array_put : (k : List ℕ) (start : ℕ) (vs : Values) (old begun now : ElementWriter) (new : List ℕ)
-    → ArrayUnder k start old.bytes.items begun.bytes.items → ItemsWritten Wrote (λ i. decimal i) 0 vs begun now
+pub array_put : (k : List ℕ) (start : ℕ) (vs : Values) (old mark now : ElementWriter) (new : List ℕ)
+    → ArrayUnder k start old.bytes.items mark.bytes.items → ItemsWritten Wrote (λ i. decimal i) 0 vs mark now
     → put_end start now.bytes.items ≡ Ok new → length now.bytes.items ≤ length new
     → PutUnder k (array vs) old.bytes.items new
-array_put k start vs old begun now new (at, is) written ended grows =
+array_put k start vs old mark now new (at, is) written ended grows =
     let named = old.bytes.items ++ name_bytes tag.Array k in
-    let all = items_put 0 vs begun now written in
-    let begins = room start named begun.bytes.items (at, is) in
+    let all = items_put 0 vs mark now written in
+    let begins = room start named mark.bytes.items (at, is) in
     let longer = length-append old.bytes.items (name_bytes tag.Array k) in (
       all.0,
       array_value vs named now.bytes.items new
@@ -152,20 +152,20 @@ pairs_put (pair k v ps) old new (named, mid, (same, free, utf8), (typed, put, gr
       omega (arith, here, grows, rest.2),
     )
 
-pub framed_room : (start : ℕ) (ps : Pairs) (old begun now : ElementWriter)
-    → ReservesLength start old.bytes.items begun.bytes.items → PairsWritten Wrote Keyed ps begun now
+pub framed_room : (start : ℕ) (ps : Pairs) (old mark now : ElementWriter)
+    → ReservesLength start old.bytes.items mark.bytes.items → PairsWritten Wrote Keyed ps mark now
     → start + 4 ≤ length now.bytes.items
-framed_room start ps old begun now begins written =
-    let all = pairs_put ps begun now written in
-    let here = room start old.bytes.items begun.bytes.items begins in
+framed_room start ps old mark now begins written =
+    let all = pairs_put ps mark now written in
+    let here = room start old.bytes.items mark.bytes.items begins in
     omega (arith, all.2, here)
 
-pub framed_put : (start : ℕ) (ps : Pairs) (old begun now : ElementWriter) (new : List ℕ)
-    → ReservesLength start old.bytes.items begun.bytes.items → PairsWritten Wrote Keyed ps begun now → AreDistinct (keys_of ps)
+pub framed_put : (start : ℕ) (ps : Pairs) (old mark now : ElementWriter) (new : List ℕ)
+    → ReservesLength start old.bytes.items mark.bytes.items → PairsWritten Wrote Keyed ps mark now → AreDistinct (keys_of ps)
     → put_end start now.bytes.items ≡ Ok new → length now.bytes.items ≤ length new → PutFramed ps old.bytes.items new
-framed_put start ps old begun now new (at, is) written apart ended grows =
-    let all = pairs_put ps begun now written in
-    let begins = room start old.bytes.items begun.bytes.items (at, is) in (
+framed_put start ps old mark now new (at, is) written apart ended grows =
+    let all = pairs_put ps mark now written in
+    let begins = room start old.bytes.items mark.bytes.items (at, is) in (
       (all.0, once ps apart),
       ap (λ (r : Put). then r (put_end (length old.bytes.items)))
           (subst (λ (b : List ℕ). put_elements ps b ≡ Ok now.bytes.items) is all.1)

@@ -9,14 +9,14 @@ use Rattle.bson_codec.specs.Documents.{Dump, none, written, passed_over}
 use Rattle.bson_codec.specs.Documents.{DoneDocuments, EndsFor, EndsAt, HasNoLine, IsHandled, IsConversionFault, IsLine, IsOfBytes}
 use Rattle.bson_codec.specs.Documents.{IsPassedOver, IsUnhandled, IsUntold, DocumentsRun, TakesFront}
 use Rattle.bson_codec.specs.Streams.{WritesBeginning, front_of}
-use Rattle.bson_codec.specs.Told.{told_of}
+use Rattle.bson_codec.specs.Diagnostics.{diagnostic_of}
 use Rattle.bson_codec.specs.declared.documents.Run.{Run}
 use Rattle.bson_codec.specs.declared.run_end.RunFault.{RunFault}
 use Rattle.bson_codec.specs.declared.run_end.RunFault.TheVariants.{Malformed, FiniteDouble, CannotRead, CannotWrite}
 use Rattle.bson_codec.specs.declared.run_end.RunFault.TheVariants.{OutOfMemory}
 
-pub run_begins : (run : Run) (before had told : Option (List ℕ)) → DocumentsRun run before before had had told told 0 0 0
-run_begins run before had told = record {
+pub run_begins : (run : Run) (before had reported : Option (List ℕ)) → DocumentsRun run before before had had reported reported 0 0 0
+run_begins run before had reported = record {
   done = [];
   output = [];
   verdicts = [];
@@ -24,7 +24,7 @@ run_begins run before had told = record {
   documents = none;
   place = refl;
   written = Appends-nil had;
-  reported = Appends-nil told;
+  reports_appended = Appends-nil reported;
 }
 
 appends_kept : (a b c : Option (List ℕ)) (bs : List ℕ) → Appends a b bs → Keeps b c → Appends a c bs
@@ -33,12 +33,12 @@ appends_kept (Some x) None c bs p q = absurd p
 appends_kept (Some x) (Some y) None bs p q = absurd q
 appends_kept (Some x) (Some y) (Some z) bs p q = q ∙ p
 
-pub run_goes_on : (run : Run) (before mid after had holds after_holds told tells after_tells : Option (List ℕ))
-    (number refused start n behind : ℕ) (bytes : List ℕ)
-    → DocumentsRun run before mid had holds told tells number refused start → Consumes mid after bytes
-    → IsHandled n run (number + 1) start bytes holds after_holds tells after_tells → behind ≡ start + length bytes
-    → DocumentsRun run before after had after_holds told after_tells (number + 1) (refused + n) behind
-run_goes_on run before mid after had holds after_holds told tells after_tells number refused start n behind bytes r taken (inl g) place =
+pub run_goes_on : (run : Run) (before mid after had holds after_holds reported reports after_tells : Option (List ℕ))
+    (number refused start n following : ℕ) (bytes : List ℕ)
+    → DocumentsRun run before mid had holds reported reports number refused start → Consumes mid after bytes
+    → IsHandled n run (number + 1) start bytes holds after_holds reports after_tells → following ≡ start + length bytes
+    → DocumentsRun run before after had after_holds reported after_tells (number + 1) (refused + n) following
+run_goes_on run before mid after had holds after_holds reported reports after_tells number refused start n following bytes r taken (inl g) place =
     let line = g.1.0.0 in
     let same : refused + n ≡ refused = omega (arith, g.0) in
     record {
@@ -50,12 +50,12 @@ run_goes_on run before mid after had holds after_holds told tells after_tells nu
           (written bytes line r.documents g.1.0.1);
       place = omega (arith, place, r.place, length-append r.done bytes);
       written = Appends-trans had holds after_holds r.output line r.written g.1.0.2;
-      reported = appends_kept told tells after_tells r.verdicts r.reported g.1.1;
+      reports_appended = appends_kept reported reports after_tells r.verdicts r.reports_appended g.1.1;
     }
-run_goes_on run before mid after had holds after_holds told tells after_tells number refused start n behind bytes r taken (inr g) place =
+run_goes_on run before mid after had holds after_holds reported reports after_tells number refused start n following bytes r taken (inr g) place =
     let fault = g.1.1.0.0 in
     let one : refused + n ≡ refused + 1 = omega (arith, g.0) in
-    let said = told_of (number + 1) (length r.done) fault in
+    let said = diagnostic_of (number + 1) (length r.done) fault in
     record {
       done = r.done ++ bytes;
       output = r.output;
@@ -65,38 +65,38 @@ run_goes_on run before mid after had holds after_holds told tells after_tells nu
           (passed_over bytes fault r.documents g.1.0 g.1.1.0.1);
       place = omega (arith, place, r.place, length-append r.done bytes);
       written = appends_kept had holds after_holds r.output r.written g.1.1.1;
-      reported = Appends-trans told tells after_tells r.verdicts said r.reported
-          (subst (λ (s : ℕ). Appends tells after_tells (told_of (number + 1) s fault)) r.place g.1.1.0.2);
+      reports_appended = Appends-trans reported reports after_tells r.verdicts said r.reports_appended
+          (subst (λ (s : ℕ). Appends reports after_tells (diagnostic_of (number + 1) s fault)) r.place g.1.1.0.2);
     }
 
 -- ---- a document that was not given
 
-pub cut_line : (run : Run) (number start : ℕ) (bytes line : List ℕ) (had holds tells : Option (List ℕ))
+pub cut_line : (run : Run) (number start : ℕ) (bytes line : List ℕ) (had holds reports : Option (List ℕ))
     → IsLine run bytes line → WritesBeginning had holds line
-    → IsUnhandled CannotWrite run number start bytes had holds tells tells
-cut_line run number start bytes line had holds tells is cut =
-    (cut.beginning, [], inl ((line, is, cut.starts), refl), (cut.written, Appends-nil tells))
+    → IsUnhandled CannotWrite run number start bytes had holds reports reports
+cut_line run number start bytes line had holds reports is cut =
+    (cut.beginning, [], inl ((line, is, cut.starts), refl), (cut.written, Appends-nil reports))
 
 pub untold : (e : RunFault) (run : Run) (number start : ℕ) (bytes : List ℕ) (fault : RunFault)
-    (had told tells : Option (List ℕ)) → HasNoLine fault run bytes → IsPassedOver run bytes
-    → IsUntold e number start fault told tells → IsUnhandled e run number start bytes had had told tells
-untold e run number start bytes fault had told tells bad over (inl p) =
-    subst (λ (it : RunFault). IsUnhandled it run number start bytes had had told tells) (sym p.0)
-    ([], [], (refl, refl), (Appends-nil had, appends_kept told told tells [] (Appends-nil told) p.1))
-untold e run number start bytes fault had told tells bad over (inr p) =
-    subst (λ (it : RunFault). IsUnhandled it run number start bytes had had told tells) (sym p.0)
+    (had reported reports : Option (List ℕ)) → HasNoLine fault run bytes → IsPassedOver run bytes
+    → IsUntold e number start fault reported reports → IsUnhandled e run number start bytes had had reported reports
+untold e run number start bytes fault had reported reports bad over (inl p) =
+    subst (λ (it : RunFault). IsUnhandled it run number start bytes had had reported reports) (sym p.0)
+    ([], [], (refl, refl), (Appends-nil had, appends_kept reported reported reports [] (Appends-nil reported) p.1))
+untold e run number start bytes fault had reported reports bad over (inr p) =
+    subst (λ (it : RunFault). IsUnhandled it run number start bytes had had reported reports) (sym p.0)
     ([], p.1.0, inr ((fault, bad, over, p.1.1), refl), (Appends-nil had, p.1.2))
 
-pub judged_ends : (e : RunFault) (run : Run) (number start : ℕ) (bytes : List ℕ) (had told : Option (List ℕ))
-    → IsConversionFault e run bytes → (IsOfBytes e → IsPassedOver run bytes → ⊥) → IsUnhandled e run number start bytes had had told told
-judged_ends (Malformed k n) run number start bytes had told p last =
-    ([], [], (p, last tt, refl, refl), (Appends-nil had, Appends-nil told))
-judged_ends FiniteDouble run number start bytes had told p last =
-    ([], [], (p, last tt, refl, refl), (Appends-nil had, Appends-nil told))
-judged_ends CannotRead run number start bytes had told p last = absurd p
-judged_ends CannotWrite run number start bytes had told p last = absurd p
-judged_ends OutOfMemory run number start bytes had told p last =
-    ([], [], (refl, refl), (Appends-nil had, Appends-nil told))
+pub judged_ends : (e : RunFault) (run : Run) (number start : ℕ) (bytes : List ℕ) (had reported : Option (List ℕ))
+    → IsConversionFault e run bytes → (IsOfBytes e → IsPassedOver run bytes → ⊥) → IsUnhandled e run number start bytes had had reported reported
+judged_ends (Malformed k n) run number start bytes had reported p last =
+    ([], [], (p, last tt, refl, refl), (Appends-nil had, Appends-nil reported))
+judged_ends FiniteDouble run number start bytes had reported p last =
+    ([], [], (p, last tt, refl, refl), (Appends-nil had, Appends-nil reported))
+judged_ends CannotRead run number start bytes had reported p last = absurd p
+judged_ends CannotWrite run number start bytes had reported p last = absurd p
+judged_ends OutOfMemory run number start bytes had reported p last =
+    ([], [], (refl, refl), (Appends-nil had, Appends-nil reported))
 
 -- what is passed over has no line
 pub bad_bytes : (e : RunFault) (run : Run) (bytes : List ℕ) → IsOfBytes e → IsConversionFault e run bytes → HasNoLine e run bytes
@@ -106,15 +106,15 @@ bad_bytes CannotRead run bytes is p = p
 bad_bytes CannotWrite run bytes is p = p
 bad_bytes OutOfMemory run bytes is p = absurd is
 
-pub one_at_most : (n : ℕ) (run : Run) (number start : ℕ) (bytes : List ℕ) (had holds told tells : Option (List ℕ))
-    → IsHandled n run number start bytes had holds told tells → n ≤ 1
-one_at_most n run number start bytes had holds told tells (inl g) = omega (arith, g.0)
-one_at_most n run number start bytes had holds told tells (inr g) = omega (arith, g.0)
+pub one_at_most : (n : ℕ) (run : Run) (number start : ℕ) (bytes : List ℕ) (had holds reported reports : Option (List ℕ))
+    → IsHandled n run number start bytes had holds reported reports → n ≤ 1
+one_at_most n run number start bytes had holds reported reports (inl g) = omega (arith, g.0)
+one_at_most n run number start bytes had holds reported reports (inr g) = omega (arith, g.0)
 
-pub run_is_done : (run : Run) (before mid after had holds told tells : Option (List ℕ)) (number refused start : ℕ)
-    (bytes : List ℕ) → DocumentsRun run before mid had holds told tells number refused start → Consumes mid after bytes
-    → bytes ≡ [] → IsAtEnd after → DoneDocuments run before after had holds told tells number refused
-run_is_done run before mid after had holds told tells number refused start bytes r taken nothing end = record {
+pub run_is_done : (run : Run) (before mid after had holds reported reports : Option (List ℕ)) (number refused start : ℕ)
+    (bytes : List ℕ) → DocumentsRun run before mid had holds reported reports number refused start → Consumes mid after bytes
+    → bytes ≡ [] → IsAtEnd after → DoneDocuments run before after had holds reported reports number refused
+run_is_done run before mid after had holds reported reports number refused start bytes r taken nothing end = record {
   bytes = r.done;
   output = r.output;
   verdicts = r.verdicts;
@@ -123,16 +123,16 @@ run_is_done run before mid after had holds told tells number refused start bytes
   at_end = end;
   documents = r.documents;
   written = r.written;
-  reported = r.reported;
+  reports_appended = r.reports_appended;
 }
 
-pub run_ends : (run : Run) (before mid after had holds after_holds told tells after_tells : Option (List ℕ))
+pub run_ends : (run : Run) (before mid after had holds after_holds reported reports after_tells : Option (List ℕ))
     (count refused start number : ℕ) (fault : RunFault) (taken : List ℕ)
-    → (r : DocumentsRun run before mid had holds told tells count refused start) → Consumes mid after taken
+    → (r : DocumentsRun run before mid had holds reported reports count refused start) → Consumes mid after taken
     → number ≡ count + 1 → TakesFront fault before r.done taken
-    → IsUnhandled fault run number start taken holds after_holds tells after_tells
-    → EndsAt run before after had after_holds told after_tells fault number refused start
-run_ends run before mid after had holds after_holds told tells after_tells count refused start number fault taken r given next front (more, said, why, (w, t)) = record {
+    → IsUnhandled fault run number start taken holds after_holds reports after_tells
+    → EndsAt run before after had after_holds reported after_tells fault number refused start
+run_ends run before mid after had holds after_holds reported reports after_tells count refused start number fault taken r given next front (more, said, why, (w, t)) = record {
   done = r.done;
   taken = taken;
   output = r.output;
@@ -147,7 +147,7 @@ run_ends run before mid after had holds after_holds told tells after_tells count
   place = r.place;
   reason = why;
   written = Appends-trans had holds after_holds r.output more r.written w;
-  reported = Appends-trans told tells after_tells r.verdicts said r.reported t;
+  reports_appended = Appends-trans reported reports after_tells r.verdicts said r.reports_appended t;
 }
 
 -- ---- what was taken
@@ -194,29 +194,29 @@ given_front CannotRead before mid done taken c some h = tt
 given_front CannotWrite before mid done taken c some h = (some, λ rest e. h rest (left before mid done rest e c))
 given_front OutOfMemory before mid done taken c some h = tt
 
-pub run_ends_unread : (run : Run) (before mid after had holds told tells : Option (List ℕ))
+pub run_ends_unread : (run : Run) (before mid after had holds reported reports : Option (List ℕ))
     (count refused start number : ℕ) (fault : RunFault) (taken : List ℕ)
-    → DocumentsRun run before mid had holds told tells count refused start → Consumes mid after taken → number ≡ count + 1
+    → DocumentsRun run before mid had holds reported reports count refused start → Consumes mid after taken → number ≡ count + 1
     → (fault ≡ CannotRead) ⊎ (fault ≡ OutOfMemory)
-    → EndsAt run before after had holds told tells fault number refused start
-run_ends_unread run before mid after had holds told tells count refused start number fault taken r given next why =
-    run_ends run before mid after had holds holds told tells tells count refused start number fault taken r given next
+    → EndsAt run before after had holds reported reports fault number refused start
+run_ends_unread run before mid after had holds reported reports count refused start number fault taken r given next why =
+    run_ends run before mid after had holds holds reported reports reports count refused start number fault taken r given next
     (unread_front fault before r.done taken why)
-    ([], [], unread_ends fault run number start taken why, (Appends-nil holds, Appends-nil tells))
+    ([], [], unread_ends fault run number start taken why, (Appends-nil holds, Appends-nil reports))
 
-pub run_ends_at : (run : Run) (before mid after had holds after_holds told tells after_tells : Option (List ℕ))
+pub run_ends_at : (run : Run) (before mid after had holds after_holds reported reports after_tells : Option (List ℕ))
     (count refused start number : ℕ) (fault : RunFault) (taken : List ℕ)
-    → DocumentsRun run before mid had holds told tells count refused start → Consumes mid after taken → number ≡ count + 1
+    → DocumentsRun run before mid had holds reported reports count refused start → Consumes mid after taken → number ≡ count + 1
     → taken ≢ [] → ((all : List ℕ) → mid ≡ Some all → taken ≡ front_of all)
-    → IsUnhandled fault run number start taken holds after_holds tells after_tells
-    → EndsAt run before after had after_holds told after_tells fault number refused start
-run_ends_at run before mid after had holds after_holds told tells after_tells count refused start number fault taken r given next some front why =
-    run_ends run before mid after had holds after_holds told tells after_tells count refused start number fault taken r
+    → IsUnhandled fault run number start taken holds after_holds reports after_tells
+    → EndsAt run before after had after_holds reported after_tells fault number refused start
+run_ends_at run before mid after had holds after_holds reported reports after_tells count refused start number fault taken r given next some front why =
+    run_ends run before mid after had holds after_holds reported reports after_tells count refused start number fault taken r
     given next (given_front fault before mid r.done taken r.given some front) why
 
-pub run_stops_between : (run : Run) (before mid had holds told tells : Option (List ℕ))
-    (count refused start number : ℕ) → DocumentsRun run before mid had holds told tells count refused start
-    → number ≡ count + 1 → EndsAt run before mid had holds told tells CannotRead number refused start
-run_stops_between run before mid had holds told tells count refused start number r next =
-    run_ends_unread run before mid mid had holds told tells count refused start number CannotRead [] r (Consumes-nil mid) next
+pub run_stops_between : (run : Run) (before mid had holds reported reports : Option (List ℕ))
+    (count refused start number : ℕ) → DocumentsRun run before mid had holds reported reports count refused start
+    → number ≡ count + 1 → EndsAt run before mid had holds reported reports CannotRead number refused start
+run_stops_between run before mid had holds reported reports count refused start number r next =
+    run_ends_unread run before mid mid had holds reported reports count refused start number CannotRead [] r (Consumes-nil mid) next
     (inl refl)

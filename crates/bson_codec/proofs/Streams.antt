@@ -111,9 +111,9 @@ pub take_front : (all start one two : List ℕ) (before mid after : Option (List
     → size ≡ promised one → IsConsumed mid after one two → (length two ≡ size) ⊎ IsAtEnd after → length two ≤ size
     → two ≡ front_of all
 take_front all start one two before mid after size known empty first e b says second f c =
-    let begun = length_first all start one before mid known empty first e b in
-    let r = left_of all two after (took_whole (Some all) mid after one two begun.0 second) in
-    counted size all two after r f c ∙ ap (λ (k : ℕ). take k all) (says ∙ ap promised begun.1)
+    let mark = length_first all start one before mid known empty first e b in
+    let r = left_of all two after (took_whole (Some all) mid after one two mark.0 second) in
+    counted size all two after r f c ∙ ap (λ (k : ℕ). take k all) (says ∙ ap promised mark.1)
 
 -- fewer bytes than a length are all
 pub take_short : (all start one : List ℕ) (before mid : Option (List ℕ)) → before ≡ Some all → start ≡ []
@@ -121,11 +121,11 @@ pub take_short : (all start one : List ℕ) (before mid : Option (List ℕ)) →
     → one ≡ front_of all
 take_short all start one before mid known empty first (inl e) b few = absurd (omega (arith, e, few))
 take_short all start one before mid known empty first (inr end) b few =
-    let begun = length_first all start one before mid known empty first (inr end) b in
-    let l = left_of all one mid (taken (Some all) mid one begun.0) in
+    let mark = length_first all start one before mid known empty first (inr end) b in
+    let l = left_of all one mid (taken (Some all) mid one mark.0) in
     let whole : all ≡ one = l.parts ∙ ap (λ (r : List ℕ). one ++ r) (l.none end) ∙ append-nil one in
     let long : length one ≤ promised one = least (length one) (size_at one) in
-    sym (ap (λ (k : ℕ). take k all) (sym (ap promised begun.1)) ∙ ap (take (promised one)) whole
+    sym (ap (λ (k : ℕ). take k all) (sym (ap promised mark.1)) ∙ ap (take (promised one)) whole
     ∙ take_all (promised one) one long)
 
 pub on_three : {X E A B C D : Type 0} (r : Result X E) → OnOk r A → OnOk r B → OnOk r C → (A → B → C → D) → OnOk r D

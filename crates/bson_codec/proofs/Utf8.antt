@@ -9,7 +9,7 @@ use Rattle.std.proofs.lemmas.Bool.{lt-ltb}
 use Rattle.bson_bytes.specs.declared.fault.FaultKind.{FaultKind}
 use Rattle.bson_bytes.specs.declared.fault.FaultKind.TheVariants as kind
 use Rattle.bson_codec.specs.Documents.{Dump, none, written, passed_over}
-use Rattle.bson_codec.specs.Told.{newline, place_text, told_of, fault_kind_message, run_fault_message}
+use Rattle.bson_codec.specs.Diagnostics.{newline, place_text, diagnostic_of, fault_kind_message, run_fault_message}
 use Rattle.bson_codec.specs.declared.documents.Run.{Run}
 use Rattle.bson_codec.specs.declared.run_end.RunFault.{RunFault}
 use Rattle.bson_codec.specs.declared.run_end.RunFault.TheVariants.{Malformed, FiniteDouble, CannotRead, CannotWrite}
@@ -59,8 +59,8 @@ place_utf8 CannotRead = IsUtf8-nil
 place_utf8 CannotWrite = IsUtf8-nil
 place_utf8 OutOfMemory = IsUtf8-nil
 
-pub told_utf8 : (number start : ℕ) (fault : RunFault) → IsUtf8 (told_of number start fault)
-told_utf8 number start fault =
+pub diagnostic_utf8 : (number start : ℕ) (fault : RunFault) → IsUtf8 (diagnostic_of number start fault)
+diagnostic_utf8 number start fault =
     let first = IsUtf8-append _ _ (IsUtf8-are_ascii (codes "document ") refl) (decimal_utf8 number) in
     let at = IsUtf8-append _ _ first (IsUtf8-are_ascii (codes " at byte ") refl) in
     let placed = IsUtf8-append _ _ at (decimal_utf8 start) in
@@ -69,10 +69,10 @@ told_utf8 number start fault =
     let whole = IsUtf8-append _ _ said (place_utf8 fault) in
     IsUtf8-append _ _ whole (IsUtf8-are_ascii newline refl)
 
-pub dump_utf8 : {run : Run} {bytes output told : List ℕ} {number refused : ℕ} → Dump run bytes output told number refused
-    → IsUtf8 output × IsUtf8 told
+pub dump_utf8 : {run : Run} {bytes output reported : List ℕ} {number refused : ℕ} → Dump run bytes output reported number refused
+    → IsUtf8 output × IsUtf8 reported
 dump_utf8 none = (IsUtf8-nil, IsUtf8-nil)
 dump_utf8 (written {output = output} bytes line d is) =
     let before = dump_utf8 d in (IsUtf8-append output line before.0 is.utf8, before.1)
-dump_utf8 (passed_over {told = told} bytes fault d over bad) =
-    let before = dump_utf8 d in (before.0, IsUtf8-append told _ before.1 (told_utf8 _ _ fault))
+dump_utf8 (passed_over {reported = reported} bytes fault d over bad) =
+    let before = dump_utf8 d in (before.0, IsUtf8-append reported _ before.1 (diagnostic_utf8 _ _ fault))

@@ -12,12 +12,12 @@ use Rattle.bson_codec.specs.Packed.{IsPackedText, PutFramed}
 pub text_packed : (D : Doubles) (text bytes old : List ℕ) (ps : Pairs) → HasMeaningInOrder D text (document ps)
     → PutFramed ps old bytes → old ≡ [] → IsPackedText D text bytes
 text_packed D text bytes old ps means (typed, put, grows) none =
-    let told = told_ok ps bytes (subst (λ l. put_document ps l ≡ Ok bytes) none put) in
+    let reported = told_ok ps bytes (subst (λ l. put_document ps l ≡ Ok bytes) none put) in
     record {
       pairs = ps;
       meaning = means;
-      fits = told.0;
-      canonical = told.1;
-      back = λ d nests. subst (λ b. IsRead (suc d) b (as_written ps)) (sym told.1)
-          (written_read d ps told.0 typed nests);
+      fits = reported.0;
+      canonical = reported.1;
+      back = λ d nests. subst (λ b. IsRead (suc d) b (as_written ps)) (sym reported.1)
+          (written_read d ps reported.0 typed nests);
     }

@@ -12,7 +12,7 @@ use Rattle.bson_bytes.specs.Laws.{IsRead, IsFront}
 use Rattle.bson_bytes.specs.Reading.{reads_bytes, size_at}
 use Rattle.bson_codec.specs.Errors.{IsPlacedFault}
 use Rattle.bson_codec.specs.Streams.{front_of}
-use Rattle.bson_codec.specs.Told.{newline, told_of}
+use Rattle.bson_codec.specs.Diagnostics.{newline, diagnostic_of}
 use Rattle.bson_codec.specs.declared.de.Error.{Error}
 use Rattle.bson_codec.specs.declared.de.Error.TheVariants as errors
 use Rattle.bson_codec.specs.declared.documents.Line.{Line}
@@ -73,12 +73,12 @@ IsOfBytes OutOfMemory = ⊥
 -- these bytes are so many documents that give this output, of which so many were refused, passed over and told so
 pub data Dump (run : Run) : List ℕ → List ℕ → List ℕ → ℕ → ℕ → Type 0 where
   none : Dump run [] [] [] 0 0
-  written : {before output told : List ℕ} {number refused : ℕ} (bytes line : List ℕ)
-      → Dump run before output told number refused → IsLine run bytes line
-      → Dump run (before ++ bytes) (output ++ line) told (number + 1) refused
-  passed_over : {before output told : List ℕ} {number refused : ℕ} (bytes : List ℕ) (fault : RunFault)
-      → Dump run before output told number refused → IsPassedOver run bytes → HasNoLine fault run bytes
-      → Dump run (before ++ bytes) output (told ++ told_of (number + 1) (length before) fault) (number + 1) (refused + 1)
+  written : {before output reported : List ℕ} {number refused : ℕ} (bytes line : List ℕ)
+      → Dump run before output reported number refused → IsLine run bytes line
+      → Dump run (before ++ bytes) (output ++ line) reported (number + 1) refused
+  passed_over : {before output reported : List ℕ} {number refused : ℕ} (bytes : List ℕ) (fault : RunFault)
+      → Dump run before output reported number refused → IsPassedOver run bytes → HasNoLine fault run bytes
+      → Dump run (before ++ bytes) output (reported ++ diagnostic_of (number + 1) (length before) fault) (number + 1) (refused + 1)
 
 -- ---- a run
 --
@@ -86,7 +86,7 @@ pub data Dump (run : Run) : List ℕ → List ℕ → List ℕ → ℕ → ℕ �
 -- and holds, told and tells what the writer of verdicts held and holds: None where that is not known.
 
 -- all that the reader had are documents, and what they give was written and told
-pub record DoneDocuments (run : Run) (before after had holds told tells : Option (List ℕ)) (number refused : ℕ)
+pub record DoneDocuments (run : Run) (before after had holds reported reports : Option (List ℕ)) (number refused : ℕ)
     : Type 0 where
   pub bytes : List ℕ
   pub output : List ℕ
@@ -95,14 +95,14 @@ pub record DoneDocuments (run : Run) (before after had holds told tells : Option
   pub at_end : IsAtEnd after
   pub documents : Dump run bytes output verdicts number refused
   pub written : Appends had holds output
-  pub reported : Appends told tells verdicts
+  pub reports_appended : Appends reported reports verdicts
 
 -- a writer took no more than a beginning of the line, or of the verdict
 abbrev pub IsCutShort : Run → (number start : ℕ) → (taken more said : List ℕ) → Type 0
 IsCutShort run number start taken more said =
     (((line : List ℕ) × IsLine run taken line × StartsWith line more) × (said ≡ []))
     ⊎ (((fault : RunFault) × HasNoLine fault run taken × IsPassedOver run taken
-    × StartsWith (told_of number start fault) said) × (more ≡ []))
+    × StartsWith (diagnostic_of number start fault) said) × (more ≡ []))
 
 -- why a run ends at the bytes that were taken of the document of this number, which begins behind so many bytes, what
 -- was written of its line, and what was told
@@ -123,7 +123,7 @@ TakesFront fault before done taken =
 
 -- the documents before the one of this number, which begins behind so many bytes, were done, so many of them passed over,
 -- and what they give was written and told; at that one the run ended for the fault
-pub record EndsAt (run : Run) (before after had holds told tells : Option (List ℕ)) (fault : RunFault)
+pub record EndsAt (run : Run) (before after had holds reported reports : Option (List ℕ)) (fault : RunFault)
     (number refused start : ℕ) : Type 0 where
   pub done : List ℕ
   pub taken : List ℕ
@@ -139,7 +139,7 @@ pub record EndsAt (run : Run) (before after had holds told tells : Option (List 
   pub place : start ≡ length done
   pub reason : EndsFor fault run number start taken more said
   pub written : Appends had holds (output ++ more)
-  pub reported : Appends told tells (verdicts ++ said)
+  pub reports_appended : Appends reported reports (verdicts ++ said)
 
 -- the bytes begin with no document that is written
 abbrev pub BeginsWithNone : Run → List ℕ → Type 0
@@ -185,26 +185,26 @@ IsLineFault OutOfMemory o l ps = Unit {0}
 IsLineFault other o l ps = ⊥
 
 -- the line was written; or the document was refused, passed over and told so, which counts as 1
-abbrev pub IsHandled : ℕ → Run → (number start : ℕ) → List ℕ → (had holds told tells : Option (List ℕ)) → Type 0
-IsHandled n run number start bytes had holds told tells =
-    ((n ≡ 0) × (((line : List ℕ) × IsLine run bytes line × Appends had holds line) × Keeps told tells))
+abbrev pub IsHandled : ℕ → Run → (number start : ℕ) → List ℕ → (had holds reported reports : Option (List ℕ)) → Type 0
+IsHandled n run number start bytes had holds reported reports =
+    ((n ≡ 0) × (((line : List ℕ) × IsLine run bytes line × Appends had holds line) × Keeps reported reports))
     ⊎ ((n ≡ 1) × (IsPassedOver run bytes
-    × (((fault : RunFault) × HasNoLine fault run bytes × Appends told tells (told_of number start fault))
+    × (((fault : RunFault) × HasNoLine fault run bytes × Appends reported reports (diagnostic_of number start fault))
     × Keeps had holds)))
 
 -- the run ends for the fault, and this was written of the line and told
-abbrev pub IsUnhandled : RunFault → Run → (number start : ℕ) → List ℕ → (had holds told tells : Option (List ℕ)) → Type 0
-IsUnhandled e run number start bytes had holds told tells = (more : List ℕ) × (said : List ℕ)
-    × EndsFor e run number start bytes more said × (Appends had holds more × Appends told tells said)
+abbrev pub IsUnhandled : RunFault → Run → (number start : ℕ) → List ℕ → (had holds reported reports : Option (List ℕ)) → Type 0
+IsUnhandled e run number start bytes had holds reported reports = (more : List ℕ) × (said : List ℕ)
+    × EndsFor e run number start bytes more said × (Appends had holds more × Appends reported reports said)
 
 -- the verdict was not told whole
-abbrev pub IsUntold : RunFault → (number start : ℕ) → RunFault → (told tells : Option (List ℕ)) → Type 0
-IsUntold e number start fault told tells =
-    ((e ≡ OutOfMemory) × Keeps told tells)
-    ⊎ ((e ≡ CannotWrite) × ((said : List ℕ) × StartsWith (told_of number start fault) said × Appends told tells said))
+abbrev pub IsUntold : RunFault → (number start : ℕ) → RunFault → (reported reports : Option (List ℕ)) → Type 0
+IsUntold e number start fault reported reports =
+    ((e ≡ OutOfMemory) × Keeps reported reports)
+    ⊎ ((e ≡ CannotWrite) × ((said : List ℕ) × StartsWith (diagnostic_of number start fault) said × Appends reported reports said))
 
 -- how far a run has come
-pub record DocumentsRun (run : Run) (before after had holds told tells : Option (List ℕ)) (number refused start : ℕ)
+pub record DocumentsRun (run : Run) (before after had holds reported reports : Option (List ℕ)) (number refused start : ℕ)
     : Type 0 where
   pub done : List ℕ
   pub output : List ℕ
@@ -213,4 +213,4 @@ pub record DocumentsRun (run : Run) (before after had holds told tells : Option 
   pub documents : Dump run done output verdicts number refused
   pub place : start ≡ length done
   pub written : Appends had holds output
-  pub reported : Appends told tells verdicts
+  pub reports_appended : Appends reported reports verdicts

@@ -2,7 +2,7 @@ pub mod Reading
 pub mod Errors
 pub mod Writing
 pub mod Streams
-pub mod Told
+pub mod Diagnostics
 pub mod Documents
 pub mod Texts
 pub mod Packed

@@ -10,7 +10,7 @@ ghost use Rattle.bson.specs.Form.TheVariants.{Canonical};
 ghost use Rattle.bson_codec.specs.Documents.{BeginsWithLength, DoneDocuments, EndsAt, IsHandled, IsConversionFault};
 ghost use Rattle.bson_codec.specs.Documents.{IsJustified, IsLine, IsOfBytes, IsUnhandled, IsUntold, IsLineFault};
 ghost use Rattle.bson_codec.specs.Documents.{WritesLine, run_fault};
-ghost use Rattle.bson_codec.specs.Told.{newline, told_of};
+ghost use Rattle.bson_codec.specs.Diagnostics.{newline, diagnostic_of};
 ghost use Rattle.bson_codec.specs.declared.documents.Line.TheVariants.{Text, TextInOrder};
 ghost use Rattle.bson_codec.specs.declared.documents.Run.{Run};
 ghost use Rattle.bson_codec.specs.declared.run_end.RunFault.TheVariants.{CannotRead, OutOfMemory};
@@ -39,8 +39,8 @@ const MOST: u64 = u64::MAX - 1;
 ///     ..Run::default()
 /// };
 /// let mut input: &[u8] = b"\x0c\0\0\0\x10n\0\x05\0\0\0\0";
-/// let (mut output, mut told) = (Vec::new(alloc), Vec::new(alloc));
-/// drop(run_documents(alloc, run, &mut input, &mut output, &mut told));
+/// let (mut output, mut reported) = (Vec::new(alloc), Vec::new(alloc));
+/// drop(run_documents(alloc, run, &mut input, &mut output, &mut reported));
 /// rt.print(str::from_utf8(&output)?)?; // {"n":5}
 /// ```
 #[derive(Clone, Copy, PartialEq, Eq, Debug)]
@@ -97,8 +97,14 @@ impl Default for Run {
 ///
 /// ```
 /// let mut input: &[u8] = b"\x05\0\0\0\0\x05\0\0\0\0";
-/// let (mut output, mut told) = (Vec::new(alloc), Vec::new(alloc));
-/// let counts = run_documents(alloc, Run::default(), &mut input, &mut output, &mut told);
+/// let (mut output, mut reported) = (Vec::new(alloc), Vec::new(alloc));
+/// let counts = run_documents(
+///     alloc,
+///     Run::default(),
+///     &mut input,
+///     &mut output,
+///     &mut reported,
+/// );
 /// println!(rt; "{counts:?}")?; // Ok(DocumentCounts { documents: 2, refused: 0 })
 /// ```
 #[derive(Clone, Copy, PartialEq, Eq, Debug)]
@@ -162,7 +168,7 @@ pub fn run_documents<R: Read, W: Write, T: Write>(
         if bytes.is_empty() {
             return Ok(DocumentCounts { documents, refused });
         }
-        let Some(behind) = start.checked_add(bytes.len() as u64) else {
+        let Some(following) = start.checked_add(bytes.len() as u64) else {
             return Err(RunEnd {
                 fault: RunFault::CannotRead,
                 number,
@@ -183,7 +189,7 @@ pub fn run_documents<R: Read, W: Write, T: Write>(
             }
         };
         refused += passed;
-        start = behind;
+        start = following;
     }
     // No run reaches this number of documents.
     Err(RunEnd {
@@ -347,13 +353,13 @@ fn tell<T: Write>(
     fault: RunFault,
     report: &mut T,
 ) -> Result<(), RunFault>
-    ensures ok { OnOk result (Appends (T.contents report.old) (T.contents report.new) (told_of number start fault)) }
+    ensures ok { OnOk result (Appends (T.contents report.old) (T.contents report.new) (diagnostic_of number start fault)) }
     ensures fault { IfErr result (λ e. IsUntold e number start fault (T.contents report.old) (T.contents report.new)) }
 {
-    let Ok(told) = verdict(alloc, number, start, fault) else {
+    let Ok(reported) = verdict(alloc, number, start, fault) else {
         return Err(RunFault::OutOfMemory);
     };
-    match write_whole(report, told.as_bytes()) {
+    match write_whole(report, reported.as_bytes()) {
         Ok(()) => Ok(()),
         Err(_) => Err(RunFault::CannotWrite),
     }

@@ -38,13 +38,13 @@ impl ValueWriter for ElementWriter {
 
     ghost framed = { λ old ps new. PutFramed ps old.bytes.items new.bytes.items };
 
-    ghost listed = { λ old k begun new. ArrayUnder k begun old.bytes.items new.bytes.items };
+    ghost listed = { λ old k mark new. ArrayUnder k mark old.bytes.items new.bytes.items };
 
-    ghost opened = { λ old begun new. ReservesLength begun old.bytes.items new.bytes.items };
+    ghost opened = { λ old mark new. ReservesLength mark old.bytes.items new.bytes.items };
 
     ghost keyed = { λ old k new. (new.bytes.items ≡ old.bytes.items) × (is_free k ≡ true) × (is_utf8 k ≡ true) };
 
-    ghost coded = { λ old k s begun new. CodeUnder k s begun old.bytes.items new.bytes.items };
+    ghost coded = { λ old k s mark new. CodeUnder k s mark old.bytes.items new.bytes.items };
 
     fn string(&mut self, name: &str, text: &str) -> Result<(), Stop> {
         put_name(&mut self.bytes, ElementType::String, name)?;

@@ -1,6 +1,6 @@
 //! Why a run over documents ends, or passes a document over, and what is told of it.
 ghost use Rattle.std.specs.Prelude.{◌≡◌, IfOk, string_bytes};
-ghost use Rattle.bson_codec.specs.Told.{place_text, told_of, told_with, fault_kind_message, run_fault_message};
+ghost use Rattle.bson_codec.specs.Diagnostics.{place_text, diagnostic_of, diagnostic_with, fault_kind_message, run_fault_message};
 
 use bson_bytes::fault::FaultKind;
 use std::alloc::{AllocError, Global};
@@ -9,9 +9,9 @@ use std::alloc::{AllocError, Global};
 ///
 /// ```
 /// let mut input: &[u8] = b"\x05\0\0\0\0\x01";
-/// let (mut output, mut told) = (Vec::new(alloc), Vec::new(alloc));
+/// let (mut output, mut reported) = (Vec::new(alloc), Vec::new(alloc));
 /// let run = Run::default();
-/// if let Err(end) = run_documents(alloc, run, &mut input, &mut output, &mut told) {
+/// if let Err(end) = run_documents(alloc, run, &mut input, &mut output, &mut reported) {
 ///     println!(rt; "{:?}", end.fault)?; // Malformed { kind: Short, offset: 0 }
 /// }
 /// ```
@@ -38,9 +38,9 @@ pub enum RunFault {
 ///
 /// ```
 /// let mut input: &[u8] = b"\x05\0\0\0\0\x05\0\0";
-/// let (mut output, mut told) = (Vec::new(alloc), Vec::new(alloc));
+/// let (mut output, mut reported) = (Vec::new(alloc), Vec::new(alloc));
 /// let run = Run::default();
-/// if let Err(end) = run_documents(alloc, run, &mut input, &mut output, &mut told) {
+/// if let Err(end) = run_documents(alloc, run, &mut input, &mut output, &mut reported) {
 ///     rt.print(&end.to_line(alloc)?)?; // document 2 at byte 5: ends too early at its byte 0
 /// }
 /// ```
@@ -63,7 +63,7 @@ impl RunEnd {
     ///
     /// Returns `AllocError` if a request for memory is refused.
     pub fn to_line(&self, alloc: Global) -> Result<String, AllocError>
-        ensures { IfOk result (λ told. string_bytes told ≡ told_of self.now.number self.now.start self.now.fault) }
+        ensures { IfOk result (λ reported. string_bytes reported ≡ diagnostic_of self.now.number self.now.start self.now.fault) }
     {
         verdict(alloc, self.number, self.start, self.fault)
     }
@@ -76,7 +76,7 @@ pub(crate) fn verdict(
     start: u64,
     fault: RunFault,
 ) -> Result<String, AllocError>
-    ensures { IfOk result (λ told. string_bytes told ≡ told_of number start fault) }
+    ensures { IfOk result (λ reported. string_bytes reported ≡ diagnostic_of number start fault) }
 {
     let place = fault.place(alloc)?;
     at_place(alloc, number, start, fault, place.as_str())
@@ -90,7 +90,7 @@ fn at_place(
     fault: RunFault,
     place: &str,
 ) -> Result<String, AllocError>
-    ensures { IfOk result (λ told. string_bytes told ≡ told_with number start fault place.now) }
+    ensures { IfOk result (λ reported. string_bytes reported ≡ diagnostic_with number start fault place.now) }
 {
     let words = fault.message();
     format!(in alloc; "document {number} at byte {start}: {words}{place}\n")

@@ -12,7 +12,7 @@ ghost use Rattle.bson_bytes.specs.declared.stop.Stop.TheVariants as stops;
 use crate::pair_list::PairList;
 use bson::{Binary, Bson, DbPointer, Document, JavaScriptCodeWithScope, ObjectId, Regex};
 use bson_bytes::fixed::FixedScalar;
-use bson_bytes::parts::behind_name;
+use bson_bytes::parts::after_name;
 use bson_bytes::sink::ValueSink;
 use bson_bytes::stop::Stop;
 use bson_types::spec::BinarySubtype;
@@ -174,7 +174,7 @@ fn no_key(alloc: Global, bytes: &[u8]) -> Result<(String, &[u8]), Stop>
     ensures given { ReadsTo (λ e. e ≡ stops.OutOfMemory) (λ x. x.1.now) (λ s x. Unit {0}) result (name_at bytes.now) }
     ensures shorter { IfOk result (λ x. length x.1.now ≤ length bytes.now) }
 {
-    let rest = behind_name(bytes)?;
+    let rest = after_name(bytes)?;
     Ok((String::new(alloc), rest))
 }
 

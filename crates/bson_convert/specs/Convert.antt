@@ -16,8 +16,8 @@ use Rattle.bson_model.specs.Laws.{HasMeaningIn, IsTreeOfIn}
 use Rattle.bson_tree.specs.Place.{IsFirstFaultIn}
 use Rattle.bson.specs.TextMeaning.{IsTextOf, IsNoText, HasTextMeaningIn}
 use Rattle.bson.specs.Texts.{IsTextUnder}
-use Rattle.bson_convert.specs.declared.converted.Tried.{Tried}
-use Rattle.bson_convert.specs.declared.converted.Tried.TheVariants.{Written, Normalized}
+use Rattle.bson_convert.specs.declared.converted.Attempt.{Attempt}
+use Rattle.bson_convert.specs.declared.converted.Attempt.TheVariants.{Written, Normalized}
 use Rattle.bson_convert.specs.declared.mode.Mode.{Mode}
 use Rattle.bson_convert.specs.declared.mode.Mode.TheVariants.{Canonical, Relaxed, Show}
 use Rattle.bson_convert.specs.declared.error.Error.{Error}
@@ -129,11 +129,11 @@ IsConvertedText o mode bytes text =
     (value : Value) × HasTextMeaningIn o.doubles bytes value × IsTextFor o mode value text
 
 -- that text, or a text of the same tree as the bytes', which means something
-abbrev pub IsTried : Options → Mode → List ℕ → Tried → Type 0
+abbrev pub IsTried : Options → Mode → List ℕ → Attempt → Type 0
 IsTried o mode bytes (Written text) = IsConvertedText o mode bytes text.items
 IsTried o mode bytes (Normalized text) = IsUtf8 bytes × (read (string_bytes text) ≡ read bytes) × IsAccepted o (string_bytes text)
 
 -- the text that was written is UTF-8; the other is by its type
-abbrev pub IsUtf8Tried : Tried → Type 0
+abbrev pub IsUtf8Tried : Attempt → Type 0
 IsUtf8Tried (Written text) = IsUtf8 text.items
 IsUtf8Tried (Normalized text) = Unit {0}

@@ -9,7 +9,7 @@ ghost use Rattle.bson_convert.specs.Convert.{IsConvertedText, IsTried, IsUtf8Tri
 ghost use Rattle.bson.specs.TextMeaning.{IsTextOf, IsTextFaultIn};
 ghost use Rattle.bson.specs.declared.extjson.text_error.TextError.{TextError};
 
-use crate::converted::{Tried, read_normalized, try_line, try_text};
+use crate::converted::{Attempt, read_normalized, try_line, try_text};
 use crate::error::Error;
 use crate::mode::Mode;
 use bson::extjson::Options;
@@ -116,9 +116,9 @@ pub fn convert_whole(
         → MeansIn options.doubles tree value → IfErr result (λ fault. fault ≡ Error.OutOfMemory) }
     ensures fault { IfErr result (λ fault. IsRefusedIn options fault bytes.items) }
 {
-    let tried = try_text(alloc, options, mode, &bytes)?;
+    let attempt = try_text(alloc, options, mode, &bytes)?;
     drop(bytes);
-    let text = finish(alloc, options, mode, tried)?;
+    let text = finish(alloc, options, mode, attempt)?;
     end_line(text)
 }
 
@@ -163,21 +163,21 @@ pub(crate) fn line_text(
         → MeansIn options.doubles tree value → IfErr result (λ fault. fault ≡ Error.OutOfMemory) }
     ensures fault { IfErr result (λ fault. IsRefusedIn options fault bytes.now) }
 {
-    let tried = try_line(alloc, options, mode, bytes, scratch)?;
-    finish(alloc, options, mode, tried)
+    let attempt = try_line(alloc, options, mode, bytes, scratch)?;
+    finish(alloc, options, mode, attempt)
 }
 
 // What was written at once, or the text of the normalized one.
-fn finish(alloc: Global, options: Options, mode: Mode, tried: Tried) -> Result<Vec<u8>, Error>
-    ensures ok { (bytes : List ℕ) → IsTried options mode bytes tried
+fn finish(alloc: Global, options: Options, mode: Mode, attempt: Attempt) -> Result<Vec<u8>, Error>
+    ensures ok { (bytes : List ℕ) → IsTried options mode bytes attempt
         → IfOk result (λ text. IsConvertedText options mode bytes text.items) }
-    ensures utf8 { IsUtf8Tried tried → IfOk result (λ text. IsUtf8 text.items) }
-    ensures fault { (bytes : List ℕ) → IsTried options mode bytes tried
+    ensures utf8 { IsUtf8Tried attempt → IfOk result (λ text. IsUtf8 text.items) }
+    ensures fault { (bytes : List ℕ) → IsTried options mode bytes attempt
         → IfErr result (λ fault. IsRefusedIn options fault bytes) }
 {
-    match tried {
-        Tried::Written(text) => Ok(text),
-        Tried::Normalized(normalized) => read_normalized(alloc, options, mode, normalized.as_str()),
+    match attempt {
+        Attempt::Written(text) => Ok(text),
+        Attempt::Normalized(normalized) => read_normalized(alloc, options, mode, normalized.as_str()),
     }
 }
 

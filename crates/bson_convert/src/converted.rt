@@ -26,12 +26,12 @@ use std::alloc::{AllocError, Global};
 /// ```
 /// let options = Options::default();
 /// let bytes = br#"{"a": 1.5, "a": 7}"#.as_slice();
-/// if let Ok(Tried::Normalized(text)) = try_text(alloc, options, Mode::Relaxed, bytes) {
+/// if let Ok(Attempt::Normalized(text)) = try_text(alloc, options, Mode::Relaxed, bytes) {
 ///     println!(rt; "{text}")?; // {"a":7}
 /// }
 /// ```
 #[derive(Drop)]
-pub enum Tried {
+pub enum Attempt {
     /// The text that the mode asks for.
     Written(Vec<u8>),
     /// The text of the same tree that is to be read in its place. The tree has a meaning.
@@ -46,8 +46,8 @@ pub enum Tried {
 /// - `NotJson`: the bytes are not UTF-8, or `serde_json` reads no tree from them.
 /// - `NotExtendedJson`: the tree has no meaning. It has the tree's first fault.
 /// - `OutOfMemory`: an allocation failed.
-pub fn try_text(alloc: Global, options: Options, mode: Mode, bytes: &[u8]) -> Result<Tried, Error>
-    ensures ok { IfOk result (λ tried. IsTried options mode bytes.now tried) }
+pub fn try_text(alloc: Global, options: Options, mode: Mode, bytes: &[u8]) -> Result<Attempt, Error>
+    ensures ok { IfOk result (λ attempt. IsTried options mode bytes.now attempt) }
     ensures utf8 { IfOk result IsUtf8Tried }
     ensures fault { IfErr result (λ fault. IsRefusedIn options fault bytes.now) }
 {
@@ -61,8 +61,8 @@ pub(crate) fn try_line(
     mode: Mode,
     bytes: &[u8],
     scratch: &mut Scratch,
-) -> Result<Tried, Error>
-    ensures ok { IfOk result (λ tried. IsTried options mode bytes.now tried) }
+) -> Result<Attempt, Error>
+    ensures ok { IfOk result (λ attempt. IsTried options mode bytes.now attempt) }
     ensures utf8 { IfOk result IsUtf8Tried }
     ensures fault { IfErr result (λ fault. IsRefusedIn options fault bytes.now) }
 {
@@ -70,9 +70,9 @@ pub(crate) fn try_line(
         return Err(Error::NotJson);
     };
     match stream_text(alloc, options, mode, text, scratch) {
-        Ok(written) => Ok(Tried::Written(written)),
+        Ok(written) => Ok(Attempt::Written(written)),
         Err(Stop::OutOfMemory) => Err(Error::OutOfMemory),
-        Err(_) => Ok(Tried::Normalized(normalize_faultless(alloc, options, text)?)),
+        Err(_) => Ok(Attempt::Normalized(normalize_faultless(alloc, options, text)?)),
     }
 }
 

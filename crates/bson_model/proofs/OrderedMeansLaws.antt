@@ -10,7 +10,7 @@ use Rattle.bson_scalar.specs.Means.{MeansScalarIn, null, boolean, text, code_wit
 use Rattle.bson_scalar.specs.Reading.{number_read_in, single_at_in, on_text}
 use Rattle.bson_scalar.specs.Scalar.{Scalar}
 use Rattle.bson_scalar.specs.Scalar as kind
-use Rattle.bson_scalar.specs.Shapes.{object_of_one, object_of_two}
+use Rattle.bson_scalar.specs.TreeParts.{object_of_one, object_of_two}
 use Rattle.bson_scalar.specs.Table.{wrapper_of, has_wrapper}
 use Rattle.bson_scalar.specs.declared.form.Doubles.{Doubles}
 use Rattle.bson_scalar.proofs.Offered as scalars

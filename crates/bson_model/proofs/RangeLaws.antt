@@ -10,7 +10,7 @@ use Rattle.bson_scalar.specs.Means.{number_double, binary, uuid, timestamp, date
 use Rattle.bson_scalar.specs.Means.{date_of_number, db_pointer}
 use Rattle.bson_scalar.specs.Normal.{ScalarInRange}
 use Rattle.bson_scalar.specs.Scalar.{Scalar}
-use Rattle.bson_scalar.specs.Shapes.{small_number, whole}
+use Rattle.bson_scalar.specs.TreeParts.{small_number, whole}
 use Rattle.bson_scalar.proofs.Offered.{subtype_byte-of, finite_range}
 use Rattle.bson_model.specs.Value.{Value, Values, Pairs}
 use Rattle.bson_model.specs.Means.{MeansIn, scalar, code_with_scope, array, document, MeansItemsIn, nothing, then}

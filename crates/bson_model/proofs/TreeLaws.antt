@@ -12,7 +12,7 @@ use Rattle.bson_scalar.specs.Dates.{is_recent, relaxed_date_tree}
 use Rattle.bson_scalar.specs.Normal.{ScalarInRange}
 use Rattle.bson_scalar.specs.Scalar.{Scalar, null, undefined, min_key, max_key, boolean, double, int32, int64, text}
 use Rattle.bson_scalar.specs.Scalar.{symbol, code, regex, timestamp, binary, object_id, date, decimal, db_pointer}
-use Rattle.bson_scalar.specs.Shapes.{object_of_two}
+use Rattle.bson_scalar.specs.TreeParts.{object_of_two}
 use Rattle.bson_scalar.specs.Written.{writes_scalar_in, int32_form, int64_form, date_form}
 use Rattle.bson_scalar.specs.declared.form.Form.{Form}
 use Rattle.bson_scalar.specs.declared.form.Form.TheVariants.{Canonical, Relaxed}

@@ -4,7 +4,7 @@ use Rattle.std.proofs.Common.{refl, sym, ap, subst, ◌∙◌}
 use Rattle.std.proofs.lemmas.List.{append-nil}
 use Rattle.std.specs.Io.KnownBytes.{Appends, Keeps, append_known}
 use Rattle.bson_codec.specs.Documents.{EndsAt, IsOfBytes}
-use Rattle.bson_codec.specs.Told.{told_of}
+use Rattle.bson_codec.specs.Diagnostics.{hint_text}
 use Rattle.bson_codec.specs.declared.documents.Run.{Run}
 use Rattle.bson_codec.specs.declared.run_end.RunFault.{RunFault}
 use Rattle.bson_program.specs.Dump.{IsDoneDump}
@@ -32,14 +32,14 @@ flushed had mid holds first last bytes e f h k =
     (kept (append_known had first) mid (append_known holds last) bytes h k))
 
 -- the end at a document of a run that keeps going
-pub cut_dump : (run : Run) (before after had mid holds told said tells : Option (List ℕ)) (first last : List ℕ)
+pub cut_dump : (run : Run) (before after had mid holds reported said reports : Option (List ℕ)) (first last : List ℕ)
     (fault : RunFault) (number left start documents refused : ℕ)
-    → EndsAt run before after (append_known had first) mid told said fault number left start → first ≡ [] → last ≡ []
+    → EndsAt run before after (append_known had first) mid reported said fault number left start → first ≡ [] → last ≡ []
     → Keeps mid (append_known holds last) → run.keep_going ≡ true → IsOfBytes fault
-    → Appends said tells (told_of number start fault) → documents ≡ number → refused ≡ left + 1
-    → IsDoneDump run before after had holds told tells documents refused
-cut_dump run before after had mid holds told said tells first last fault number left start documents refused h e f k going is reported same counted =
-    let ended : EndsAt run before after had holds told said fault number left start = record {
+    → Appends said reports (hint_text number start fault) → documents ≡ number → refused ≡ left + 1
+    → IsDoneDump run before after had holds reported reports documents refused
+cut_dump run before after had mid holds reported said reports first last fault number left start documents refused h e f k going is reports_appended same counted =
+    let ended : EndsAt run before after had holds reported said fault number left start = record {
       done = h.done;
       taken = h.taken;
       output = h.output;
@@ -54,9 +54,9 @@ cut_dump run before after had mid holds told said tells first last fault number 
       place = h.place;
       reason = h.reason;
       written = flushed had mid holds first last (h.output ++ h.more) e f h.written k;
-      reported = h.reported;
+      reports_appended = h.reports_appended;
     } in
-    subst (λ (n : ℕ). IsDoneDump run before after had holds told tells n refused) (sym same)
+    subst (λ (n : ℕ). IsDoneDump run before after had holds reported reports n refused) (sym same)
     (inr (record {
       fault = fault;
       left = left;
@@ -65,6 +65,6 @@ cut_dump run before after had mid holds told said tells first last fault number 
       keeps_going = going;
       of_bytes = is;
       ended = ended;
-      reported = reported;
+      reports_appended = reports_appended;
       counted = counted;
     }))

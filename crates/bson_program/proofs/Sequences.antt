@@ -19,7 +19,7 @@ use Rattle.bson_program.specs.Texts.{AcceptedStops, AreWritten, HasLine, IsNotJs
 use Rattle.bson_program.specs.Texts.{TextStops, TextsDone, TextsStop, WritesAccepted, WritesAll, content_of, is_sequence}
 use Rattle.bson_program.specs.Texts.AreWritten.{no_texts, one_more}
 use Rattle.bson_program.specs.Whole.{IsUngiven, WritesOutput}
-use Rattle.bson_program.specs.declared.order.Order.{Order}
+use Rattle.bson_program.specs.declared.invocation.Invocation.{Invocation}
 use Rattle.bson_program.specs.declared.run.Stop.{Stop}
 use Rattle.bson_program.specs.declared.run.Stop.TheVariants as stops
 
@@ -59,18 +59,18 @@ less_than_two content rest has_one none before =
 -- ---- a run over them
 
 -- the outputs of the texts before the rest were written
-pub record Reaches (order : Order) (content rest : List ℕ) (had holds : Option (List ℕ)) : Type 0 where
+pub record Reaches (invocation : Invocation) (content rest : List ℕ) (had holds : Option (List ℕ)) : Type 0 where
   pub done : List (List ℕ)
   pub written : List ℕ
   pub texts : texts_in content ≡ done ++ texts_in rest
-  pub outputs : AreWritten order done written
-  pub utf8 : WritesText order.task → IsUtf8 written
+  pub outputs : AreWritten invocation done written
+  pub utf8 : WritesText invocation.task → IsUtf8 written
   pub kept : Appends had holds written
   pub front : List ℕ
-  pub behind : content ≡ front ++ rest
+  pub following : content ≡ front ++ rest
 
-module _ (order : Order) (content : List ℕ) (had : Option (List ℕ)) where
-  pub starts : Reaches order content content had had
+module _ (invocation : Invocation) (content : List ℕ) (had : Option (List ℕ)) where
+  pub starts : Reaches invocation content content had had
   starts = record {
     done = [];
     written = [];
@@ -79,7 +79,7 @@ module _ (order : Order) (content : List ℕ) (had : Option (List ℕ)) where
     utf8 = λ w. IsUtf8-nil;
     kept = Appends-nil had;
     front = [];
-    behind = refl;
+    following = refl;
   }
 
   -- where the bytes after a text begin
@@ -102,7 +102,7 @@ module _ (order : Order) (content : List ℕ) (had : Option (List ℕ)) where
 
   pub passes : (rest text next : List ℕ) (holds : Option (List ℕ)) → texts_in rest ≡ with_part text (texts_in next)
       → ((rest ≡ text) × (next ≡ [])) ⊎ ((x : ℕ) × (rest ≡ text ++ x ∷ next)) → length text ≡ 0
-      → Reaches order content rest had holds → Reaches order content next had holds
+      → Reaches invocation content rest had holds → Reaches invocation content next had holds
   passes rest text next holds found place none r =
       let a = after rest text next place in
       record {
@@ -113,12 +113,12 @@ module _ (order : Order) (content : List ℕ) (had : Option (List ℕ)) where
         utf8 = r.utf8;
         kept = r.kept;
         front = r.front ++ (text ++ a.between);
-        behind = moved r.front rest text next a r.behind;
+        following = moved r.front rest text next a r.following;
       }
 
   pub goes_on : (rest text next : List ℕ) (held holds : Option (List ℕ)) → texts_in rest ≡ with_part text (texts_in next)
       → ((rest ≡ text) × (next ≡ [])) ⊎ ((x : ℕ) × (rest ≡ text ++ x ∷ next)) → 0 < length text
-      → IsTextDone order text held holds → Reaches order content rest had held → Reaches order content next had holds
+      → IsTextDone invocation text held holds → Reaches invocation content rest had held → Reaches invocation content next had holds
   goes_on rest text next held holds found place some t r =
       let a = after rest text next place in
       record {
@@ -130,14 +130,14 @@ module _ (order : Order) (content : List ℕ) (had : Option (List ℕ)) where
         utf8 = λ w. IsUtf8-append r.written t.output (r.utf8 w) (t.has.utf8 w);
         kept = Appends-trans had held holds r.written t.output r.kept t.written;
         front = r.front ++ (text ++ a.between);
-        behind = moved r.front rest text next a r.behind;
+        following = moved r.front rest text next a r.following;
       }
 
-  pub ends : (rest : List ℕ) (holds : Option (List ℕ)) → length rest ≡ 0 → Reaches order content rest had holds
-      → WritesAll order content had holds
+  pub ends : (rest : List ℕ) (holds : Option (List ℕ)) → length rest ≡ 0 → Reaches invocation content rest had holds
+      → WritesAll invocation content had holds
   ends rest holds none r = record {
     output = r.written;
-    outputs = subst (λ ts. AreWritten order ts r.written)
+    outputs = subst (λ ts. AreWritten invocation ts r.written)
         (sym (r.texts ∙ ap (λ ts. r.done ++ ts) (none_left rest none) ∙ append-nil r.done)) r.outputs;
     utf8 = r.utf8;
     written = r.kept;
@@ -166,14 +166,14 @@ text_there front rest text between next content is splits =
     ∙ ap (take (length text)) splits
     ∙ take_front text (between ++ next)
 
-pub stops_in : (order : Order) (stop : Stop) (name content rest text next : List ℕ) (had held holds : Option (List ℕ))
+pub stops_in : (invocation : Invocation) (stop : Stop) (name content rest text next : List ℕ) (had held holds : Option (List ℕ))
     → texts_in rest ≡ with_part text (texts_in next)
     → ((rest ≡ text) × (next ≡ [])) ⊎ ((x : ℕ) × (rest ≡ text ++ x ∷ next)) → 0 < length text
-    → Reaches order content rest had held
-    → TextStops order stop name content (length content - length rest) text held holds
-    → IsSequence order content → StopsAt order stop name content had holds
-stops_in order stop name content rest text next had held holds found place some r stops sequence =
-    let a = after order content had rest text next place in
+    → Reaches invocation content rest had held
+    → TextStops invocation stop name content (length content - length rest) text held holds
+    → IsSequence invocation content → StopsAt invocation stop name content had holds
+stops_in invocation stop name content rest text next had held holds found place some r stops sequence =
+    let a = after invocation content had rest text next place in
     record {
       text = text;
       start = length content - length rest;
@@ -184,7 +184,7 @@ stops_in order stop name content rest text next had held holds found place some 
         rest = texts_in next;
         sequence = sequence;
         texts = r.texts ∙ ap (λ ts. r.done ++ ts) (found ∙ one_text text (texts_in next) some);
-        begins = text_there r.front rest text a.between next content r.behind a.splits;
+        begins = text_there r.front rest text a.between next content r.following a.splits;
         outputs = r.outputs;
       });
       before = r.kept;
@@ -192,22 +192,22 @@ stops_in order stop name content rest text next had held holds found place some 
     }
 
 -- the text is rejected for the error, with the words for it
-pub text_fails : (order : Order) (fault : Error) (place content text : List ℕ) (start number : ℕ)
-    → IsUngiven order.options order.task fault text → IsWhere text fault place → HasLine fault content start text number
-    → TextFails order fault place number content start text
-text_fails order OutOfMemory place content text start number is lies line = (line, lies)
-text_fails order CannotRead place content text start number is lies line = (is, lies, line)
-text_fails order CannotWrite place content text start number is lies line = (is, lies, line)
-text_fails order NotJson place content text start number is lies line = (is, lies, line)
-text_fails order (NotExtendedJson at) place content text start number is lies line = (is, lies, line)
-text_fails order (NoBytes why) place content text start number is lies line = (is, lies, line)
-text_fails order (NotCanonical column) place content text start number is lies line = (is, lies, line)
+pub text_fails : (invocation : Invocation) (fault : Error) (place content text : List ℕ) (start number : ℕ)
+    → IsUngiven invocation.options invocation.task fault text → IsWhere text fault place → HasLine fault content start text number
+    → TextFails invocation fault place number content start text
+text_fails invocation OutOfMemory place content text start number is lies line = (line, lies)
+text_fails invocation CannotRead place content text start number is lies line = (is, lies, line)
+text_fails invocation CannotWrite place content text start number is lies line = (is, lies, line)
+text_fails invocation NotJson place content text start number is lies line = (is, lies, line)
+text_fails invocation (NotExtendedJson at) place content text start number is lies line = (is, lies, line)
+text_fails invocation (NoBytes why) place content text start number is lies line = (is, lies, line)
+text_fails invocation (NotCanonical column) place content text start number is lies line = (is, lies, line)
 
 -- all bytes are the text at which a run stops
-pub stops_whole : (order : Order) (stop : Stop) (name content : List ℕ) (had holds : Option (List ℕ))
-    → (IsNotJson stop → is_sequence order content ≡ false) → TextStops order stop name content 0 content had holds
-    → StopsAt order stop name content had holds
-stops_whole order stop name content had holds alone stops = record {
+pub stops_whole : (invocation : Invocation) (stop : Stop) (name content : List ℕ) (had holds : Option (List ℕ))
+    → (IsNotJson stop → is_sequence invocation content ≡ false) → TextStops invocation stop name content 0 content had holds
+    → StopsAt invocation stop name content had holds
+stops_whole invocation stop name content had holds alone stops = record {
   text = content;
   start = 0;
   written = [];
@@ -218,37 +218,37 @@ stops_whole order stop name content had holds alone stops = record {
 }
 
 -- what was read has the bytes
-pub content_read : (order : Order) (name content read bytes : List ℕ) → content ≡ content_of order name read → read ≡ bytes
-    → content ≡ content_of order name bytes
-content_read order name content read bytes is same = is ∙ ap (content_of order name) same
+pub content_read : (invocation : Invocation) (name content read bytes : List ℕ) → content ≡ content_of invocation name read → read ≡ bytes
+    → content ≡ content_of invocation name bytes
+content_read invocation name content read bytes is same = is ∙ ap (content_of invocation name) same
 
 -- all was read before it
-pub reads_and_stops : (order : Order) (stop : Stop) (name content bytes : List ℕ) (before after had holds : Option (List ℕ))
-    → ReadsAll before after bytes → content ≡ content_of order name bytes → StopsAt order stop name content had holds
-    → TextsStop order stop name before after had holds
-reads_and_stops order stop name content bytes before after had holds all is at = inr (record {
+pub reads_and_stops : (invocation : Invocation) (stop : Stop) (name content bytes : List ℕ) (before after had holds : Option (List ℕ))
+    → ReadsAll before after bytes → content ≡ content_of invocation name bytes → StopsAt invocation stop name content had holds
+    → TextsStop invocation stop name before after had holds
+reads_and_stops invocation stop name content bytes before after had holds all is at = inr (record {
   bytes = bytes;
   all = all;
-  at = subst (λ c. StopsAt order stop name c had holds) is at;
+  at = subst (λ c. StopsAt invocation stop name c had holds) is at;
 })
 
-module _ (order : Order) (name content : List ℕ) (accepted : Accepted) (had holds : Option (List ℕ))
-    (has : HasOutput order.options (WritesOutput order order.task content) accepted)
-    (utf8 : WritesText order.task → IsUtf8Accepted accepted) where
+module _ (invocation : Invocation) (name content : List ℕ) (accepted : Accepted) (had holds : Option (List ℕ))
+    (has : HasOutput invocation.options (WritesOutput invocation invocation.task content) accepted)
+    (utf8 : WritesText invocation.task → IsUtf8Accepted accepted) where
   pub one_text_done : (before after : Option (List ℕ)) (bytes : List ℕ) → ReadsAll before after bytes
-      → content ≡ content_of order name bytes → WritesAccepted order accepted had holds
-      → TextsDone order name before after had holds
+      → content ≡ content_of invocation name bytes → WritesAccepted invocation accepted had holds
+      → TextsDone invocation name before after had holds
   one_text_done before after bytes all is w = record {
     bytes = bytes;
     output = w.output;
     all = all;
-    gives = inl (subst (λ c. WritesOutput order order.task c w.output) is (has.given w.output w.outputs));
+    gives = inl (subst (λ c. WritesOutput invocation invocation.task c w.output) is (has.given w.output w.outputs));
     utf8 = λ t. w.utf8 (utf8 t);
     written = w.written;
   }
 
-  one_text_stops : (stop : Stop) → AcceptedStops order stop name accepted had holds
-      → TextStops order stop name content 0 content had holds
+  one_text_stops : (stop : Stop) → AcceptedStops invocation stop name accepted had holds
+      → TextStops invocation stop name content 0 content had holds
   one_text_stops (stops.Output it error) h = (
     h.0,
     (
@@ -271,8 +271,8 @@ module _ (order : Order) (name content : List ℕ) (accepted : Accepted) (had ho
   one_text_stops stops.Terminal h = absurd h
   one_text_stops (stops.Document it end) h = absurd h
 
-  no_syntax_error : (stop : Stop) → AcceptedStops order stop name accepted had holds → IsNotJson stop
-      → is_sequence order content ≡ false
+  no_syntax_error : (stop : Stop) → AcceptedStops invocation stop name accepted had holds → IsNotJson stop
+      → is_sequence invocation content ≡ false
   no_syntax_error (stops.Text it number OutOfMemory place) h is = absurd is
   no_syntax_error (stops.Text it number CannotRead place) h is = absurd is
   no_syntax_error (stops.Text it number CannotWrite place) h is = absurd is
@@ -286,9 +286,9 @@ module _ (order : Order) (name content : List ℕ) (accepted : Accepted) (had ho
   no_syntax_error stops.Terminal h is = absurd is
   no_syntax_error (stops.Document it end) h is = absurd is
 
-  pub accepted_stops : (stop : Stop) → AcceptedStops order stop name accepted had holds → StopsAt order stop name content had holds
+  pub accepted_stops : (stop : Stop) → AcceptedStops invocation stop name accepted had holds → StopsAt invocation stop name content had holds
   accepted_stops stop h =
-      stops_whole order stop name content had holds (no_syntax_error stop h) (one_text_stops stop h)
+      stops_whole invocation stop name content had holds (no_syntax_error stop h) (one_text_stops stop h)
 
 -- ---- results
 

@@ -2,13 +2,13 @@
 use Rattle.std.specs.Prelude.{◌≡◌, ◌⊎◌, ◌+◌, ℕ, List, Option, true}
 use Rattle.std.specs.Io.KnownBytes.{Appends}
 use Rattle.bson_codec.specs.Documents.{DoneDocuments, EndsAt, IsOfBytes}
-use Rattle.bson_codec.specs.Told.{told_of}
+use Rattle.bson_codec.specs.Diagnostics.{hint_text}
 use Rattle.bson_codec.specs.declared.documents.Run.{Run}
 use Rattle.bson_codec.specs.declared.run_end.RunFault.{RunFault}
 
 -- the run ended at a document for a fault of its bytes, which was reported behind the other verdicts; so many were rejected,
 -- this one too
-pub record IsCutDump (run : Run) (before after had holds told tells : Option (List ℕ)) (documents refused : ℕ)
+pub record IsCutDump (run : Run) (before after had holds reported reports : Option (List ℕ)) (documents refused : ℕ)
     : Type 0 where
   pub fault : RunFault
   pub left : ℕ
@@ -16,12 +16,12 @@ pub record IsCutDump (run : Run) (before after had holds told tells : Option (Li
   pub said : Option (List ℕ)
   pub keeps_going : run.keep_going ≡ true
   pub of_bytes : IsOfBytes fault
-  pub ended : EndsAt run before after had holds told said fault documents left start
-  pub reported : Appends said tells (told_of documents start fault)
+  pub ended : EndsAt run before after had holds reported said fault documents left start
+  pub reports_appended : Appends said reports (hint_text documents start fault)
   pub counted : refused ≡ left + 1
 
 -- all documents were done; or a run that keeps going ended at one
-abbrev pub IsDoneDump : Run → (before after had holds told tells : Option (List ℕ)) → (documents refused : ℕ) → Type 0
-IsDoneDump run before after had holds told tells documents refused =
-    DoneDocuments run before after had holds told tells documents refused
-    ⊎ IsCutDump run before after had holds told tells documents refused
+abbrev pub IsDoneDump : Run → (before after had holds reported reports : Option (List ℕ)) → (documents refused : ℕ) → Type 0
+IsDoneDump run before after had holds reported reports documents refused =
+    DoneDocuments run before after had holds reported reports documents refused
+    ⊎ IsCutDump run before after had holds reported reports documents refused

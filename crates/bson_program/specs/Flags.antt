@@ -5,13 +5,13 @@ use Rattle.bson_run.specs.declared.order.Criterion.TheVariants as criterion
 use Rattle.bson_run.specs.declared.order.Task.{Task}
 use Rattle.bson_run.specs.declared.order.Task.TheVariants.{Write, Check, Encode}
 use Rattle.bson_program.specs.declared.arguments.Given.{Given}
-use Rattle.bson_program.specs.declared.order.Flag.{Flag}
-use Rattle.bson_program.specs.declared.order.Flag.TheVariants.{SortKeys, Strict, Legacy, NoDoubleKeys, Canonical, Indent, KeepGoing, Jobs}
-use Rattle.bson_program.specs.declared.order.Flag.TheVariants.{Output, Unordered}
-use Rattle.bson_program.specs.declared.order.Input.{Input}
-use Rattle.bson_program.specs.declared.order.Input.TheVariants.{Text, Documents}
-use Rattle.bson_program.specs.declared.order.Purpose.{Purpose}
-use Rattle.bson_program.specs.declared.order.Purpose.TheVariants as purpose
+use Rattle.bson_program.specs.declared.invocation.Flag.{Flag}
+use Rattle.bson_program.specs.declared.invocation.Flag.TheVariants.{SortKeys, Strict, Legacy, NoDoubleKeys, Canonical, Indent, KeepGoing, Jobs}
+use Rattle.bson_program.specs.declared.invocation.Flag.TheVariants.{Output, Unordered}
+use Rattle.bson_program.specs.declared.invocation.Input.{Input}
+use Rattle.bson_program.specs.declared.invocation.Input.TheVariants.{Text, Documents}
+use Rattle.bson_program.specs.declared.invocation.Purpose.{Purpose}
+use Rattle.bson_program.specs.declared.invocation.Purpose.TheVariants as purpose
 
 -- ---- the table of options
 --

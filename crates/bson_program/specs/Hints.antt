@@ -9,20 +9,20 @@ use Rattle.bson_codec.specs.declared.run_end.RunFault.TheVariants as run_fault
 use Rattle.bson_convert.specs.declared.error.Error.{Error}
 use Rattle.bson_convert.specs.declared.error.Error.TheVariants as error
 use Rattle.bson_run.specs.declared.lines.Counts.{Counts}
-use Rattle.bson_run.specs.declared.order.Taking.TheVariants as taking
+use Rattle.bson_run.specs.declared.order.Preprocessing.TheVariants as preprocessing
 use Rattle.bson_run.specs.declared.order.Task.{Task}
 use Rattle.bson_run.specs.declared.order.Task.TheVariants as task
 use Rattle.bson_run.specs.declared.order.Work.TheVariants as work
 use Rattle.bson_program.specs.Messages.{line_len, shown_name}
-use Rattle.bson_program.specs.Order.{mode_word}
+use Rattle.bson_program.specs.Invocation.{mode_word}
 use Rattle.bson_program.specs.declared.hints.Hint.{Hint}
 use Rattle.bson_program.specs.declared.hints.Hint.TheVariants as hint
 use Rattle.bson_program.specs.declared.hints.Rejected.{Rejected}
-use Rattle.bson_program.specs.declared.order.Input.{Input}
-use Rattle.bson_program.specs.declared.order.Input.TheVariants.{Text, Lines, Documents}
-use Rattle.bson_program.specs.declared.order.Order.{Order}
-use Rattle.bson_program.specs.declared.order.Purpose.{Purpose}
-use Rattle.bson_program.specs.declared.order.Purpose.TheVariants as purpose
+use Rattle.bson_program.specs.declared.invocation.Input.{Input}
+use Rattle.bson_program.specs.declared.invocation.Input.TheVariants.{Text, Lines, Documents}
+use Rattle.bson_program.specs.declared.invocation.Invocation.{Invocation}
+use Rattle.bson_program.specs.declared.invocation.Purpose.{Purpose}
+use Rattle.bson_program.specs.declared.invocation.Purpose.TheVariants as purpose
 use Rattle.bson_program.specs.declared.run.Stop.{Stop}
 use Rattle.bson_program.specs.declared.run.Stop.TheVariants as stop
 
@@ -55,8 +55,8 @@ opens_over_lines line = last_opens (find (λ byte. not (is_blank byte)) (reverse
 abbrev pub first_line : List ℕ → List ℕ
 first_line head = take (line_len head) head
 
-abbrev pub behind_line : List ℕ → List ℕ
-behind_line head = drop (line_len head) head
+abbrev pub after_line : List ℕ → List ℕ
+after_line head = drop (line_len head) head
 
 -- a byte is not blank
 abbrev pub has_content : List ℕ → Bool
@@ -131,7 +131,7 @@ hint_of_texts rejected head =
 -- where a text per line is
 abbrev pub hint_of_lines : Rejected → List ℕ → Option Hint
 hint_of_lines rejected head =
-    if opens_over_lines (first_line head) && has_content (behind_line head)
+    if opens_over_lines (first_line head) && has_content (after_line head)
     then Some (if rejected.encodes then hint.LongTextsToEncode else hint.LongTexts)
     else doubles rejected.has_double
 
@@ -156,25 +156,25 @@ hint_of rejected head = or_else (compression_of head) (hint_of_input rejected.in
 -- ---- what is told
 
 -- what reads an input instead: the words are those of the mode and its options
-abbrev pub told_of : Hint → (words : List ℕ) → List ℕ
-told_of hint.Gzip words = codes "is compressed; give it through 'gzip -dc'"
-told_of hint.Zstd words = codes "is compressed; give it through 'zstd -dc'"
-told_of hint.Bzip2 words = codes "is compressed; give it through 'bzip2 -dc'"
-told_of hint.Xz words = codes "is compressed; give it through 'xz -dc'"
-told_of hint.Archive words = codes "is an archive of mongodump; mongodump without '--archive' writes dumps"
-told_of hint.Dump words = codes "holds BSON bytes, and no text; './bson decode' reads them"
-told_of hint.Text words =
+abbrev pub hint_text : Hint → (words : List ℕ) → List ℕ
+hint_text hint.Gzip words = codes "is compressed; give it through 'gzip -dc'"
+hint_text hint.Zstd words = codes "is compressed; give it through 'zstd -dc'"
+hint_text hint.Bzip2 words = codes "is compressed; give it through 'bzip2 -dc'"
+hint_text hint.Xz words = codes "is compressed; give it through 'xz -dc'"
+hint_text hint.Archive words = codes "is an archive of mongodump; mongodump without '--archive' writes dumps"
+hint_text hint.Dump words = codes "holds BSON bytes, and no text; './bson decode' reads them"
+hint_text hint.Text words =
     codes "holds text, and no BSON bytes; './bson lines " ++ words ++ codes "' reads a document per line"
-told_of hint.Utf16 words = codes "is UTF-16, and JSON is UTF-8; give it through 'iconv -f UTF-16 -t UTF-8'"
-told_of hint.Utf16LittleEndian words =
+hint_text hint.Utf16 words = codes "is UTF-16, and JSON is UTF-8; give it through 'iconv -f UTF-16 -t UTF-8'"
+hint_text hint.Utf16LittleEndian words =
     codes "is UTF-16, and JSON is UTF-8; give it through 'iconv -f UTF-16LE -t UTF-8'"
-told_of hint.Utf16BigEndian words = codes "is UTF-16, and JSON is UTF-8; give it through 'iconv -f UTF-16BE -t UTF-8'"
-told_of hint.Mark words = codes "begins with a byte order mark, which only a named file may"
-told_of hint.SeveralTexts words = codes "has several texts, which are read without --strict"
-told_of hint.LongTexts words = codes "has texts over several lines; './bson " ++ words ++ codes "' reads them"
-told_of hint.LongTextsToEncode words =
+hint_text hint.Utf16BigEndian words = codes "is UTF-16, and JSON is UTF-8; give it through 'iconv -f UTF-16BE -t UTF-8'"
+hint_text hint.Mark words = codes "begins with a byte order mark, which only a named file may"
+hint_text hint.SeveralTexts words = codes "has several texts, which are read without --strict"
+hint_text hint.LongTexts words = codes "has texts over several lines; './bson " ++ words ++ codes "' reads them"
+hint_text hint.LongTextsToEncode words =
     codes "has texts over several lines; './bson " ++ words ++ codes "' makes a line of each"
-told_of hint.Doubles words = codes "has numbers that are read without --strict"
+hint_text hint.Doubles words = codes "has numbers that are read without --strict"
 
 -- the mode of a command that reads the input; lines that become bytes are texts for `canonical`
 abbrev pub reading_mode : Input → Purpose → Task → List ℕ
@@ -186,36 +186,36 @@ reading_mode input purpose task = mode_word purpose task
 abbrev pub sorts_keys : Purpose → Doubles → Task → Bool
 sorts_keys purpose.Output Finite (task.Write mode) = true
 sorts_keys purpose.Output Finite task.Encode = true
-sorts_keys purpose.Output Finite (task.Taken taking (work.Write mode)) = true
+sorts_keys purpose.Output Finite (task.Preprocessed preprocessing (work.Write mode)) = true
 sorts_keys purpose doubles task = false
 
 abbrev pub is_strict : Doubles → Bool
 is_strict Special = true
 is_strict Finite = false
 
-abbrev pub taking_options : Task → List ℕ
-taking_options (task.Taken taking.Legacy work) = codes " --legacy"
-taking_options (task.Taken taking.Distinct work) = codes " --no-double-keys"
-taking_options (task.Taken taking.DistinctLegacy work) = codes " --legacy --no-double-keys"
-taking_options task = []
+abbrev pub preprocessing_options : Task → List ℕ
+preprocessing_options (task.Preprocessed preprocessing.Legacy work) = codes " --legacy"
+preprocessing_options (task.Preprocessed preprocessing.Distinct work) = codes " --no-double-keys"
+preprocessing_options (task.Preprocessed preprocessing.DistinctLegacy work) = codes " --legacy --no-double-keys"
+preprocessing_options task = []
 
 abbrev pub option_if : Bool → (option : List ℕ) → List ℕ
 option_if is_given option = if is_given then option else []
 
 -- the mode and the options of a command that reads the input
-abbrev pub reading_words : Order → List ℕ
-reading_words order = reading_mode order.input order.purpose order.task
-    ++ option_if (sorts_keys order.purpose order.options.doubles order.task) (codes " --sort-keys")
-    ++ option_if (is_strict order.options.doubles) (codes " --strict") ++ taking_options order.task
+abbrev pub reading_words : Invocation → List ℕ
+reading_words invocation = reading_mode invocation.input invocation.purpose invocation.task
+    ++ option_if (sorts_keys invocation.purpose invocation.options.doubles invocation.task) (codes " --sort-keys")
+    ++ option_if (is_strict invocation.options.doubles) (codes " --strict") ++ preprocessing_options invocation.task
 
 -- the line on standard error
 abbrev pub hint_line : (name : List ℕ) → Hint → (words : List ℕ) → List ℕ
-hint_line name it words = codes "bson: " ++ shown_name name (codes "input") ++ codes " " ++ told_of it words
+hint_line name it words = codes "bson: " ++ shown_name name (codes "input") ++ codes " " ++ hint_text it words
 
 -- the line helps with an input whose first bytes these are
-abbrev pub IsHelpFor : Order → (name head line : List ℕ) → Type 0
-IsHelpFor order name head line = (rejected : Rejected) × (it : Hint) × (rejected.input ≡ order.input)
-    × (hint_of rejected head ≡ Some it) × (line ≡ hint_line name it (reading_words order))
+abbrev pub IsHelpFor : Invocation → (name head line : List ℕ) → Type 0
+IsHelpFor invocation name head line = (rejected : Rejected) × (it : Hint) × (rejected.input ≡ invocation.input)
+    × (hint_of rejected head ≡ Some it) × (line ≡ hint_line name it (reading_words invocation))
 
 -- ---- how a run ended
 

@@ -1,7 +1,7 @@
 pub mod Messages
 pub mod Misuses
 pub mod Flags
-pub mod Order
+pub mod Invocation
 pub mod Stops
 pub mod Dump
 pub mod Whole

@@ -7,26 +7,26 @@ use Rattle.std.specs.Fmt.{decimal}
 use Rattle.std.specs.List.{flat_map, starts_with}
 use Rattle.std.specs.Str.{chars, encode_utf8_all, trim_end}
 use Rattle.std.specs.declared.io.Error.{Error}
-use Rattle.bson_codec.specs.Told.{told_of}
-use Rattle.bson_codec.specs.Told as documents
+use Rattle.bson_codec.specs.Diagnostics.{hint_text}
+use Rattle.bson_codec.specs.Diagnostics as documents
 use Rattle.bson_codec.specs.declared.run_end.RunEnd.{RunEnd}
 use Rattle.bson_codec.specs.declared.run_end.RunFault.{RunFault}
 use Rattle.bson_codec.specs.declared.run_end.RunFault.TheVariants as run_fault
 use Rattle.bson_run.specs.Lines.{onto_first}
 use Rattle.bson_convert.specs.Words.{words_of}
 use Rattle.bson_convert.specs.declared.error.Error as conversion
-use Rattle.bson_program.specs.declared.order.Input as order
-use Rattle.bson_program.specs.declared.order.Input.TheVariants.{Documents}
+use Rattle.bson_program.specs.declared.invocation.Input as invocation
+use Rattle.bson_program.specs.declared.invocation.Input.TheVariants.{Documents}
 use Rattle.bson_program.specs.declared.run.Stop.{Stop}
 use Rattle.bson_program.specs.declared.run.Stop.TheVariants as stop
 
 -- ---- how many there were
 
-abbrev pub input_kind : order.Input → List ℕ
+abbrev pub input_kind : invocation.Input → List ℕ
 input_kind Documents = codes "documents"
 input_kind input = codes "lines"
 
-abbrev pub summary_of : order.Input → (all refused : ℕ) → List ℕ
+abbrev pub summary_of : invocation.Input → (all refused : ℕ) → List ℕ
 summary_of input all refused =
     codes "bson: " ++ decimal all ++ codes " " ++ input_kind input ++ codes ", " ++ decimal refused ++ codes " refused"
 
@@ -79,10 +79,10 @@ text_message name number fault place = text_head name number ++ codes ": " ++ wo
 abbrev pub document_words : ℕ → ℕ → RunFault → List ℕ
 document_words number start run_fault.CannotRead = documents.run_fault_message run_fault.CannotRead
 document_words number start run_fault.CannotWrite = documents.run_fault_message run_fault.CannotWrite
-document_words number start fault = told_of number start fault
+document_words number start fault = hint_text number start fault
 
-abbrev pub told_of_document : List ℕ → RunEnd → List ℕ
-told_of_document name end = head_of name ++ codes ": " ++ trim_end (document_words end.number end.start end.fault)
+abbrev pub document_message : List ℕ → RunEnd → List ℕ
+document_message name end = head_of name ++ codes ": " ++ trim_end (document_words end.number end.start end.fault)
 
 -- a file can't be read or written
 abbrev pub IsUnusable : (verb name stream : List ℕ) → Option Error → List ℕ → Type 0
@@ -98,7 +98,7 @@ IsLineFor (stop.Both name) line =
 IsLineFor stop.Terminal line =
     line ≡ codes "bson: BSON bytes are not written to a terminal; give -o FILE, or a pipe"
 IsLineFor (stop.Text name number fault place) line = line ≡ text_message name.now number fault (string_bytes place)
-IsLineFor (stop.Document name end) line = line ≡ told_of_document name.now end
+IsLineFor (stop.Document name end) line = line ≡ document_message name.now end
 
 -- ---- verdicts
 

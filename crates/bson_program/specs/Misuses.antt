@@ -5,14 +5,14 @@ use Rattle.bson_run.specs.declared.order.Task.{Task}
 use Rattle.bson_run.specs.declared.order.Task.TheVariants.{Check}
 use Rattle.bson_program.specs.Flags.{flag_name}
 use Rattle.bson_program.specs.Messages.{escaped_name}
-use Rattle.bson_program.specs.Order.{mode_word}
-use Rattle.bson_program.specs.declared.order.Command.{Command}
-use Rattle.bson_program.specs.declared.order.Command.TheVariants as command
-use Rattle.bson_program.specs.declared.order.Flag.{Flag}
-use Rattle.bson_program.specs.declared.order.Flag.TheVariants as flag
-use Rattle.bson_program.specs.declared.order.Misuse.{Misuse}
-use Rattle.bson_program.specs.declared.order.Misuse.TheVariants as misuse
-use Rattle.bson_program.specs.declared.order.Purpose.{Purpose}
+use Rattle.bson_program.specs.Invocation.{mode_word}
+use Rattle.bson_program.specs.declared.invocation.Command.{Command}
+use Rattle.bson_program.specs.declared.invocation.Command.TheVariants as command
+use Rattle.bson_program.specs.declared.invocation.Flag.{Flag}
+use Rattle.bson_program.specs.declared.invocation.Flag.TheVariants as flag
+use Rattle.bson_program.specs.declared.invocation.Misuse.{Misuse}
+use Rattle.bson_program.specs.declared.invocation.Misuse.TheVariants as misuse
+use Rattle.bson_program.specs.declared.invocation.Purpose.{Purpose}
 
 -- the words behind which a command's options and its help are
 abbrev pub command_name : Command → List ℕ

@@ -10,9 +10,9 @@ use Rattle.bson_convert.specs.declared.mode.Mode.TheVariants.{Show}
 use Rattle.bson_run.specs.declared.order.Task.{Task}
 use Rattle.bson_run.specs.declared.order.Task.TheVariants as task
 use Rattle.bson_program.specs.Messages.{all_under, head_of, is_standard}
-use Rattle.bson_program.specs.declared.order.Input as order
-use Rattle.bson_program.specs.declared.order.Input.TheVariants.{Documents}
-use Rattle.bson_program.specs.declared.order.Order.{Order}
+use Rattle.bson_program.specs.declared.invocation.Input as invocation
+use Rattle.bson_program.specs.declared.invocation.Input.TheVariants.{Documents}
+use Rattle.bson_program.specs.declared.invocation.Invocation.{Invocation}
 use Rattle.bson_program.specs.declared.output.Part.{Part}
 use Rattle.bson_program.specs.declared.run.Stop.{Stop}
 use Rattle.bson_program.specs.declared.run.Stop.TheVariants.{Input, Output}
@@ -25,20 +25,20 @@ IsUnread name stop = ⊥
 -- ---- writers
 
 -- the writer that failed: that of verdicts, where the cause of its failure is kept, or else the output
-abbrev pub IsUnwritten : Order → (told written : Option Error) → Stop → Type 0
-IsUnwritten order told written (Output name error) = MatchOption told
-    ((name.now ≡ string_bytes order.output) × (error ≡ written)) (λ cause. (name.now ≡ codes "-") × (error ≡ Some cause))
-IsUnwritten order told written stop = ⊥
+abbrev pub IsUnwritten : Invocation → (reported written : Option Error) → Stop → Type 0
+IsUnwritten invocation reported written (Output name error) = MatchOption reported
+    ((name.now ≡ string_bytes invocation.output) × (error ≡ written)) (λ cause. (name.now ≡ codes "-") × (error ≡ Some cause))
+IsUnwritten invocation reported written stop = ⊥
 
 -- what stands before verdicts: the name of their file, or for documents of standard input that of the program
-abbrev pub IsTitle : order.Input → (name : List ℕ) → Option (String Global) → Type 0
+abbrev pub IsTitle : invocation.Input → (name : List ℕ) → Option (String Global) → Type 0
 IsTitle input name None = (is_standard name ≡ true) × (input ≢ Documents)
 IsTitle input name (Some title) = (string_bytes title ≡ head_of name) × (is_standard name ≡ true → input ≡ Documents)
 
 -- verdicts as they are told of a file of this name
-abbrev pub told_under : Option (String Global) → (verdicts : List ℕ) → List ℕ
-told_under None verdicts = verdicts
-told_under (Some name) verdicts = all_under (string_bytes name) verdicts
+abbrev pub reported_under : Option (String Global) → (verdicts : List ℕ) → List ℕ
+reported_under None verdicts = verdicts
+reported_under (Some name) verdicts = all_under (string_bytes name) verdicts
 
 -- ---- documents
 
@@ -52,7 +52,7 @@ IsDocumentLine (task.WriteInOrder mode) line.Shown = mode ≡ Show
 IsDocumentLine (task.Check criterion) line.Nothing = Unit {0}
 IsDocumentLine task.Encode line.Nothing = Unit {0}
 IsDocumentLine task.EncodeInOrder line.Nothing = Unit {0}
-IsDocumentLine (task.Taken taking work) line.Nothing = Unit {0}
+IsDocumentLine (task.Preprocessed preprocessing work) line.Nothing = Unit {0}
 IsDocumentLine other line = ⊥
 
 -- ---- files

@@ -18,7 +18,7 @@ use Rattle.bson_run.specs.declared.order.Task.{Task}
 use Rattle.bson_run.specs.declared.order.Task.TheVariants.{Check}
 use Rattle.bson_program.specs.Messages.{is_standard}
 use Rattle.bson_program.specs.Whole.{IsUngiven, WritesOutput}
-use Rattle.bson_program.specs.declared.order.Order.{Order}
+use Rattle.bson_program.specs.declared.invocation.Invocation.{Invocation}
 use Rattle.bson_program.specs.declared.run.Stop.{Stop}
 use Rattle.bson_program.specs.declared.run.Stop.TheVariants.{Input, Output, Text}
 
@@ -29,15 +29,15 @@ abbrev pub mark_for : Task → List ℕ
 mark_for (Check criterion.Canonical) = []
 mark_for task = 239 ∷ 187 ∷ 191 ∷ []
 
-abbrev pub mark_of : Order → (name : List ℕ) → List ℕ
-mark_of order name = if is_standard name then [] else mark_for order.task
+abbrev pub mark_of : Invocation → (name : List ℕ) → List ℕ
+mark_of invocation name = if is_standard name then [] else mark_for invocation.task
 
 abbrev pub after_mark : (mark bytes : List ℕ) → List ℕ
 after_mark mark bytes = if starts_with nat_eq bytes mark then drop (length mark) bytes else bytes
 
 -- the bytes after the mark
-abbrev pub content_of : Order → (name bytes : List ℕ) → List ℕ
-content_of order name bytes = after_mark (mark_of order name) bytes
+abbrev pub content_of : Invocation → (name bytes : List ℕ) → List ℕ
+content_of invocation name bytes = after_mark (mark_of invocation name) bytes
 
 -- ---- what they give
 
@@ -48,25 +48,25 @@ reads_several Finite (Check criterion.Canonical) = false
 reads_several Finite task = true
 
 -- they are two texts or more, and several are read
-abbrev pub is_sequence : Order → (content : List ℕ) → Bool
-is_sequence order content =
-    if reads_several order.options.doubles order.task then nat_lt 1 (length (texts_in content)) else false
+abbrev pub is_sequence : Invocation → (content : List ℕ) → Bool
+is_sequence invocation content =
+    if reads_several invocation.options.doubles invocation.task then nat_lt 1 (length (texts_in content)) else false
 
 -- they are read as a sequence: they are not one JSON text
-pub record IsSequence (order : Order) (content : List ℕ) : Type 0 where
-  pub not_one : IsUngiven order.options order.task NotJson content
-  pub several : is_sequence order content ≡ true
+pub record IsSequence (invocation : Invocation) (content : List ℕ) : Type 0 where
+  pub not_one : IsUngiven invocation.options invocation.task NotJson content
+  pub several : is_sequence invocation content ≡ true
 
 -- the outputs of texts, one after the other
-pub data AreWritten (order : Order) : (texts : List (List ℕ)) → (output : List ℕ) → Type 0 where
-  no_texts : AreWritten order [] []
-  one_more : {texts : List (List ℕ)} {written : List ℕ} (text output : List ℕ) → AreWritten order texts written
-      → WritesOutput order order.task text output → AreWritten order (texts ++ text ∷ []) (written ++ output)
+pub data AreWritten (invocation : Invocation) : (texts : List (List ℕ)) → (output : List ℕ) → Type 0 where
+  no_texts : AreWritten invocation [] []
+  one_more : {texts : List (List ℕ)} {written : List ℕ} (text output : List ℕ) → AreWritten invocation texts written
+      → WritesOutput invocation invocation.task text output → AreWritten invocation (texts ++ text ∷ []) (written ++ output)
 
 -- the output of the one text, or those of the sequence
-abbrev pub GivesTexts : Order → (content output : List ℕ) → Type 0
-GivesTexts order content output =
-    WritesOutput order order.task content output ⊎ (IsSequence order content × AreWritten order (texts_in content) output)
+abbrev pub GivesTexts : Invocation → (content output : List ℕ) → Type 0
+GivesTexts invocation content output =
+    WritesOutput invocation invocation.task content output ⊎ (IsSequence invocation content × AreWritten invocation (texts_in content) output)
 
 -- ---- a run
 --
@@ -74,18 +74,18 @@ GivesTexts order content output =
 -- None if that is not known.
 
 -- all was read, and what the bytes give was written
-pub record TextsDone (order : Order) (name : List ℕ) (before after had holds : Option (List ℕ)) : Type 0 where
+pub record TextsDone (invocation : Invocation) (name : List ℕ) (before after had holds : Option (List ℕ)) : Type 0 where
   pub bytes : List ℕ
   pub output : List ℕ
   pub all : ReadsAll before after bytes
-  pub gives : GivesTexts order (content_of order name bytes) output
-  pub utf8 : WritesText order.task → IsUtf8 output
+  pub gives : GivesTexts invocation (content_of invocation name bytes) output
+  pub utf8 : WritesText invocation.task → IsUtf8 output
   pub written : Appends had holds output
 
 -- the text has this output
-pub record HasOneOutput (order : Order) (text output : List ℕ) : Type 0 where
-  pub gives : WritesOutput order order.task text output
-  pub utf8 : WritesText order.task → IsUtf8 output
+pub record HasOneOutput (invocation : Invocation) (text output : List ℕ) : Type 0 where
+  pub gives : WritesOutput invocation invocation.task text output
+  pub utf8 : WritesText invocation.task → IsUtf8 output
 
 -- the line on which a text of a sequence begins, and none for a text that is all bytes
 abbrev pub begin_line : (content : List ℕ) → (start : ℕ) → (text : List ℕ) → ℕ
@@ -100,54 +100,54 @@ HasLine OutOfMemory content start text number = number ≡ 0
 HasLine fault content start text number = number ≡ begin_line content start text
 
 -- the text was rejected, and nothing of it was written; the words say where its error is
-abbrev pub TextFails : Order → Error → (place : List ℕ) → (number : ℕ) → (content : List ℕ) → (start : ℕ) → (text : List ℕ) → Type 0
-TextFails order OutOfMemory place number content start text = (number ≡ 0) × (place ≡ [])
-TextFails order fault place number content start text = IsUngiven order.options order.task fault text × IsWhere text fault place
+abbrev pub TextFails : Invocation → Error → (place : List ℕ) → (number : ℕ) → (content : List ℕ) → (start : ℕ) → (text : List ℕ) → Type 0
+TextFails invocation OutOfMemory place number content start text = (number ≡ 0) × (place ≡ [])
+TextFails invocation fault place number content start text = IsUngiven invocation.options invocation.task fault text × IsWhere text fault place
     × HasLine fault content start text number
 
 -- what each stop at a text says of it
-abbrev pub TextStops : Order → Stop → (name content : List ℕ) → (start : ℕ) → (text : List ℕ) → (had holds : Option (List ℕ)) → Type 0
-TextStops order (Output it error) name content start text had holds =
-    (it.now ≡ string_bytes order.output) × ((output : List ℕ) × HasOneOutput order text output)
-TextStops order (Text it number fault place) name content start text had holds =
-    (it.now ≡ name) × TextFails order fault (string_bytes place) number content start text × Keeps had holds
-TextStops order other name content start text had holds = ⊥
+abbrev pub TextStops : Invocation → Stop → (name content : List ℕ) → (start : ℕ) → (text : List ℕ) → (had holds : Option (List ℕ)) → Type 0
+TextStops invocation (Output it error) name content start text had holds =
+    (it.now ≡ string_bytes invocation.output) × ((output : List ℕ) × HasOneOutput invocation text output)
+TextStops invocation (Text it number fault place) name content start text had holds =
+    (it.now ≡ name) × TextFails invocation fault (string_bytes place) number content start text × Keeps had holds
+TextStops invocation other name content start text had holds = ⊥
 
 abbrev pub IsNotJson : Stop → Type 0
 IsNotJson (Text it number NotJson place) = Unit {0}
 IsNotJson other = ⊥
 
 -- all bytes are the text; if they are not JSON, they are not a sequence either
-pub record IsOnlyText (order : Order) (stop : Stop) (content text written : List ℕ) (start : ℕ) : Type 0 where
+pub record IsOnlyText (invocation : Invocation) (stop : Stop) (content text written : List ℕ) (start : ℕ) : Type 0 where
   pub whole : text ≡ content
   pub first : start ≡ 0
   pub nothing : written ≡ []
-  pub alone : IsNotJson stop → is_sequence order content ≡ false
+  pub alone : IsNotJson stop → is_sequence invocation content ≡ false
 
 -- the text is one of a sequence, and the outputs of those before it were written
-pub record IsInSequence (order : Order) (content text written : List ℕ) (start : ℕ) : Type 0 where
+pub record IsInSequence (invocation : Invocation) (content text written : List ℕ) (start : ℕ) : Type 0 where
   pub done : List (List ℕ)
   pub rest : List (List ℕ)
-  pub sequence : IsSequence order content
+  pub sequence : IsSequence invocation content
   pub texts : texts_in content ≡ done ++ text ∷ rest
   pub begins : take (length text) (drop start content) ≡ text
-  pub outputs : AreWritten order done written
+  pub outputs : AreWritten invocation done written
 
 -- the text at which a run stops, and what was written before it
-pub record StopsAt (order : Order) (stop : Stop) (name content : List ℕ) (had holds : Option (List ℕ)) : Type 0 where
+pub record StopsAt (invocation : Invocation) (stop : Stop) (name content : List ℕ) (had holds : Option (List ℕ)) : Type 0 where
   pub text : List ℕ
   pub start : ℕ
   pub written : List ℕ
   pub held : Option (List ℕ)
-  pub is : IsOnlyText order stop content text written start ⊎ IsInSequence order content text written start
+  pub is : IsOnlyText invocation stop content text written start ⊎ IsInSequence invocation content text written start
   pub before : Appends had held written
-  pub stops : TextStops order stop name content start text held holds
+  pub stops : TextStops invocation stop name content start text held holds
 
 -- all was read before the run stopped
-pub record ReadsAndStops (order : Order) (stop : Stop) (name : List ℕ) (before after had holds : Option (List ℕ)) : Type 0 where
+pub record ReadsAndStops (invocation : Invocation) (stop : Stop) (name : List ℕ) (before after had holds : Option (List ℕ)) : Type 0 where
   pub bytes : List ℕ
   pub all : ReadsAll before after bytes
-  pub at : StopsAt order stop name (content_of order name bytes) had holds
+  pub at : StopsAt invocation stop name (content_of invocation name bytes) had holds
 
 -- the bytes could not be read, for a reader that failed or for lack of memory
 abbrev pub CannotReadAll : Stop → (name : List ℕ) → (had holds : Option (List ℕ)) → Type 0
@@ -156,36 +156,36 @@ CannotReadAll (Text it number OutOfMemory place) name had holds =
     (it.now ≡ name) × (number ≡ 0) × (string_bytes place ≡ []) × Keeps had holds
 CannotReadAll other name had holds = ⊥
 
-abbrev pub TextsStop : Order → Stop → (name : List ℕ) → (before after had holds : Option (List ℕ)) → Type 0
-TextsStop order stop name before after had holds =
-    CannotReadAll stop name had holds ⊎ ReadsAndStops order stop name before after had holds
+abbrev pub TextsStop : Invocation → Stop → (name : List ℕ) → (before after had holds : Option (List ℕ)) → Type 0
+TextsStop invocation stop name before after had holds =
+    CannotReadAll stop name had holds ⊎ ReadsAndStops invocation stop name before after had holds
 
 -- ---- for private clauses
 
 -- what was accepted has an output, which was not written whole; or memory is lacking
-abbrev pub AcceptedStops : Order → Stop → (name : List ℕ) → Accepted → (had holds : Option (List ℕ)) → Type 0
-AcceptedStops order (Output it error) name accepted had holds = (it.now ≡ string_bytes order.output)
-    × ((output : List ℕ) × Outputs order.options accepted output × (IsUtf8Accepted accepted → IsUtf8 output))
-AcceptedStops order (Text it number OutOfMemory place) name accepted had holds =
+abbrev pub AcceptedStops : Invocation → Stop → (name : List ℕ) → Accepted → (had holds : Option (List ℕ)) → Type 0
+AcceptedStops invocation (Output it error) name accepted had holds = (it.now ≡ string_bytes invocation.output)
+    × ((output : List ℕ) × Outputs invocation.options accepted output × (IsUtf8Accepted accepted → IsUtf8 output))
+AcceptedStops invocation (Text it number OutOfMemory place) name accepted had holds =
     (it.now ≡ name) × (number ≡ 0) × (string_bytes place ≡ []) × Keeps had holds
-AcceptedStops order other name accepted had holds = ⊥
+AcceptedStops invocation other name accepted had holds = ⊥
 
 -- what was accepted was written
-pub record WritesAccepted (order : Order) (accepted : Accepted) (had holds : Option (List ℕ)) : Type 0 where
+pub record WritesAccepted (invocation : Invocation) (accepted : Accepted) (had holds : Option (List ℕ)) : Type 0 where
   pub output : List ℕ
-  pub outputs : Outputs order.options accepted output
+  pub outputs : Outputs invocation.options accepted output
   pub utf8 : IsUtf8Accepted accepted → IsUtf8 output
   pub written : Appends had holds output
 
 -- the outputs of all texts were written
-pub record WritesAll (order : Order) (content : List ℕ) (had holds : Option (List ℕ)) : Type 0 where
+pub record WritesAll (invocation : Invocation) (content : List ℕ) (had holds : Option (List ℕ)) : Type 0 where
   pub output : List ℕ
-  pub outputs : AreWritten order (texts_in content) output
-  pub utf8 : WritesText order.task → IsUtf8 output
+  pub outputs : AreWritten invocation (texts_in content) output
+  pub utf8 : WritesText invocation.task → IsUtf8 output
   pub written : Appends had holds output
 
 -- the output of a text was written
-pub record IsTextDone (order : Order) (text : List ℕ) (had holds : Option (List ℕ)) : Type 0 where
+pub record IsTextDone (invocation : Invocation) (text : List ℕ) (had holds : Option (List ℕ)) : Type 0 where
   pub output : List ℕ
-  pub has : HasOneOutput order text output
+  pub has : HasOneOutput invocation text output
   pub written : Appends had holds output

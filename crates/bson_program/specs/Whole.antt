@@ -7,7 +7,7 @@ use Rattle.bson_run.specs.Encode.{EncodesIn, EncodesInOrder, IsUnencodedIn, IsUn
 use Rattle.bson_run.specs.InOrder.{ConvertsInOrder}
 use Rattle.bson_run.specs.Lines.{ChecksIn}
 use Rattle.bson_run.specs.Indent.{mode_of, ConvertsIndented, ConvertsInOrderIndented}
-use Rattle.bson_run.specs.Taken.{IsTakenAs, IsUntaken}
+use Rattle.bson_run.specs.Preprocessed.{IsPreprocessedAs, IsNotPreprocessed}
 use Rattle.bson_convert.specs.declared.error.Error.{Error}
 use Rattle.bson_convert.specs.declared.mode.Mode.{Mode}
 use Rattle.bson_convert.specs.declared.mode.Mode.TheVariants.{Show}
@@ -16,10 +16,10 @@ use Rattle.bson_run.specs.declared.order.Criterion.TheVariants as criterion
 use Rattle.bson_run.specs.declared.order.Criterion.TheVariants.{Valid}
 use Rattle.bson_run.specs.declared.order.Task.{Task}
 use Rattle.bson_run.specs.declared.order.Task.TheVariants.{Write, WriteInOrder, Check, Encode, EncodeInOrder}
-use Rattle.bson_run.specs.declared.order.Task.TheVariants.{Taken}
+use Rattle.bson_run.specs.declared.order.Task.TheVariants.{Preprocessed}
 use Rattle.bson_run.specs.declared.order.Work.{Work}
 use Rattle.bson_run.specs.declared.order.Work.TheVariants as work
-use Rattle.bson_program.specs.declared.order.Order.{Order}
+use Rattle.bson_program.specs.declared.invocation.Invocation.{Invocation}
 
 -- ---- what a text gives
 
@@ -55,26 +55,26 @@ IsUnchecked o Valid fault text = IsRefusedIn o fault text
 IsUnchecked o criterion.Canonical fault text = IsUncanonicalIn o fault (without_newline text)
 
 -- what is written of a text that was taken
-abbrev pub Works : Order → Work → (text output : List ℕ) → Type 0
-Works order (work.Write mode) text output = WritesIndented order.options order.indent mode text output
-Works order (work.WriteInOrder mode) text output = WritesIndentedInOrder order.options order.indent mode text output
-Works order work.Check text output = Checks order.options Valid text output
+abbrev pub Works : Invocation → Work → (text output : List ℕ) → Type 0
+Works invocation (work.Write mode) text output = WritesIndented invocation.options invocation.indent mode text output
+Works invocation (work.WriteInOrder mode) text output = WritesIndentedInOrder invocation.options invocation.indent mode text output
+Works invocation work.Check text output = Checks invocation.options Valid text output
 
 -- what is written of a text
-abbrev pub WritesOutput : Order → Task → (text output : List ℕ) → Type 0
-WritesOutput order (Write mode) text output = WritesIndented order.options order.indent mode text output
-WritesOutput order (WriteInOrder mode) text output = WritesIndentedInOrder order.options order.indent mode text output
-WritesOutput order (Check criterion) text output = Checks order.options criterion text output
-WritesOutput order Encode text output = EncodesIn order.options text output
-WritesOutput order EncodeInOrder text output = EncodesInOrder order.options text output
-WritesOutput order (Taken taking work) text output =
-    (taken : List ℕ) × IsTakenAs taking text taken × Works order work taken output
+abbrev pub WritesOutput : Invocation → Task → (text output : List ℕ) → Type 0
+WritesOutput invocation (Write mode) text output = WritesIndented invocation.options invocation.indent mode text output
+WritesOutput invocation (WriteInOrder mode) text output = WritesIndentedInOrder invocation.options invocation.indent mode text output
+WritesOutput invocation (Check criterion) text output = Checks invocation.options criterion text output
+WritesOutput invocation Encode text output = EncodesIn invocation.options text output
+WritesOutput invocation EncodeInOrder text output = EncodesInOrder invocation.options text output
+WritesOutput invocation (Preprocessed preprocessing work) text output =
+    (preprocessed : List ℕ) × IsPreprocessedAs preprocessing text preprocessed × Works invocation work preprocessed output
 
 -- why nothing is: the text is refused, or what is read in its place
 abbrev pub IsUngiven : Options → Task → Error → List ℕ → Type 0
 IsUngiven o (Check criterion) fault text = IsUnchecked o criterion fault text
 IsUngiven o Encode fault text = IsUnencodedIn o fault text
 IsUngiven o EncodeInOrder fault text = IsUnencodedInOrder o fault text
-IsUngiven o (Taken taking work) fault text =
-    IsUntaken taking fault text ⊎ ((taken : List ℕ) × IsTakenAs taking text taken × IsRefusedIn o fault taken)
+IsUngiven o (Preprocessed preprocessing work) fault text =
+    IsNotPreprocessed preprocessing fault text ⊎ ((preprocessed : List ℕ) × IsPreprocessedAs preprocessing text preprocessed × IsRefusedIn o fault preprocessed)
 IsUngiven o task fault text = IsRefusedIn o fault text

@@ -1,15 +1,15 @@
 //! What the words after the program's name give, one after the other.
 ghost use Rattle.std.specs.Prelude.{◌≡◌, ◌⊎◌, None, OnOk, IfOk, IfSome, string_bytes, if◌then◌else◌, vec_len};
 ghost use Rattle.bson_program.specs.Flags.{has_flag};
-ghost use Rattle.bson_program.specs.Order.{command_of, input_of, is_text, IsNamed};
-ghost use Rattle.bson_program.specs.Order.{IsAnswer, IsAskedWrong, IsInitial, IsValueInWord, IsNumbered, IsStored, IsTaken, Sets, AcceptsWord};
+ghost use Rattle.bson_program.specs.Invocation.{command_of, input_of, is_text, IsNamed};
+ghost use Rattle.bson_program.specs.Invocation.{IsAnswer, IsWrongRequest, IsInitial, IsValueInWord, IsNumbered, IsStored, IsParsed, Sets, AcceptsWord};
 ghost use Rattle.bson_run.specs.Words.{task_name};
 
 use crate::choices::{
-    awaited, first_taken, in_order, is_sorted, judged, options_of, set, taking_of,
+    awaited, first_preprocessed, in_order, is_sorted, judged, options_of, set, requested_preprocessing,
 };
 use crate::fits::misfit;
-use crate::order::{Asked, Command, Flag, Input, Misuse, Order, Purpose, STANDARD, Wrong};
+use crate::invocation::{Request, Command, Flag, Input, Misuse, Invocation, Purpose, STANDARD, Wrong};
 use crate::values::{inputs_of, is_dashed, number, output_in};
 use bson_convert::mode::Mode;
 use bson_run::order::{OnRefusal, Task};
@@ -58,7 +58,7 @@ pub enum Next {
 
 /// What a word is.
 #[derive(Clone, Copy, PartialEq, Eq)]
-pub enum Taken {
+pub enum Parsed {
     /// One that is accepted.
     Word,
     Help,
@@ -125,10 +125,10 @@ impl Given {
     }
 
     /// Accepts the next word, or says why not.
-    pub fn take(&mut self, word: &str) -> Result<Taken, AllocError>
+    pub fn take(&mut self, word: &str) -> Result<Parsed, AllocError>
         ensures given { AcceptsWord word.now self.old self.new }
         ensures verb { IfSome self.new.task (λ verb. ((self.old.task ≡ Some verb) × (self.new.purpose ≡ self.old.purpose)) ⊎ IsNamed word.now self.new.purpose verb) }
-        ensures taken { IfOk result (IsTaken self.old word.now) }
+        ensures parsed { IfOk result (IsParsed self.old word.now) }
     {
         match self.next {
             Next::Any => self.take_any(word),
@@ -149,14 +149,14 @@ impl Given {
     }
 
     // Accepts a word that no option waits for.
-    fn take_any(&mut self, word: &str) -> Result<Taken, AllocError>
+    fn take_any(&mut self, word: &str) -> Result<Parsed, AllocError>
         ensures given { Sets word.now self.old self.new }
         ensures verb { IfSome self.new.task (λ verb. ((self.old.task ≡ Some verb) × (self.new.purpose ≡ self.old.purpose)) ⊎ IsNamed word.now self.new.purpose verb) }
-        ensures taken { IfOk result (IsTaken self.old word.now) }
+        ensures parsed { IfOk result (IsParsed self.old word.now) }
     {
         match word {
-            "--help" | "-h" => Ok(Taken::Help),
-            "--version" | "-v" => Ok(Taken::Version),
+            "--help" | "-h" => Ok(Parsed::Help),
+            "--version" | "-v" => Ok(Parsed::Version),
             "--" => self.expect(Next::Name),
             "-o" | "--output" => self.expect(Next::Output),
             "--indent" => self.expect(Next::Indent),
@@ -168,7 +168,7 @@ impl Given {
             "--legacy" => Ok(set(&mut self.is_legacy, Flag::Legacy)),
             "--canonical" => Ok(set(&mut self.is_canonical, Flag::Canonical)),
             "--unordered" => Ok(set(&mut self.is_unordered, Flag::Unordered)),
-            "--doubles" | "--keep-order" => Ok(Taken::Wrong(Misuse::Former)),
+            "--doubles" | "--keep-order" => Ok(Parsed::Wrong(Misuse::Former)),
             "help" => self.take_help(word),
             STANDARD | "lines" | "decode" | "encode" | "hash" | "same" => self.take_name(word),
             _ => {
@@ -182,21 +182,21 @@ impl Given {
     }
 
     // Accepts `help`, which is a file after a mode.
-    fn take_help(&mut self, word: &str) -> Result<Taken, AllocError>
+    fn take_help(&mut self, word: &str) -> Result<Parsed, AllocError>
         ensures given { self.new ≡ record self.old { inputs = self.new.inputs } }
-        ensures taken { IfOk result (λ taken. (taken ≡ Taken.Word) ⊎ ((taken ≡ Taken.Help) × (self.old.task ≡ None))) }
+        ensures parsed { IfOk result (λ parsed. (parsed ≡ Parsed.Word) ⊎ ((parsed ≡ Parsed.Help) × (self.old.task ≡ None))) }
     {
         if self.task.is_none() {
-            return Ok(Taken::Help);
+            return Ok(Parsed::Help);
         }
         self.inputs.push(String::from_str(self.alloc, word)?)?;
-        Ok(Taken::Word)
+        Ok(Parsed::Word)
     }
 
     // Accepts an option whose value is in the same word.
-    fn take_joined(&mut self, word: &str) -> Result<Taken, AllocError>
+    fn take_joined(&mut self, word: &str) -> Result<Parsed, AllocError>
         ensures given { self.new ≡ record self.old { indent = self.new.indent; jobs = self.new.jobs; output = self.new.output } }
-        ensures taken { IfOk result (IsValueInWord self.old word.now) }
+        ensures parsed { IfOk result (IsValueInWord self.old word.now) }
     {
         if let Some(count) = word.strip_prefix("--indent=") {
             return Ok(self.take_indent(count));
@@ -206,73 +206,73 @@ impl Given {
         }
         match output_in(word) {
             Some(name) => self.take_output(name),
-            None => Ok(Taken::Wrong(Misuse::UnknownOption)),
+            None => Ok(Parsed::Wrong(Misuse::UnknownOption)),
         }
     }
 
     // Accepts a number of spaces.
-    fn take_indent(&mut self, word: &str) -> Taken
+    fn take_indent(&mut self, word: &str) -> Parsed
         ensures given { self.new ≡ record self.old { indent = self.new.indent } }
-        ensures taken { IsNumbered Flag.Indent 16 self.old word.now result }
+        ensures parsed { IsNumbered Flag.Indent 16 self.old word.now result }
     {
         if self.indent.is_some() {
-            return Taken::Wrong(Misuse::Twice(Flag::Indent));
+            return Parsed::Wrong(Misuse::Twice(Flag::Indent));
         }
         self.indent = number(word, MOST_SPACES);
         if self.indent.is_some() {
-            Taken::Word
+            Parsed::Word
         } else {
-            Taken::Wrong(Misuse::NoValue(Flag::Indent))
+            Parsed::Wrong(Misuse::NoValue(Flag::Indent))
         }
     }
 
     // Accepts a number of jobs.
-    fn take_jobs(&mut self, word: &str) -> Taken
+    fn take_jobs(&mut self, word: &str) -> Parsed
         ensures given { self.new ≡ record self.old { jobs = self.new.jobs } }
-        ensures taken { IsNumbered Flag.Jobs 9999 self.old word.now result }
+        ensures parsed { IsNumbered Flag.Jobs 9999 self.old word.now result }
     {
         if self.jobs.is_some() {
-            return Taken::Wrong(Misuse::Twice(Flag::Jobs));
+            return Parsed::Wrong(Misuse::Twice(Flag::Jobs));
         }
         self.jobs = number(word, MOST_JOBS);
         if self.jobs.is_some() {
-            Taken::Word
+            Parsed::Word
         } else {
-            Taken::Wrong(Misuse::NoValue(Flag::Jobs))
+            Parsed::Wrong(Misuse::NoValue(Flag::Jobs))
         }
     }
 
     // Waits for the value of an option.
-    fn expect(&mut self, next: Next) -> Result<Taken, AllocError>
+    fn expect(&mut self, next: Next) -> Result<Parsed, AllocError>
         ensures given { self.new ≡ record self.old { next = next } }
-        ensures word { result ≡ Ok Taken.Word }
+        ensures word { result ≡ Ok Parsed.Word }
     {
         self.next = next;
-        Ok(Taken::Word)
+        Ok(Parsed::Word)
     }
 
-    fn take_output(&mut self, name: &str) -> Result<Taken, AllocError>
+    fn take_output(&mut self, name: &str) -> Result<Parsed, AllocError>
         ensures given { self.new ≡ record self.old { output = self.new.output } }
         ensures output { OnOk result (IfSome self.new.output
             (λ file. (self.old.output ≡ Some file) ⊎ (string_bytes file ≡ name.now))) }
-        ensures taken { IfOk result (IsStored self.old) }
+        ensures parsed { IfOk result (IsStored self.old) }
     {
         if self.output.is_some() {
-            return Ok(Taken::Wrong(Misuse::Twice(Flag::Output)));
+            return Ok(Parsed::Wrong(Misuse::Twice(Flag::Output)));
         }
         self.output = Some(String::from_str(self.alloc, name)?);
-        Ok(Taken::Word)
+        Ok(Parsed::Word)
     }
 
     // Accepts a command or a mode, and behind them files.
-    fn take_name(&mut self, word: &str) -> Result<Taken, AllocError>
+    fn take_name(&mut self, word: &str) -> Result<Parsed, AllocError>
         ensures given { self.new ≡ record self.old { task = self.new.task; purpose = self.new.purpose; input = input_of word.now self.old; inputs = self.new.inputs } }
         ensures verb { IfSome self.new.task (λ verb. ((self.old.task ≡ Some verb) × (self.new.purpose ≡ self.old.purpose)) ⊎ IsNamed word.now self.new.purpose verb) }
-        ensures taken { IfOk result (IsTaken self.old word.now) }
+        ensures parsed { IfOk result (IsParsed self.old word.now) }
     {
         if self.task.is_some() {
             self.inputs.push(String::from_str(self.alloc, word)?)?;
-            return Ok(Taken::Word);
+            return Ok(Parsed::Word);
         }
         match word {
             "lines" => Ok(self.take_command(Input::Lines, None)),
@@ -285,48 +285,48 @@ impl Given {
     }
 
     // Accepts the word of a command, which is the first.
-    fn take_command(&mut self, input: Input, task: Option<Task>) -> Taken
+    fn take_command(&mut self, input: Input, task: Option<Task>) -> Parsed
         ensures given { self.new ≡ record self.old { input = input; purpose = Purpose.Output; task = task } }
-        ensures taken { result ≡ (if is_text self.old.input then Taken.Word else Taken.Wrong Misuse.UnknownMode) }
+        ensures parsed { result ≡ (if is_text self.old.input then Parsed.Word else Parsed.Wrong Misuse.UnknownMode) }
     {
         let is_first = self.input == Input::Text;
         self.input = input;
         self.purpose = Purpose::Output;
         self.task = task;
         if is_first {
-            Taken::Word
+            Parsed::Word
         } else {
-            Taken::Wrong(Misuse::UnknownMode)
+            Parsed::Wrong(Misuse::UnknownMode)
         }
     }
 
     // Accepts a mode in which the sorted canonical text of each value is read.
-    fn take_purpose(&mut self, purpose: Purpose) -> Taken
+    fn take_purpose(&mut self, purpose: Purpose) -> Parsed
         ensures given { self.new ≡ record self.old { task = Some (Task.Write Mode.Canonical); purpose = purpose } }
-        ensures taken { result ≡ Taken.Word }
+        ensures parsed { result ≡ Parsed.Word }
     {
         self.purpose = purpose;
         self.task = Some(Task::Write(Mode::Canonical));
-        Taken::Word
+        Parsed::Word
     }
 
     // Accepts a mode.
-    fn take_mode(&mut self, word: &str) -> Taken
+    fn take_mode(&mut self, word: &str) -> Parsed
         ensures given { self.new ≡ record self.old { task = self.new.task; purpose = Purpose.Output } }
         ensures verb { IfSome self.new.task (λ verb. word.now ≡ task_name verb) }
-        ensures taken { (result ≡ Taken.Word) ⊎ ((result ≡ Taken.Wrong Misuse.UnknownMode) × ((task : Task) → word.now ≡ task_name task → ⊥)) }
+        ensures parsed { (result ≡ Parsed.Word) ⊎ ((result ≡ Parsed.Wrong Misuse.UnknownMode) × ((task : Task) → word.now ≡ task_name task → ⊥)) }
     {
         self.purpose = Purpose::Output;
         self.task = Task::from_name(word);
         if self.task.is_some() {
-            Taken::Word
+            Parsed::Word
         } else {
-            Taken::Wrong(Misuse::UnknownMode)
+            Parsed::Wrong(Misuse::UnknownMode)
         }
     }
 
     /// Returns what all words ask for.
-    pub fn answer(self) -> Result<Asked, AllocError>
+    pub fn answer(self) -> Result<Request, AllocError>
         ensures { IfOk result (IsAnswer self) }
     {
         let command = self.command();
@@ -364,9 +364,9 @@ impl Given {
         } else {
             in_order(task)
         };
-        Ok(Asked::Run(Order {
-            task: match taking_of(is_distinct, is_legacy) {
-                Some(taking) => first_taken(taking, task),
+        Ok(Request::Run(Invocation {
+            task: match requested_preprocessing(is_distinct, is_legacy) {
+                Some(preprocessing) => first_preprocessed(preprocessing, task),
                 None => task,
             },
             options: options_of(is_strict),
@@ -386,10 +386,10 @@ impl Given {
 }
 
 // Returns what is wrong with all words.
-fn wrong(alloc: Global, misuse: Misuse, command: Command) -> Asked
-    ensures { IsAskedWrong misuse command result }
+fn wrong(alloc: Global, misuse: Misuse, command: Command) -> Request
+    ensures { IsWrongRequest misuse command result }
 {
-    Asked::Wrong(Wrong {
+    Request::Wrong(Wrong {
         misuse,
         command,
         word: String::new(alloc),

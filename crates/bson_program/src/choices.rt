@@ -1,23 +1,23 @@
 //! What follows from the options that are given: the task, which doubles have a text, and that an option
 //! is given once.
 ghost use Rattle.std.specs.Prelude.{◌≡◌, ◌||◌, not, true, if◌then◌else◌};
-ghost use Rattle.bson_program.specs.Order.{awaited, first_taken, is_output, task_in_order, judged, options_of, taking_of};
+ghost use Rattle.bson_program.specs.Invocation.{awaited, first_preprocessed, is_output, task_in_order, judged, options_of, requested_preprocessing};
 
-use crate::arguments::{Next, Taken};
-use crate::order::{Flag, Misuse, Purpose};
+use crate::arguments::{Next, Parsed};
+use crate::invocation::{Flag, Misuse, Purpose};
 use bson::extjson::{Doubles, KeyOrder, Options};
-use bson_run::order::{Criterion, Taking, Task, Work};
+use bson_run::order::{Criterion, Preprocessing, Task, Work};
 
 /// Sets what an option sets, unless it is given twice.
-pub fn set(is_given: &mut bool, flag: Flag) -> Taken
-    ensures word { result ≡ (if is_given.old then Taken.Wrong (Misuse.Twice flag) else Taken.Word) }
+pub fn set(is_given: &mut bool, flag: Flag) -> Parsed
+    ensures word { result ≡ (if is_given.old then Parsed.Wrong (Misuse.Twice flag) else Parsed.Word) }
     ensures set { is_given.new ≡ true }
 {
     if *is_given {
-        return Taken::Wrong(Misuse::Twice(flag));
+        return Parsed::Wrong(Misuse::Twice(flag));
     }
     *is_given = true;
-    Taken::Word
+    Parsed::Word
 }
 
 /// Returns the option that waits for its value.
@@ -76,25 +76,25 @@ pub fn judged(is_canonical: bool, task: Task) -> Task
 }
 
 /// Returns what is looked for in a text before it is read.
-pub fn taking_of(is_distinct: bool, is_legacy: bool) -> Option<Taking>
-    ensures { result ≡ taking_of is_distinct is_legacy }
+pub fn requested_preprocessing(is_distinct: bool, is_legacy: bool) -> Option<Preprocessing>
+    ensures { result ≡ requested_preprocessing is_distinct is_legacy }
 {
     match (is_distinct, is_legacy) {
-        (true, true) => Some(Taking::DistinctLegacy),
-        (true, false) => Some(Taking::Distinct),
-        (false, true) => Some(Taking::Legacy),
+        (true, true) => Some(Preprocessing::DistinctLegacy),
+        (true, false) => Some(Preprocessing::Distinct),
+        (false, true) => Some(Preprocessing::Legacy),
         (false, false) => None,
     }
 }
 
 /// Returns the task, for texts that are read after this look.
-pub fn first_taken(taking: Taking, task: Task) -> Task
-    ensures { result ≡ first_taken taking task }
+pub fn first_preprocessed(preprocessing: Preprocessing, task: Task) -> Task
+    ensures { result ≡ first_preprocessed preprocessing task }
 {
     match task {
-        Task::Write(mode) => Task::Taken(taking, Work::Write(mode)),
-        Task::WriteInOrder(mode) => Task::Taken(taking, Work::WriteInOrder(mode)),
-        Task::Check(Criterion::Valid) => Task::Taken(taking, Work::Check),
+        Task::Write(mode) => Task::Preprocessed(preprocessing, Work::Write(mode)),
+        Task::WriteInOrder(mode) => Task::Preprocessed(preprocessing, Work::WriteInOrder(mode)),
+        Task::Check(Criterion::Valid) => Task::Preprocessed(preprocessing, Work::Check),
         other => other,
     }
 }

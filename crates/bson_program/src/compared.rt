@@ -1,6 +1,6 @@
 //! A comparison of the values of two files.
 use crate::messages::show_name;
-use crate::order::{Input, Order, STANDARD};
+use crate::invocation::{Input, Invocation, STANDARD};
 use crate::progress::Progress;
 use crate::run::{Stop, run_one, total, try_input};
 use crate::same::{Difference, compare_outputs, difference_line};
@@ -13,28 +13,28 @@ use std::alloc::{AllocError, Global};
 /// is added.
 pub fn compare_files<'a>(
     rt: &HostRuntime,
-    order: &'a Order,
+    invocation: &'a Invocation,
     hints: &mut Vec<String>,
 ) -> Result<Option<Difference>, Stop<'a>> {
-    for name in order.inputs.iter() {
-        try_input(rt, order, name.as_str())?;
+    for name in invocation.inputs.iter() {
+        try_input(rt, invocation, name.as_str())?;
     }
-    let progress = Progress::new(rt, total(rt, order), order.input != Input::Documents);
-    let difference = compare(rt, order, &progress, hints);
+    let progress = Progress::new(rt, total(rt, invocation), invocation.input != Input::Documents);
+    let difference = compare(rt, invocation, &progress, hints);
     progress.clear();
     difference
 }
 
 fn compare<'a>(
     rt: &HostRuntime,
-    order: &'a Order,
+    invocation: &'a Invocation,
     progress: &Progress<'_>,
     hints: &mut Vec<String>,
 ) -> Result<Option<Difference>, Stop<'a>> {
-    let (name, other) = (name_at(order, 0), name_at(order, 1));
-    let first = output_of(rt, order, name, progress, hints)?;
-    let second = output_of(rt, order, other, progress, hints)?;
-    match compare_outputs(rt.alloc(), order.is_unordered, &first, &second) {
+    let (name, other) = (name_at(invocation, 0), name_at(invocation, 1));
+    let first = output_of(rt, invocation, name, progress, hints)?;
+    let second = output_of(rt, invocation, other, progress, hints)?;
+    match compare_outputs(rt.alloc(), invocation.is_unordered, &first, &second) {
         Ok(difference) => Ok(difference),
         Err(_) => Err(out_of_memory(rt.alloc(), name)),
     }
@@ -43,13 +43,13 @@ fn compare<'a>(
 // Returns the output of one file.
 fn output_of<'a>(
     rt: &HostRuntime,
-    order: &'a Order,
+    invocation: &'a Invocation,
     name: &'a str,
     progress: &Progress<'_>,
     hints: &mut Vec<String>,
 ) -> Result<Vec<u8>, Stop<'a>> {
     let mut sink = Sink::new(Target::Memory(Vec::new(rt.alloc())));
-    match run_one(rt, order, name, &mut sink, progress, hints) {
+    match run_one(rt, invocation, name, &mut sink, progress, hints) {
         Ok(_) => Ok(sink.target.into_memory(rt.alloc())),
         Err(Stop::Output(name, _)) => Err(out_of_memory(rt.alloc(), name)),
         Err(stop) => Err(stop),
@@ -61,8 +61,8 @@ fn out_of_memory(alloc: Global, name: &str) -> Stop<'_> {
 }
 
 // Returns the name of the first file (0) or of the second (1).
-fn name_at(order: &Order, at: usize) -> &str {
-    match order.inputs.get(at) {
+fn name_at(invocation: &Invocation, at: usize) -> &str {
+    match invocation.inputs.get(at) {
         Some(name) => name.as_str(),
         None => STANDARD,
     }
@@ -71,10 +71,10 @@ fn name_at(order: &Order, at: usize) -> &str {
 /// Returns the line that says how the two files differ.
 pub fn line_for(
     alloc: Global,
-    order: &Order,
+    invocation: &Invocation,
     difference: Difference,
 ) -> Result<String, AllocError> {
-    let first = show_name(alloc, name_at(order, 0), "input")?;
-    let second = show_name(alloc, name_at(order, 1), "input")?;
+    let first = show_name(alloc, name_at(invocation, 0), "input")?;
+    let second = show_name(alloc, name_at(invocation, 1), "input")?;
     difference_line(alloc, &first, &second, difference)
 }

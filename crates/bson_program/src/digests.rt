@@ -3,7 +3,7 @@ ghost use Rattle.std.specs.Prelude.{◌≡◌, ◌≢◌, ◌++◌, [], ℕ, Lis
 ghost use Rattle.sha2.specs.Hashers.{Holds256};
 ghost use Rattle.bson_program.specs.Digests.{digest_line, digests_from, open_line_after};
 
-use crate::order::Purpose;
+use crate::invocation::Purpose;
 use sha2::{Digest, Sha256};
 use std::alloc::{AllocError, Global};
 

@@ -3,11 +3,11 @@ ghost use Rattle.std.specs.Prelude.{◌≡◌, ◌+◌, ◌↔◌, [], false, If
 ghost use Rattle.std.specs.Io.Buffered.{writer_buffer, writer_inner};
 ghost use Rattle.std.specs.Io.KnownBytes.{Appends};
 ghost use Rattle.bson_codec.specs.Documents.{EndsAt, IsOfBytes};
-ghost use Rattle.bson_codec.specs.Told.{told_of};
+ghost use Rattle.bson_codec.specs.Diagnostics.{hint_text};
 ghost use Rattle.bson_program.specs.Dump.{IsDoneDump};
 ghost use Rattle.bson_program.specs.Stops.{IsDocumentLine};
 
-use crate::order::Order;
+use crate::invocation::Invocation;
 use crate::progress::{Counted, Verdicts};
 use crate::run::{Stop, write_stop};
 use crate::streams::{Sink, Source};
@@ -29,45 +29,45 @@ const BLOCK: usize = 65536;
 /// counts as one that was rejected.
 pub fn run_dump<'a>(
     rt: &HostRuntime,
-    order: &'a Order,
+    invocation: &'a Invocation,
     name: &'a str,
     reader: &mut Counted<'_, Source>,
     sink: &mut Sink,
     report: &mut Verdicts<'_, Stderr>,
 ) -> Result<Counts, Stop<'a>> {
-    match in_blocks(rt.alloc(), run_of(order), reader, sink, report) {
+    match in_blocks(rt.alloc(), run_of(invocation), reader, sink, report) {
         Ok(counts) => Ok(Counts {
             lines: counts.documents,
             refused: counts.refused,
         }),
         Err(end) => Err(match end.fault {
             RunFault::CannotRead => Stop::Input(name, reader.error),
-            RunFault::CannotWrite => write_stop(order, sink, report),
+            RunFault::CannotWrite => write_stop(invocation, sink, report),
             _ => Stop::Document(name, end),
         }),
     }
 }
 
 // What is asked of each document.
-fn run_of(order: &Order) -> Run
+fn run_of(invocation: &Invocation) -> Run
     ensures depth { result.depth ≡ DEPTH }
-    ensures options { result.options ≡ order.now.options }
-    ensures line { IsDocumentLine order.now.task result.line }
-    ensures refusal { IsTrue result.keep_going ↔ (order.now.on_refusal ≡ OnRefusal.KeepGoing) }
+    ensures options { result.options ≡ invocation.now.options }
+    ensures line { IsDocumentLine invocation.now.task result.line }
+    ensures refusal { IsTrue result.keep_going ↔ (invocation.now.on_refusal ≡ OnRefusal.KeepGoing) }
 {
     Run {
         depth: DEPTH,
-        options: order.options,
-        line: match order.task {
+        options: invocation.options,
+        line: match invocation.task {
             Task::Write(Mode::Canonical) => Line::Text(Form::Canonical),
             Task::Write(Mode::Relaxed) => Line::Text(Form::Relaxed),
             Task::WriteInOrder(Mode::Canonical) => Line::TextInOrder(Form::Canonical),
             Task::WriteInOrder(Mode::Relaxed) => Line::TextInOrder(Form::Relaxed),
             Task::Write(Mode::Show) | Task::WriteInOrder(Mode::Show) => Line::Shown,
             // (bytes are made of texts alone)
-            Task::Check(_) | Task::Encode | Task::EncodeInOrder | Task::Taken(..) => Line::Nothing,
+            Task::Check(_) | Task::Encode | Task::EncodeInOrder | Task::Preprocessed(..) => Line::Nothing,
         },
-        keep_going: order.on_refusal == OnRefusal::KeepGoing,
+        keep_going: invocation.on_refusal == OnRefusal::KeepGoing,
     }
 }
 
@@ -135,8 +135,8 @@ fn report_end<T: Write>(
     end: RunEnd,
     report: &mut T,
 ) -> Result<DocumentCounts, RunEnd>
-    ensures reported { IfOk result (λ counts. IsOfBytes end.fault
-        × Appends (T.contents report.old) (T.contents report.new) (told_of end.number end.start end.fault)
+    ensures reports_appended { IfOk result (λ counts. IsOfBytes end.fault
+        × Appends (T.contents report.old) (T.contents report.new) (hint_text end.number end.start end.fault)
         × (counts.documents ≡ end.number) × (counts.refused ≡ end.refused + 1)) }
     ensures fails { IfErr result (λ it. IsOfBytes it.fault → ⊥) }
 {

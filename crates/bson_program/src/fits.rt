@@ -1,11 +1,11 @@
 //! Which options each command has, and whether the given ones are among them.
 ghost use Rattle.std.specs.Prelude.{◌≡◌, IfSome, None, true};
 ghost use Rattle.bson_program.specs.Flags as flags;
-ghost use Rattle.bson_program.specs.Order.{AllFit, AreTwoFiles, IsMisfit, TaskFits};
+ghost use Rattle.bson_program.specs.Invocation.{AllFit, AreTwoFiles, IsMisfit, TaskFits};
 ghost use Rattle.bson_run.specs.declared.order.Task.{Task};
 
 use crate::arguments::Given;
-use crate::order::{Flag, Input, Misuse, Purpose, STANDARD};
+use crate::invocation::{Flag, Input, Misuse, Purpose, STANDARD};
 use bson_convert::mode::Mode;
 use bson_run::order::{Criterion, Task};
 

@@ -1,13 +1,13 @@
 //! What a rejected input holds in place of what it should, as its first bytes show.
 ghost use Rattle.std.specs.Prelude.{◌≡◌, not, reverse};
 ghost use Rattle.std.specs.List.{find};
-ghost use Rattle.bson_program.specs.Hints.{behind_line, compression_of, doubles, hint_of_encoding, ends_in_zero, first_line};
+ghost use Rattle.bson_program.specs.Hints.{after_line, compression_of, doubles, hint_of_encoding, ends_in_zero, first_line};
 ghost use Rattle.bson_program.specs.Hints.{hint_of, hint_of_dump, hint_of_lines, hint_of_texts, is_blank, is_dump};
 ghost use Rattle.bson_program.specs.Hints.{has_content, is_high_first, is_length, is_low_first};
 ghost use Rattle.bson_program.specs.Hints.{is_opening, little, opens_over_lines, starts_text};
 
 use crate::messages::line_len;
-use crate::order::Input;
+use crate::invocation::Input;
 
 /// The greatest length of a document that is told from text by its first bytes.
 const MOST: usize = 1 << 27;
@@ -288,7 +288,7 @@ fn is_blank(byte: u8) -> bool
 // The first line, with its newline, and the bytes after it.
 fn split_line(head: &[u8]) -> (&[u8], &[u8])
     ensures line { result.0.now ≡ first_line head.now }
-    ensures rest { result.1.now ≡ behind_line head.now }
+    ensures rest { result.1.now ≡ after_line head.now }
 {
     head.split_at(line_len(head))
 }

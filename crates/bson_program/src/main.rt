@@ -17,7 +17,7 @@ mod fits;
 mod hints;
 mod messages;
 mod misuse;
-mod order;
+mod invocation;
 mod output;
 mod progress;
 mod rejected;
@@ -32,7 +32,7 @@ mod words;
 use crate::compared::{compare_files, line_for};
 use crate::messages::{line_of, summary};
 use crate::misuse::misuse_line;
-use crate::order::{Asked, Command, Misuse, Order, Purpose, STANDARD, Wrong, parse_arguments};
+use crate::invocation::{Request, Command, Misuse, Invocation, Purpose, STANDARD, Wrong, parse_arguments};
 use crate::run::{Stop, run};
 use crate::words::{OUT_OF_MEMORY, VERSION, help_of, usage_of};
 use bson_convert::fault::Fault;
@@ -49,26 +49,26 @@ const NO_READER: u8 = 141;
 // nobody reads the output any more, and nothing is told.
 fn main(rt: HostRuntime) -> ExitCode {
     match read_order(&rt) {
-        Ok(Asked::Run(order)) if order.purpose == Purpose::Comparison => compare_order(&rt, &order),
-        Ok(Asked::Run(order)) => run_order(&rt, &order),
-        Ok(Asked::Help(command)) => print_text(&rt, help_of(command)),
-        Ok(Asked::Version) => print_text(&rt, VERSION),
-        Ok(Asked::Wrong(wrong)) => reject(&rt, &wrong),
+        Ok(Request::Run(invocation)) if invocation.purpose == Purpose::Comparison => compare_order(&rt, &invocation),
+        Ok(Request::Run(invocation)) => run_order(&rt, &invocation),
+        Ok(Request::Help(command)) => print_text(&rt, help_of(command)),
+        Ok(Request::Version) => print_text(&rt, VERSION),
+        Ok(Request::Wrong(wrong)) => reject(&rt, &wrong),
         Err(_) => report_failure(&rt, OUT_OF_MEMORY, 1),
     }
 }
 
 // Returns what the arguments ask for.
-fn read_order(rt: &HostRuntime) -> Result<Asked, Fault> {
+fn read_order(rt: &HostRuntime) -> Result<Request, Fault> {
     let Some(words) = words_given(rt)? else {
-        return Ok(Asked::Wrong(Wrong {
+        return Ok(Request::Wrong(Wrong {
             misuse: Misuse::NotUtf8,
             command: Command::All,
             word: String::new(rt.alloc()),
         }));
     };
     match parse_arguments(rt.alloc(), words) {
-        Ok(asked) => Ok(asked),
+        Ok(requested) => Ok(requested),
         Err(_) => Err(Fault::OutOfMemory),
     }
 }
@@ -85,11 +85,11 @@ fn reject(rt: &HostRuntime, wrong: &Wrong) -> ExitCode {
 }
 
 // Runs, and tells what came of it, and what helps with the inputs that were rejected.
-fn run_order(rt: &HostRuntime, order: &Order) -> ExitCode {
+fn run_order(rt: &HostRuntime, invocation: &Invocation) -> ExitCode {
     let mut hints = Vec::new(rt.alloc());
-    let status = match run(rt, order, &mut hints) {
+    let status = match run(rt, invocation, &mut hints) {
         Ok(counts) if counts.refused == 0 => ExitCode::SUCCESS,
-        Ok(counts) => end_with(rt, summary(rt.alloc(), order.input, counts), 1),
+        Ok(counts) => end_with(rt, summary(rt.alloc(), invocation.input, counts), 1),
         Err(Stop::Output(_, Some(error))) if error.kind() == ErrorKind::BrokenPipe => {
             ExitCode::from(NO_READER)
         }
@@ -100,11 +100,11 @@ fn run_order(rt: &HostRuntime, order: &Order) -> ExitCode {
 }
 
 // Compares two files. The status is 1 if and only if their values differ.
-fn compare_order(rt: &HostRuntime, order: &Order) -> ExitCode {
+fn compare_order(rt: &HostRuntime, invocation: &Invocation) -> ExitCode {
     let mut hints = Vec::new(rt.alloc());
-    let status = match compare_files(rt, order, &mut hints) {
+    let status = match compare_files(rt, invocation, &mut hints) {
         Ok(None) => ExitCode::SUCCESS,
-        Ok(Some(difference)) => end_with(rt, line_for(rt.alloc(), order, difference), 1),
+        Ok(Some(difference)) => end_with(rt, line_for(rt.alloc(), invocation, difference), 1),
         Err(stop) => end_with(rt, line_of(rt.alloc(), stop), 2),
     };
     print_hints(rt, &hints);

@@ -2,9 +2,9 @@
 ghost use Rattle.std.specs.Prelude.{◌≡◌, ◌==◌, ◌++◌, IfOk, OnOk, position, string_bytes};
 ghost use Rattle.bson_program.specs.Messages.{all_under, document_words, escaped_name, head_of};
 ghost use Rattle.bson_program.specs.Messages.{input_kind, line_head, line_len, printable, shown_name, summary_of};
-ghost use Rattle.bson_program.specs.Messages.{text_head, text_message, told_of_document, under, IsCause, IsLineFor};
+ghost use Rattle.bson_program.specs.Messages.{text_head, text_message, document_message, under, IsCause, IsLineFor};
 
-use crate::order::{Input, STANDARD};
+use crate::invocation::{Input, STANDARD};
 use crate::run::Stop;
 use bson_codec::run_end::{RunEnd, RunFault};
 use bson_convert::error;
@@ -61,7 +61,7 @@ pub fn line_of(alloc: Global, stop: Stop<'_>) -> Result<String, AllocError>
 
 // At which document the run stopped, and why.
 fn at_document(alloc: Global, name: &str, end: RunEnd) -> Result<String, AllocError>
-    ensures { IfOk result (λ line. string_bytes line ≡ told_of_document name.now end) }
+    ensures { IfOk result (λ line. string_bytes line ≡ document_message name.now end) }
 {
     let words = document_words(alloc, end)?;
     let head = head_of(alloc, name)?;

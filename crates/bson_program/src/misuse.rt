@@ -3,13 +3,13 @@ ghost use Rattle.std.specs.Prelude.{◌≡◌, ℕ, List, IfOk, string_bytes};
 ghost use Rattle.bson_program.specs.Flags.{flag_name};
 ghost use Rattle.bson_program.specs.Misuses.{command_name, full_name, kind_of_word, mode_without, see, misuse_message};
 ghost use Rattle.bson_program.specs.Messages.{escaped_name};
-ghost use Rattle.bson_program.specs.Order.{mode_word};
+ghost use Rattle.bson_program.specs.Invocation.{mode_word};
 ghost use Rattle.bson_convert.specs.Words.{name_of};
 ghost use Rattle.bson_run.specs.Words.{task_name};
 ghost use Rattle.bson_run.specs.declared.order.Task.{Task};
 
 use crate::messages::escape_name;
-use crate::order::{Command, Flag, Misuse, Purpose, Wrong};
+use crate::invocation::{Command, Flag, Misuse, Purpose, Wrong};
 use bson_convert::mode::Mode;
 use bson_run::order::{Criterion, Task, Work};
 use std::alloc::{AllocError, Global};
@@ -171,9 +171,9 @@ fn task_name(task: Task) -> &'static str
 {
     match task {
         Task::Write(mode) | Task::WriteInOrder(mode) => mode_name(mode),
-        Task::Check(_) | Task::Taken(_, Work::Check) => "check",
+        Task::Check(_) | Task::Preprocessed(_, Work::Check) => "check",
         Task::Encode | Task::EncodeInOrder => "encode",
-        Task::Taken(_, Work::Write(mode)) | Task::Taken(_, Work::WriteInOrder(mode)) => mode_name(
+        Task::Preprocessed(_, Work::Write(mode)) | Task::Preprocessed(_, Work::WriteInOrder(mode)) => mode_name(
             mode,
         ),
     }

@@ -3,7 +3,7 @@
 ghost use Rattle.std.specs.Prelude.{◌≡◌, codes, IfOk, IfSome, IsOk, IsOkAnd, None};
 ghost use Rattle.bson_program.specs.Stops.{IsNumberedPart};
 
-use crate::order::STANDARD;
+use crate::invocation::STANDARD;
 use crate::streams::{Sink, Target};
 use std::fs::{File, Metadata, OpenOptions};
 use std::io::ErrorKind;

@@ -1,7 +1,7 @@
 //! How far a run is, on a terminal: a line that is renewed in place while files are read.
 ghost use Rattle.std.specs.Prelude.{◌≡◌, ◌==◌, count_by, OnOk};
 ghost use Rattle.std.specs.Io.KnownBytes.{Appends};
-ghost use Rattle.bson_program.specs.Stops.{told_under};
+ghost use Rattle.bson_program.specs.Stops.{reported_under};
 
 use crate::messages::name_verdicts;
 use std::alloc::Global;
@@ -163,7 +163,7 @@ impl<T: Write> Verdicts<'_, T> {
     // Writes whole verdicts.
     fn put(&mut self, verdicts: &[u8]) -> io::Result<()>
         ensures { OnOk result (Appends (T.contents self.old.writer) (T.contents self.new.writer)
-            (told_under self.old.name verdicts.now)) }
+            (reported_under self.old.name verdicts.now)) }
     {
         match &self.name {
             None => self.writer.write_all(verdicts),

@@ -1,18 +1,18 @@
 //! What is told beside the error of an input: what it holds instead, and what reads that.
 ghost use Rattle.std.specs.Prelude.{◌≡◌, IfOk, IfSome, string_bytes};
 ghost use Rattle.bson_program.specs.Hints.{IsHelpFor, hint_line, is_rejected, is_strict, option_if, reading_mode, reading_words};
-ghost use Rattle.bson_program.specs.Hints.{sorts_keys, taking_options, told_of};
+ghost use Rattle.bson_program.specs.Hints.{sorts_keys, preprocessing_options, hint_text};
 
 use crate::hints::{Hint, Rejected, hint_for};
 use crate::messages::show_name;
 use crate::misuse::mode_word;
-use crate::order::{Input, Order, Purpose, STANDARD};
+use crate::invocation::{Input, Invocation, Purpose, STANDARD};
 use crate::run::Stop;
 use bson::extjson::{Doubles, Options};
 use bson_codec::run_end::RunFault;
 use bson_convert::error::Error;
 use bson_run::lines::Counts;
-use bson_run::order::{Taking, Task, Work};
+use bson_run::order::{Preprocessing, Task, Work};
 use bson_run::rule::Rule;
 use bson_run::stop;
 use bson_scalar::doubles::NUMBER;
@@ -37,22 +37,22 @@ const MARK: &str = "begins with a byte order mark, which only a named file may";
 /// where it was not, or where nothing helps.
 pub fn rejection_help(
     alloc: Global,
-    order: &Order,
+    invocation: &Invocation,
     name: &str,
     head: &[u8],
     has_double: bool,
 ) -> Option<String>
-    ensures { IfSome result (λ line. IsHelpFor order.now name.now head.now (string_bytes line)) }
+    ensures { IfSome result (λ line. IsHelpFor invocation.now name.now head.now (string_bytes line)) }
 {
     let rejected = Rejected {
-        input: order.input,
-        encodes: order.writes_bytes(),
+        input: invocation.input,
+        encodes: invocation.writes_bytes(),
         is_standard: name == STANDARD,
         has_double,
-        has_more: has_more(alloc, order, head),
+        has_more: has_more(alloc, invocation, head),
     };
     let hint = hint_for(rejected, head)?;
-    let Ok(words) = words_of(alloc, order) else {
+    let Ok(words) = words_of(alloc, invocation) else {
         return None;
     };
     match hint_line(alloc, name, hint, words.as_str()) {
@@ -104,8 +104,8 @@ fn is_double(place: &Place) -> bool {
 }
 
 // Whether the run is strict, and the first bytes are one text and more.
-fn has_more(alloc: Global, order: &Order, head: &[u8]) -> bool {
-    if order.input != Input::Text || order.options.doubles == Doubles::Finite {
+fn has_more(alloc: Global, invocation: &Invocation, head: &[u8]) -> bool {
+    if invocation.input != Input::Text || invocation.options.doubles == Doubles::Finite {
         return false;
     }
     match stop::Stop::of(alloc, head) {
@@ -115,27 +115,27 @@ fn has_more(alloc: Global, order: &Order, head: &[u8]) -> bool {
 }
 
 // The mode and the options of a command that reads the input.
-fn words_of(alloc: Global, order: &Order) -> Result<String, AllocError>
-    ensures { IfOk result (λ words. string_bytes words ≡ reading_words order.now) }
+fn words_of(alloc: Global, invocation: &Invocation) -> Result<String, AllocError>
+    ensures { IfOk result (λ words. string_bytes words ≡ reading_words invocation.now) }
 {
-    let mode = mode_for(order);
-    let doubles = order.options.doubles;
+    let mode = mode_for(invocation);
+    let doubles = invocation.options.doubles;
     let sorts_keys = option_if(
-        sorts_keys(order.purpose, doubles, order.task),
+        sorts_keys(invocation.purpose, doubles, invocation.task),
         " --sort-keys",
     );
     let strict = option_if(is_strict(doubles), " --strict");
-    let taking = taking_options(order.task);
+    let preprocessing = preprocessing_options(invocation.task);
     format!(in alloc; "{mode}{sorts_keys}{strict}{taking}")
 }
 
 // The mode of a command that reads the input.
-fn mode_for(order: &Order) -> &'static str
-    ensures { result.now ≡ reading_mode order.now.input order.now.purpose order.now.task }
+fn mode_for(invocation: &Invocation) -> &'static str
+    ensures { result.now ≡ reading_mode invocation.now.input invocation.now.purpose invocation.now.task }
 {
-    match (order.input, order.task) {
+    match (invocation.input, invocation.task) {
         (Input::Lines, Task::Encode | Task::EncodeInOrder) => "canonical",
-        (_, task) => mode_word(order.purpose, task),
+        (_, task) => mode_word(invocation.purpose, task),
     }
 }
 
@@ -154,13 +154,13 @@ fn option_if(is_given: bool, option: &'static str) -> &'static str
     if is_given { option } else { "" }
 }
 
-fn taking_options(task: Task) -> &'static str
-    ensures { result.now ≡ taking_options task }
+fn preprocessing_options(task: Task) -> &'static str
+    ensures { result.now ≡ preprocessing_options task }
 {
     match task {
-        Task::Taken(Taking::Legacy, _) => " --legacy",
-        Task::Taken(Taking::Distinct, _) => " --no-double-keys",
-        Task::Taken(Taking::DistinctLegacy, _) => " --legacy --no-double-keys",
+        Task::Preprocessed(Preprocessing::Legacy, _) => " --legacy",
+        Task::Preprocessed(Preprocessing::Distinct, _) => " --no-double-keys",
+        Task::Preprocessed(Preprocessing::DistinctLegacy, _) => " --legacy --no-double-keys",
         _ => "",
     }
 }
@@ -173,7 +173,7 @@ fn sorts_keys(purpose: Purpose, doubles: Doubles, task: Task) -> bool
         (Purpose::Output, Doubles::Finite) => {
             matches!(
                 task,
-                Task::Write(_) | Task::Encode | Task::Taken(_, Work::Write(_))
+                Task::Write(_) | Task::Encode | Task::Preprocessed(_, Work::Write(_))
             )
         }
         _ => false,
@@ -184,14 +184,14 @@ fn sorts_keys(purpose: Purpose, doubles: Doubles, task: Task) -> bool
 fn hint_line(alloc: Global, name: &str, hint: Hint, words: &str) -> Result<String, AllocError>
     ensures { IfOk result (λ line. string_bytes line ≡ hint_line name.now hint words.now) }
 {
-    let told = tell(alloc, hint, words)?;
+    let reported = tell(alloc, hint, words)?;
     let name = show_name(alloc, name, "input")?;
     format!(in alloc; "bson: {name} {told}")
 }
 
 // What an input holds instead, and what reads it.
 fn tell(alloc: Global, hint: Hint, words: &str) -> Result<String, AllocError>
-    ensures { IfOk result (λ told. string_bytes told ≡ told_of hint words.now) }
+    ensures { IfOk result (λ reported. string_bytes reported ≡ hint_text hint words.now) }
 {
     match hint {
         Hint::Text => {

@@ -7,7 +7,7 @@ ghost use Rattle.bson_program.specs.Stops.{IsTitle, IsUnread, IsUnwritten};
 use crate::digests::hasher_for;
 use crate::dump::run_dump;
 use crate::messages::head_of;
-use crate::order::{Input, Order, STANDARD};
+use crate::invocation::{Input, Invocation, STANDARD};
 use crate::output::Output;
 use crate::progress::{Counted, Progress, Verdicts};
 use crate::rejected::{ends_at_double, is_rejected, rejection_help};
@@ -48,23 +48,23 @@ pub enum Stop<'a> {
 /// for what it holds instead, a hint is added.
 pub fn run<'a>(
     rt: &HostRuntime,
-    order: &'a Order,
+    invocation: &'a Invocation,
     hints: &mut Vec<String>,
 ) -> Result<Counts, Stop<'a>> {
-    if order.writes_bytes() && order.output.as_str() == STANDARD && rt.stdout().is_terminal() {
+    if invocation.writes_bytes() && invocation.output.as_str() == STANDARD && rt.stdout().is_terminal() {
         return Err(Stop::Terminal);
     }
-    for name in order.inputs.iter() {
-        try_input(rt, order, name.as_str())?;
+    for name in invocation.inputs.iter() {
+        try_input(rt, invocation, name.as_str())?;
     }
-    let name = order.output.as_str();
+    let name = invocation.output.as_str();
     let mut output = match Output::open(rt, name) {
         Ok(output) => output,
         Err(error) => return Err(Stop::Output(name, Some(error))),
     };
-    output.sink.hasher = hasher_for(rt.alloc(), order.purpose);
-    let progress = Progress::new(rt, total(rt, order), order.input != Input::Documents);
-    let counts = run_all(rt, order, &mut output.sink, &progress, hints);
+    output.sink.hasher = hasher_for(rt.alloc(), invocation.purpose);
+    let progress = Progress::new(rt, total(rt, invocation), invocation.input != Input::Documents);
+    let counts = run_all(rt, invocation, &mut output.sink, &progress, hints);
     progress.clear();
     match counts {
         Ok(counts) => match output.finish(rt) {
@@ -80,7 +80,7 @@ pub fn run<'a>(
 
 fn run_all<'a>(
     rt: &HostRuntime,
-    order: &'a Order,
+    invocation: &'a Invocation,
     sink: &mut Sink,
     progress: &Progress<'_>,
     hints: &mut Vec<String>,
@@ -89,8 +89,8 @@ fn run_all<'a>(
         lines: 0,
         refused: 0,
     };
-    for name in order.inputs.iter() {
-        let counts = run_one(rt, order, name.as_str(), sink, progress, hints)?;
+    for name in invocation.inputs.iter() {
+        let counts = run_one(rt, invocation, name.as_str(), sink, progress, hints)?;
         all.lines = all.lines.saturating_add(counts.lines);
         all.refused = all.refused.saturating_add(counts.refused);
     }
@@ -100,7 +100,7 @@ fn run_all<'a>(
 /// Converts the lines of one file.
 pub fn run_one<'a>(
     rt: &HostRuntime,
-    order: &'a Order,
+    invocation: &'a Invocation,
     name: &'a str,
     sink: &mut Sink,
     progress: &Progress<'_>,
@@ -115,19 +115,19 @@ pub fn run_one<'a>(
     let mut report = Verdicts {
         alloc: rt.alloc(),
         writer: rt.stderr(),
-        name: title(rt, order, name)?,
+        name: title(rt, invocation, name)?,
         progress,
         has_double: false,
         error: None,
     };
-    let ended = match order.input {
-        Input::Lines => run_each(rt, order, name, &mut reader, sink, &mut report),
-        Input::Text => run_text(rt, order, name, &mut reader, sink),
-        Input::Documents => run_dump(rt, order, name, &mut reader, sink, &mut report),
+    let ended = match invocation.input {
+        Input::Lines => run_each(rt, invocation, name, &mut reader, sink, &mut report),
+        Input::Text => run_text(rt, invocation, name, &mut reader, sink),
+        Input::Documents => run_dump(rt, invocation, name, &mut reader, sink, &mut report),
     };
-    let has_double = report.has_double || ends_at_double(order.options, &ended);
+    let has_double = report.has_double || ends_at_double(invocation.options, &ended);
     if is_rejected(&ended) {
-        if let Some(hint) = rejection_help(rt.alloc(), order, name, &reader.head, has_double) {
+        if let Some(hint) = rejection_help(rt.alloc(), invocation, name, &reader.head, has_double) {
             let _ = hints.push(hint);
         }
     }
@@ -137,18 +137,18 @@ pub fn run_one<'a>(
 // Converts each line of a file.
 fn run_each<'a>(
     rt: &HostRuntime,
-    order: &'a Order,
+    invocation: &'a Invocation,
     name: &'a str,
     reader: &mut Counted<'_, Source>,
     sink: &mut Sink,
     report: &mut Verdicts<'_, Stderr>,
 ) -> Result<Counts, Stop<'a>> {
-    let mut run = LineRun::new(rt.alloc(), order.task, order.on_refusal);
-    run.options = order.options;
+    let mut run = LineRun::new(rt.alloc(), invocation.task, invocation.on_refusal);
+    run.options = invocation.options;
     match run.run(rt.alloc(), reader, sink, report) {
         Ok(counts) => Ok(counts),
         Err(error::Error::CannotRead) => Err(Stop::Input(name, reader.error)),
-        Err(error::Error::CannotWrite) => Err(write_stop(order, sink, report)),
+        Err(error::Error::CannotWrite) => Err(write_stop(invocation, sink, report)),
         Err(fault) => {
             let place = place_in(rt.alloc(), &run, &fault);
             Err(Stop::Text(name, run.number(), fault, place))
@@ -168,24 +168,24 @@ fn place_in(alloc: Global, run: &LineRun, fault: &error::Error) -> String
 }
 
 /// What could not be written: verdicts, or else the output.
-pub fn write_stop<'a>(order: &'a Order, sink: &Sink, report: &Verdicts<'_, Stderr>) -> Stop<'a>
-    ensures { IsUnwritten order.now report.now.error sink.now.error result }
+pub fn write_stop<'a>(invocation: &'a Invocation, sink: &Sink, report: &Verdicts<'_, Stderr>) -> Stop<'a>
+    ensures { IsUnwritten invocation.now report.now.error sink.now.error result }
 {
     match report.error {
         Some(error) => Stop::Output(STANDARD, Some(error)),
-        None => Stop::Output(order.output.as_str(), sink.error),
+        None => Stop::Output(invocation.output.as_str(), sink.error),
     }
 }
 
 // Converts the texts of a file.
 fn run_text<'a>(
     rt: &HostRuntime,
-    order: &'a Order,
+    invocation: &'a Invocation,
     name: &'a str,
     reader: &mut Counted<'_, Source>,
     sink: &mut Sink,
 ) -> Result<Counts, Stop<'a>> {
-    match convert_texts(rt.alloc(), order, name, reader, sink) {
+    match convert_texts(rt.alloc(), invocation, name, reader, sink) {
         Ok(()) => Ok(Counts {
             lines: 1,
             refused: 0,
@@ -210,11 +210,11 @@ fn source<'a>(rt: &HostRuntime, name: &'a str) -> Result<Source, Stop<'a>>
 }
 
 // The name that stands before verdicts, but those on lines of standard input.
-fn title<'a>(rt: &HostRuntime, order: &Order, name: &'a str) -> Result<Option<String>, Stop<'a>>
-    ensures title { IfOk result (IsTitle order.now.input name.now) }
+fn title<'a>(rt: &HostRuntime, invocation: &Invocation, name: &'a str) -> Result<Option<String>, Stop<'a>>
+    ensures title { IfOk result (IsTitle invocation.now.input name.now) }
     ensures stop { IfErr result (IsUnread name.now) }
 {
-    if name == STANDARD && order.input != Input::Documents {
+    if name == STANDARD && invocation.input != Input::Documents {
         return Ok(None);
     }
     match head_of(rt.alloc(), name) {
@@ -224,7 +224,7 @@ fn title<'a>(rt: &HostRuntime, order: &Order, name: &'a str) -> Result<Option<St
 }
 
 /// A file to read opens, and is none of those that are written.
-pub fn try_input<'a>(rt: &HostRuntime, order: &Order, name: &'a str) -> Result<(), Stop<'a>> {
+pub fn try_input<'a>(rt: &HostRuntime, invocation: &Invocation, name: &'a str) -> Result<(), Stop<'a>> {
     let input = if name == STANDARD {
         fs::metadata(rt, "/dev/stdin")
     } else {
@@ -239,13 +239,13 @@ pub fn try_input<'a>(rt: &HostRuntime, order: &Order, name: &'a str) -> Result<(
     if is_written(rt, &input, "/dev/stderr") {
         return Err(Stop::Both(name));
     }
-    let output = order.output.as_str();
+    let output = invocation.output.as_str();
     let output = if output == STANDARD {
         "/dev/stdout"
     } else {
         output
     };
-    if !order.writes_nothing() && is_written(rt, &input, output) {
+    if !invocation.writes_nothing() && is_written(rt, &input, output) {
         return Err(Stop::Both(name));
     }
     Ok(())
@@ -261,15 +261,15 @@ fn is_written(rt: &HostRuntime, file: &Metadata, name: &str) -> bool {
 
 /// How many bytes are to be read, where progress is told: standard error is a terminal to which no
 /// output goes, and all that is read is files.
-pub fn total(rt: &HostRuntime, order: &Order) -> Option<u64> {
-    let is_apart = order.output.as_str() != STANDARD
-        || order.writes_nothing()
+pub fn total(rt: &HostRuntime, invocation: &Invocation) -> Option<u64> {
+    let is_apart = invocation.output.as_str() != STANDARD
+        || invocation.writes_nothing()
         || !rt.stdout().is_terminal();
     if !rt.stderr().is_terminal() || !is_apart {
         return None;
     }
     let mut total = 0u64;
-    for name in order.inputs.iter() {
+    for name in invocation.inputs.iter() {
         let name = name.as_str();
         let name = if name == STANDARD { "/dev/stdin" } else { name };
         total = total.saturating_add(size(rt, name)?);

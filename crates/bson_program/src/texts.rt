@@ -6,7 +6,7 @@ ghost use Rattle.bson_program.specs.Texts.{AcceptedStops, HasLine, IsSequence, I
 ghost use Rattle.bson_program.specs.Texts.{IsNotJson, WritesAccepted, WritesAll, content_of, is_sequence, begin_line, mark_of, reads_several};
 ghost use Rattle.bson_program.specs.Whole.{IsUngiven};
 
-use crate::order::{Order, STANDARD};
+use crate::invocation::{Invocation, STANDARD};
 use crate::run::Stop;
 use crate::whole::accept;
 use bson::extjson::Doubles;
@@ -58,14 +58,14 @@ impl<'a> Found<'a> {
 /// reader or writer is known to the reader or writer.
 pub fn convert_texts<'a, R: Read, W: Write>(
     alloc: Global,
-    order: &'a Order,
+    invocation: &'a Invocation,
     name: &'a str,
     reader: &mut R,
     writer: &mut W,
 ) -> Result<(), Stop<'a>>
-    ensures done { OnOk result (TextsDone order.now name.now (R.remaining reader.old) (R.remaining reader.new)
+    ensures done { OnOk result (TextsDone invocation.now name.now (R.remaining reader.old) (R.remaining reader.new)
         (W.contents writer.old) (W.contents writer.new)) }
-    ensures stops { IfErr result (λ stop. TextsStop order.now stop name.now (R.remaining reader.old)
+    ensures stops { IfErr result (λ stop. TextsStop invocation.now stop name.now (R.remaining reader.old)
         (R.remaining reader.new) (W.contents writer.old) (W.contents writer.new)) }
 {
     let bytes = match read_whole(alloc, reader) {
@@ -73,25 +73,25 @@ pub fn convert_texts<'a, R: Read, W: Write>(
         Err(Fault::CannotRead) => return Err(Stop::Input(name, None)),
         Err(_) => return Err(Stop::Text(name, 0, Error::OutOfMemory, String::new(alloc))),
     };
-    let content = content_of(order, name, &bytes);
-    let accepted = match accept(alloc, order, content) {
+    let content = content_of(invocation, name, &bytes);
+    let accepted = match accept(alloc, invocation, content) {
         Ok(accepted) => accepted,
         Err(fault) => {
-            if has_several(order, &fault, content) {
-                return convert_each(alloc, order, name, content, writer);
+            if has_several(invocation, &fault, content) {
+                return convert_each(alloc, invocation, name, content, writer);
             }
-            return Err(stop_at(alloc, order, name, fault, Found::whole(content)));
+            return Err(stop_at(alloc, invocation, name, fault, Found::whole(content)));
         }
     };
     drop(bytes);
-    write_accepted(alloc, order, name, accepted, writer)
+    write_accepted(alloc, invocation, name, accepted, writer)
 }
 
 // Returns the bytes of an input after its byte order mark, if it may have one.
-fn content_of<'a>(order: &Order, name: &str, bytes: &'a [u8]) -> &'a [u8]
-    ensures { result.now ≡ content_of order.now name.now bytes.now }
+fn content_of<'a>(invocation: &Invocation, name: &str, bytes: &'a [u8]) -> &'a [u8]
+    ensures { result.now ≡ content_of invocation.now name.now bytes.now }
 {
-    let mark = mark_of(order, name);
+    let mark = mark_of(invocation, name);
     if bytes.starts_with(mark) {
         &bytes[mark.len()..]
     } else {
@@ -100,35 +100,35 @@ fn content_of<'a>(order: &Order, name: &str, bytes: &'a [u8]) -> &'a [u8]
 }
 
 // Returns what may come before the text of an input.
-fn mark_of(order: &Order, name: &str) -> &'static [u8]
-    ensures { result.now ≡ mark_of order.now name.now }
+fn mark_of(invocation: &Invocation, name: &str) -> &'static [u8]
+    ensures { result.now ≡ mark_of invocation.now name.now }
 {
     if name == STANDARD {
         return b"";
     }
-    match order.task {
+    match invocation.task {
         Task::Check(Criterion::Canonical) => b"",
         _ => BYTE_ORDER_MARK,
     }
 }
 
 // Returns whether bytes with this error are read as a sequence.
-fn has_several(order: &Order, fault: &Error, content: &[u8]) -> bool
+fn has_several(invocation: &Invocation, fault: &Error, content: &[u8]) -> bool
     ensures not_json { result ≡ true → fault.now ≡ Error.NotJson }
-    ensures several { result ≡ true → is_sequence order.now content.now ≡ true }
-    ensures one { result ≡ false → fault.now ≡ Error.NotJson → is_sequence order.now content.now ≡ false }
+    ensures several { result ≡ true → is_sequence invocation.now content.now ≡ true }
+    ensures one { result ≡ false → fault.now ≡ Error.NotJson → is_sequence invocation.now content.now ≡ false }
 {
     match fault {
-        Error::NotJson => is_sequence(order, content),
+        Error::NotJson => is_sequence(invocation, content),
         _ => false,
     }
 }
 
 // Returns whether there are several texts, and they are read.
-fn is_sequence(order: &Order, content: &[u8]) -> bool
-    ensures { result ≡ is_sequence order.now content.now }
+fn is_sequence(invocation: &Invocation, content: &[u8]) -> bool
+    ensures { result ≡ is_sequence invocation.now content.now }
 {
-    if reads_several(order.options.doubles, order.task) {
+    if reads_several(invocation.options.doubles, invocation.task) {
         has_two(content)
     } else {
         false
@@ -167,13 +167,13 @@ fn has_two(content: &[u8]) -> bool
 // Converts the texts of a sequence.
 fn convert_each<'a, W: Write>(
     alloc: Global,
-    order: &'a Order,
+    invocation: &'a Invocation,
     name: &'a str,
     content: &[u8],
     writer: &mut W,
 ) -> Result<(), Stop<'a>>
-    ensures done { OnOk result (WritesAll order.now content.now (W.contents writer.old) (W.contents writer.new)) }
-    ensures stops { IsSequence order.now content.now → IfErr result (λ stop. StopsAt order.now stop name.now content.now
+    ensures done { OnOk result (WritesAll invocation.now content.now (W.contents writer.old) (W.contents writer.new)) }
+    ensures stops { IsSequence invocation.now content.now → IfErr result (λ stop. StopsAt invocation.now stop name.now content.now
         (W.contents writer.old) (W.contents writer.new)) }
 {
     let mut rest = content;
@@ -185,7 +185,7 @@ fn convert_each<'a, W: Write>(
             text,
         };
         if !text.is_empty() {
-            convert_text(alloc, order, name, found, writer)?;
+            convert_text(alloc, invocation, name, found, writer)?;
         }
         rest = next;
     }
@@ -195,56 +195,56 @@ fn convert_each<'a, W: Write>(
 // Converts a text of a sequence.
 fn convert_text<'a, W: Write>(
     alloc: Global,
-    order: &'a Order,
+    invocation: &'a Invocation,
     name: &'a str,
     found: Found<'_>,
     writer: &mut W,
 ) -> Result<(), Stop<'a>>
-    ensures done { OnOk result (IsTextDone order.now found.entry.text.now (W.contents writer.old) (W.contents writer.new)) }
-    ensures stops { IfErr result (λ stop. TextStops order.now stop name.now found.entry.content.now found.entry.start found.entry.text.now
+    ensures done { OnOk result (IsTextDone invocation.now found.entry.text.now (W.contents writer.old) (W.contents writer.new)) }
+    ensures stops { IfErr result (λ stop. TextStops invocation.now stop name.now found.entry.content.now found.entry.start found.entry.text.now
         (W.contents writer.old) (W.contents writer.new)) }
 {
-    match accept(alloc, order, found.text) {
-        Ok(accepted) => write_accepted(alloc, order, name, accepted, writer),
-        Err(fault) => Err(stop_at(alloc, order, name, fault, found)),
+    match accept(alloc, invocation, found.text) {
+        Ok(accepted) => write_accepted(alloc, invocation, name, accepted, writer),
+        Err(fault) => Err(stop_at(alloc, invocation, name, fault, found)),
     }
 }
 
 // Writes the output of a text that was accepted.
 fn write_accepted<'a, W: Write>(
     alloc: Global,
-    order: &'a Order,
+    invocation: &'a Invocation,
     name: &'a str,
     accepted: Accepted,
     writer: &mut W,
 ) -> Result<(), Stop<'a>>
-    ensures done { OnOk result (WritesAccepted order.now accepted (W.contents writer.old) (W.contents writer.new)) }
-    ensures stops { IfErr result (λ stop. AcceptedStops order.now stop name.now accepted
+    ensures done { OnOk result (WritesAccepted invocation.now accepted (W.contents writer.old) (W.contents writer.new)) }
+    ensures stops { IfErr result (λ stop. AcceptedStops invocation.now stop name.now accepted
         (W.contents writer.old) (W.contents writer.new)) }
 {
     // (no other error is possible, since the text was accepted with these options)
-    let Ok(output) = accepted.output(alloc, order.options) else {
+    let Ok(output) = accepted.output(alloc, invocation.options) else {
         return Err(Stop::Text(name, 0, Error::OutOfMemory, String::new(alloc)));
     };
     match writer.write_all(&output) {
         Ok(()) => Ok(()),
-        Err(_) => Err(Stop::Output(order.output.as_str(), None)),
+        Err(_) => Err(Stop::Output(invocation.output.as_str(), None)),
     }
 }
 
 // Returns the stop at a text that was rejected, with its line and the place of the error.
 fn stop_at<'a>(
     alloc: Global,
-    order: &Order,
+    invocation: &Invocation,
     name: &'a str,
     fault: Error,
     found: Found<'_>,
 ) -> Stop<'a>
     ensures same { IsNotJson result → fault ≡ Error.NotJson }
-    ensures stops { (had : Option (List ℕ)) → IsUngiven order.now.options order.now.task fault found.entry.text.now
-        → TextStops order.now result name.now found.entry.content.now found.entry.start found.entry.text.now had had }
+    ensures stops { (had : Option (List ℕ)) → IsUngiven invocation.now.options invocation.now.task fault found.entry.text.now
+        → TextStops invocation.now result name.now found.entry.content.now found.entry.start found.entry.text.now had had }
 {
-    match place_of(alloc, order.task, &fault, found) {
+    match place_of(alloc, invocation.task, &fault, found) {
         Ok((line, place)) => Stop::Text(name, line, fault, place),
         Err(_) => Stop::Text(name, 0, Error::OutOfMemory, String::new(alloc)),
     }

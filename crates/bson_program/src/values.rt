@@ -1,9 +1,9 @@
 //! The values of options, and the files.
 ghost use Rattle.std.specs.Prelude.{◌≡◌, ◌<◌, ◌≤◌, ◌==◌, ◌||◌, ℕ, List, None, IfOk, IfSome, map, string_bytes, slice_index};
 ghost use Rattle.std.specs.Fmt.{decimal};
-ghost use Rattle.bson_program.specs.Order.{or_standard, IsOutputOption, IsNoCount};
+ghost use Rattle.bson_program.specs.Invocation.{or_standard, IsOutputOption, IsNoCount};
 
-use crate::order::STANDARD;
+use crate::invocation::STANDARD;
 use std::alloc::{AllocError, Global};
 
 /// Returns the files that are read: standard input if none is named.

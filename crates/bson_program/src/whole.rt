@@ -7,7 +7,7 @@ ghost use Rattle.bson_run.specs.Lines.{ChecksIn, WritesText};
 ghost use Rattle.bson_program.specs.Whole.{Checks, WritesOutput, IsUnchecked, IsUngiven, WritesIndented, WritesIndentedInOrder};
 ghost use Rattle.bson_program.specs.Whole.{Works, judged_of, without_newline};
 
-use crate::order::Order;
+use crate::invocation::Invocation;
 use bson::extjson::{Form, Options};
 use bson_convert::canonical::check_canonical;
 use bson_convert::convert::convert_sorted;
@@ -18,29 +18,29 @@ use bson_run::accepted::Accepted;
 use bson_run::encode::{encode_ordered, encode_sorted};
 use bson_run::indented::{convert_in_order_indented, convert_indented};
 use bson_run::order::{Criterion, Task, Work};
-use bson_run::taken::take_as;
+use bson_run::preprocessed::preprocess_text;
 use std::alloc::Global;
 
 /// From so many bytes on the memory of a text counts for more than a walk over it.
 const LONG: usize = 1 << 24;
 
 /// Returns what one text gives.
-pub fn accept(alloc: Global, order: &Order, bytes: &[u8]) -> Result<Accepted, Error>
-    ensures ok { IfOk result (HasOutput order.now.options (WritesOutput order.now order.now.task bytes.now)) }
-    ensures utf8 { WritesText order.now.task → IfOk result IsUtf8Accepted }
-    ensures fault { IfErr result (λ fault. IsUngiven order.now.options order.now.task fault bytes.now) }
+pub fn accept(alloc: Global, invocation: &Invocation, bytes: &[u8]) -> Result<Accepted, Error>
+    ensures ok { IfOk result (HasOutput invocation.now.options (WritesOutput invocation.now invocation.now.task bytes.now)) }
+    ensures utf8 { WritesText invocation.now.task → IfOk result IsUtf8Accepted }
+    ensures fault { IfErr result (λ fault. IsUngiven invocation.now.options invocation.now.task fault bytes.now) }
 {
-    match order.task {
-        Task::Write(mode) => accept_text(alloc, order, mode, bytes),
-        Task::WriteInOrder(mode) => accept_in_order(alloc, order, mode, bytes),
-        Task::Check(criterion) => check(alloc, order, criterion, bytes),
-        Task::Encode => Ok(Accepted::Output(encode_sorted(alloc, order.options, bytes)?)),
+    match invocation.task {
+        Task::Write(mode) => accept_text(alloc, invocation, mode, bytes),
+        Task::WriteInOrder(mode) => accept_in_order(alloc, invocation, mode, bytes),
+        Task::Check(criterion) => check(alloc, invocation, criterion, bytes),
+        Task::Encode => Ok(Accepted::Output(encode_sorted(alloc, invocation.options, bytes)?)),
         Task::EncodeInOrder => {
-            Ok(Accepted::Output(encode_ordered(alloc, order.options, bytes)?))
+            Ok(Accepted::Output(encode_ordered(alloc, invocation.options, bytes)?))
         }
-        Task::Taken(taking, work) => match take_as(alloc, taking, bytes)? {
-            Some(upgraded) => accept_upgraded(alloc, order, work, upgraded),
-            None => accept_taken(alloc, order, work, bytes),
+        Task::Preprocessed(preprocessing, work) => match preprocess_text(alloc, preprocessing, bytes)? {
+            Some(upgraded) => accept_upgraded(alloc, invocation, work, upgraded),
+            None => accept_preprocessed(alloc, invocation, work, bytes),
         },
     }
 }
@@ -49,46 +49,46 @@ pub fn accept(alloc: Global, order: &Order, bytes: &[u8]) -> Result<Accepted, Er
 // the two texts it alone is held beside the output.
 fn accept_upgraded(
     alloc: Global,
-    order: &Order,
+    invocation: &Invocation,
     work: Work,
     upgraded: String,
 ) -> Result<Accepted, Error>
-    ensures ok { IfOk result (HasOutput order.now.options (Works order.now work (string_bytes upgraded))) }
+    ensures ok { IfOk result (HasOutput invocation.now.options (Works invocation.now work (string_bytes upgraded))) }
     ensures utf8 { IfOk result IsUtf8Accepted }
-    ensures fault { IfErr result (λ fault. IsRefusedIn order.now.options fault (string_bytes upgraded)) }
+    ensures fault { IfErr result (λ fault. IsRefusedIn invocation.now.options fault (string_bytes upgraded)) }
 {
-    if upgraded.len() < LONG || order.indent.is_some() {
-        return accept_taken(alloc, order, work, upgraded.as_bytes());
+    if upgraded.len() < LONG || invocation.indent.is_some() {
+        return accept_preprocessed(alloc, invocation, work, upgraded.as_bytes());
     }
-    refuse(alloc, order.options, upgraded.as_str())?;
+    refuse(alloc, invocation.options, upgraded.as_str())?;
     match work {
         Work::Write(mode) => Ok(Accepted::Normalized(mode, upgraded)),
         Work::WriteInOrder(mode) => Ok(Accepted::NormalizedInOrder(mode, upgraded)),
-        Work::Check => check(alloc, order, Criterion::Valid, upgraded.as_bytes()),
+        Work::Check => check(alloc, invocation, Criterion::Valid, upgraded.as_bytes()),
     }
 }
 
 // What a text gives that was taken.
-fn accept_taken(alloc: Global, order: &Order, work: Work, bytes: &[u8]) -> Result<Accepted, Error>
-    ensures ok { IfOk result (HasOutput order.now.options (Works order.now work bytes.now)) }
+fn accept_preprocessed(alloc: Global, invocation: &Invocation, work: Work, bytes: &[u8]) -> Result<Accepted, Error>
+    ensures ok { IfOk result (HasOutput invocation.now.options (Works invocation.now work bytes.now)) }
     ensures utf8 { IfOk result IsUtf8Accepted }
-    ensures fault { IfErr result (λ fault. IsRefusedIn order.now.options fault bytes.now) }
+    ensures fault { IfErr result (λ fault. IsRefusedIn invocation.now.options fault bytes.now) }
 {
     match work {
-        Work::Write(mode) => accept_text(alloc, order, mode, bytes),
-        Work::WriteInOrder(mode) => accept_in_order(alloc, order, mode, bytes),
-        Work::Check => check(alloc, order, Criterion::Valid, bytes),
+        Work::Write(mode) => accept_text(alloc, invocation, mode, bytes),
+        Work::WriteInOrder(mode) => accept_in_order(alloc, invocation, mode, bytes),
+        Work::Check => check(alloc, invocation, Criterion::Valid, bytes),
     }
 }
 
 // The output in the mode, over several lines where that is asked for.
-fn accept_text(alloc: Global, order: &Order, mode: Mode, bytes: &[u8]) -> Result<Accepted, Error>
-    ensures ok { IfOk result (HasOutput order.now.options (WritesIndented order.now.options order.now.indent mode bytes.now)) }
+fn accept_text(alloc: Global, invocation: &Invocation, mode: Mode, bytes: &[u8]) -> Result<Accepted, Error>
+    ensures ok { IfOk result (HasOutput invocation.now.options (WritesIndented invocation.now.options invocation.now.indent mode bytes.now)) }
     ensures utf8 { IfOk result IsUtf8Accepted }
-    ensures fault { IfErr result (λ fault. IsRefusedIn order.now.options fault bytes.now) }
+    ensures fault { IfErr result (λ fault. IsRefusedIn invocation.now.options fault bytes.now) }
 {
-    let options = order.options;
-    match layout(order, mode) {
+    let options = invocation.options;
+    match layout(invocation, mode) {
         Some((form, spaces)) => {
             Ok(Accepted::Output(convert_indented(alloc, options, form, spaces, bytes)?))
         }
@@ -99,16 +99,16 @@ fn accept_text(alloc: Global, order: &Order, mode: Mode, bytes: &[u8]) -> Result
 // The same in the order of the text's keys.
 fn accept_in_order(
     alloc: Global,
-    order: &Order,
+    invocation: &Invocation,
     mode: Mode,
     bytes: &[u8],
 ) -> Result<Accepted, Error>
-    ensures ok { IfOk result (HasOutput order.now.options (WritesIndentedInOrder order.now.options order.now.indent mode bytes.now)) }
+    ensures ok { IfOk result (HasOutput invocation.now.options (WritesIndentedInOrder invocation.now.options invocation.now.indent mode bytes.now)) }
     ensures utf8 { IfOk result IsUtf8Accepted }
-    ensures fault { IfErr result (λ fault. IsRefusedIn order.now.options fault bytes.now) }
+    ensures fault { IfErr result (λ fault. IsRefusedIn invocation.now.options fault bytes.now) }
 {
-    let options = order.options;
-    match layout(order, mode) {
+    let options = invocation.options;
+    match layout(invocation, mode) {
         Some((form, spaces)) => {
             Ok(Accepted::Output(convert_in_order_indented(alloc, options, form, spaces, bytes)?))
         }
@@ -119,15 +119,15 @@ fn accept_in_order(
 // Nothing, of a text that the criterion accepts.
 fn check(
     alloc: Global,
-    order: &Order,
+    invocation: &Invocation,
     criterion: Criterion,
     bytes: &[u8],
 ) -> Result<Accepted, Error>
-    ensures ok { IfOk result (HasOutput order.now.options (Checks order.now.options criterion bytes.now)) }
+    ensures ok { IfOk result (HasOutput invocation.now.options (Checks invocation.now.options criterion bytes.now)) }
     ensures utf8 { IfOk result IsUtf8Accepted }
-    ensures fault { IfErr result (λ fault. IsUnchecked order.now.options criterion fault bytes.now) }
+    ensures fault { IfErr result (λ fault. IsUnchecked invocation.now.options criterion fault bytes.now) }
 {
-    judge(alloc, order.options, criterion, bytes)?;
+    judge(alloc, invocation.options, criterion, bytes)?;
     Ok(Accepted::Output(Vec::new(alloc)))
 }
 
@@ -157,12 +157,12 @@ fn strip_newline(bytes: &[u8]) -> &[u8]
 }
 
 // The form that is laid out over several lines, and by how many spaces.
-fn layout(order: &Order, mode: Mode) -> Option<(Form, usize)>
+fn layout(invocation: &Invocation, mode: Mode) -> Option<(Form, usize)>
     ensures some { IfSome result (λ laid. (mode ≡ mode_of laid.0) × (mode ≢ Mode.Show)
-        × (order.now.indent ≡ Some laid.1)) }
-    ensures none { result ≡ None → (order.now.indent ≡ None) ⊎ (mode ≡ Mode.Show) }
+        × (invocation.now.indent ≡ Some laid.1)) }
+    ensures none { result ≡ None → (invocation.now.indent ≡ None) ⊎ (mode ≡ Mode.Show) }
 {
-    let spaces = order.indent?;
+    let spaces = invocation.indent?;
     match mode {
         Mode::Canonical => Some((Form::Canonical, spaces)),
         Mode::Relaxed => Some((Form::Relaxed, spaces)),

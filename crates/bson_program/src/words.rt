@@ -1,5 +1,5 @@
 //! The texts that the program writes about itself.
-use crate::order::Command;
+use crate::invocation::Command;
 
 /// The message if there is no memory for any other.
 pub const OUT_OF_MEMORY: &str = "bson: out of memory";

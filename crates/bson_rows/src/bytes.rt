@@ -151,9 +151,9 @@ fn dump(alloc: Global, text: &str, out: &mut Answer) -> Outcome {
 fn run(alloc: Global, run: Run, bytes: &[u8], out: &mut Answer) -> Outcome {
     let mut reader = bytes;
     let mut written = Vec::with_capacity(alloc, ROOM)?;
-    let mut told = Vec::with_capacity(alloc, ROOM)?;
-    let ended = run_documents(alloc, run, &mut reader, &mut written, &mut told);
-    for text in [written.as_slice(), told.as_slice()] {
+    let mut reported = Vec::with_capacity(alloc, ROOM)?;
+    let ended = run_documents(alloc, run, &mut reader, &mut written, &mut reported);
+    for text in [written.as_slice(), reported.as_slice()] {
         if let Ok(text) = std::str::from_utf8(text) {
             out.text(text);
         }

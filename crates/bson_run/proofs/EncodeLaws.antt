@@ -139,14 +139,14 @@ module _ (o : Options) (text : List ℕ) where
 
   -- ---- what gives no bytes
 
-  told : (fault : Error) → IsUnencodedFor (HasTextMeaningIn o.doubles text) fault → IsUnencodedIn o fault text
-  told CannotRead f = f
-  told NotJson f = absurd f
-  told (NotExtendedJson place) f = absurd f
-  told (NoBytes why) f = f
-  told (NotCanonical column) f = f
-  told OutOfMemory f = tt
-  told CannotWrite f = f
+  reported : (fault : Error) → IsUnencodedFor (HasTextMeaningIn o.doubles text) fault → IsUnencodedIn o fault text
+  reported CannotRead f = f
+  reported NotJson f = absurd f
+  reported (NotExtendedJson place) f = absurd f
+  reported (NoBytes why) f = f
+  reported (NotCanonical column) f = f
+  reported OutOfMemory f = tt
+  reported CannotWrite f = f
 
   told_kept : (fault : Error) → IsUnencodedFor (MeansKept o text) fault → IsUnencodedInOrder o fault text
   told_kept CannotRead f = f
@@ -159,7 +159,7 @@ module _ (o : Options) (text : List ℕ) where
 
   pub unencoded : (value : Value) (fault : Error) → HasTextMeaningIn o.doubles text value
       → IsUnencodedFor (λ v. v ≡ value) fault → IsUnencodedIn o fault text
-  unencoded value fault h f = told fault (unencoded_by (HasTextMeaningIn o.doubles text) value h fault f)
+  unencoded value fault h f = reported fault (unencoded_by (HasTextMeaningIn o.doubles text) value h fault f)
 
   pub unencoded_kept : (value : Value) (fault : Error) → MeansKept o text value
       → IsUnencodedFor (λ v. v ≡ value) fault → IsUnencodedInOrder o fault text

@@ -15,7 +15,7 @@ use Rattle.json.proofs.Printed.Tokens.{tokens-print_spaced}
 use Rattle.json.proofs.Printed.Utf8.{IsUtf8-are_ascii}
 use Rattle.json.proofs.Printed.Trees.{ArePrintable-json_tokens}
 use Rattle.json.proofs.Unique.Spelling.{value-json_tokens_back}
-use Rattle.bson_run.specs.Indent.{line, gap, stands, leaves, spaced, indented, HasSameTokens, last_of, Lays, IsWhole}
+use Rattle.bson_run.specs.Indent.{line, gap, stands, leaves, spaced, indented, HasSameTokens, last_of, IsTokenLaidOut, IsWhole}
 use Rattle.bson_run.specs.declared.indent.Layout.{Layout}
 
 pub print_one : (t : Token) → print (t ∷ []) ≡ token_text t
@@ -52,7 +52,7 @@ regrouped : (out comma between text rest : List ℕ)
 regrouped out comma between text rest = simp append_assoc
 
 pub one_more : (n : ℕ) (all left ts : List Token) (t : Token) (s u : Layout) → left ≡ t ∷ ts → (w : IsWhole n all left s)
-    → Lays n w.indent s u t → IsWhole n all ts u
+    → IsTokenLaidOut n w.indent s u t → IsWhole n all ts u
 unfolding print_spaced spaced
 one_more n all left ts t s u e w l =
     let more = λ (last : Last). spaced n last (leaves n t w.indent) ts in
@@ -100,7 +100,7 @@ comma_utf8 true = IsUtf8-are_ascii (44 ∷ []) refl
 comma_utf8 false = IsUtf8-nil
 
 -- a token more
-pub utf8_more : (n indent : ℕ) (s u : Layout) (t : Token) → Lays n indent s u t → IsUtf8 (token_text t)
+pub utf8_more : (n indent : ℕ) (s u : Layout) (t : Token) → IsTokenLaidOut n indent s u t → IsUtf8 (token_text t)
     → IsUtf8 s.out.items → IsUtf8 u.out.items
 utf8_more n indent s u t l text before =
     let last = last_of s.before in

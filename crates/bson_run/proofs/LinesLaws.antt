@@ -7,9 +7,9 @@ use Rattle.std.proofs.lemmas.List.{take_rest}
 use Rattle.std.proofs.lemmas.List.Elements.{All-append, All-head, All-tail}
 use Rattle.std.proofs.lemmas.Str.{IsUtf8-append}
 use Rattle.std.specs.Prelude.{IsUtf8}
-use Rattle.bson_run.specs.Lines.{lines, onto_first, text_held, line_text, Tells, IsBlank, IsBadLineIn, WritesIn, WritesText, GivesIn}
+use Rattle.bson_run.specs.Lines.{lines, onto_first, text_held, line_text, IsDiagnostic, IsBlank, IsBadLineIn, WritesIn, WritesText, GivesIn}
 use Rattle.bson_run.specs.Lines.{blank, written, passed_over, IsStoppedIn, IsStoppedAtIn}
-use Rattle.bson_run.specs.LinesSteps.{Options, HasNoNewline, IsJudged, IsTold, HaveSameOutcomes, TakesLine}
+use Rattle.bson_run.specs.LinesSteps.{Options, HasNoNewline, IsJudged, IsReported, HaveSameOutcomes, TakesLine}
 use Rattle.bson_run.specs.LinesSteps.{Progress, Takes, Ends, Reached, Stopped, StopsWithin, StopsLast}
 use Rattle.bson_run.specs.LinesSteps.{Error, CannotRead, NotJson, NotExtendedJson, NoBytes, OutOfMemory}
 use Rattle.bson_run.specs.LinesSteps.{CannotWrite, Collected, NotCanonical, OnRefusal, Task}
@@ -125,74 +125,74 @@ module _ {o : Options} {task : Task} {on_refusal : OnRefusal} where
   -- ---- what a line gives
 
   pub blank_taken : (s t : Collected) → t.line.items ≡ [] → t.lines ≡ s.lines + 1 → t.output.items ≡ s.output.items
-      → t.told.items ≡ s.told.items → t.refused ≡ s.refused
+      → t.reported.items ≡ s.reported.items → t.refused ≡ s.refused
       → IsBlank (line_text s.lines s.line.items) → TakesLine o task on_refusal s t
-  blank_taken s t line number output told refused h = record {
+  blank_taken s t line number output reported refused h = record {
     line = line;
     lines = number;
     outcomes =
-        λ before written verdicts e p. rw (output, told, refused) (record {
+        λ before written verdicts e p. rw (output, reported, refused) (record {
           outcomes = blank s.line.items p.outcomes (subst (λ n. IsBlank (line_text n s.line.items)) e h);
           utf8 = p.utf8;
-          told_utf8 = p.told_utf8;
+          diagnostic_utf8 = p.diagnostic_utf8;
         });
   }
 
   pub written_taken : (s t : Collected) (more : List ℕ) → t.line.items ≡ [] → t.lines ≡ s.lines + 1
-      → t.output.items ≡ s.output.items ++ more → t.told.items ≡ s.told.items → t.refused ≡ s.refused
+      → t.output.items ≡ s.output.items ++ more → t.reported.items ≡ s.reported.items → t.refused ≡ s.refused
       → WritesIn o task (line_text s.lines s.line.items) more → (WritesText task → IsUtf8 more)
       → TakesLine o task on_refusal s t
-  written_taken s t more line number grown told refused h utf8 = record {
+  written_taken s t more line number grown reported refused h utf8 = record {
     line = line;
     lines = number;
     outcomes =
-        λ before output verdicts e p. rw (grown, told, refused, ← append_assoc output s.output.items more) (record {
+        λ before output verdicts e p. rw (grown, reported, refused, ← append_assoc output s.output.items more) (record {
           outcomes = written s.line.items more p.outcomes (subst (λ n. WritesIn o task (line_text n s.line.items) more) e h);
           utf8 = λ w. IsUtf8-append (output ++ s.output.items) more (p.utf8 w) (utf8 w);
-          told_utf8 = p.told_utf8;
+          diagnostic_utf8 = p.diagnostic_utf8;
         });
   }
 
   pub told_taken : (s t : Collected) (fault : Error) → t.line.items ≡ [] → t.lines ≡ s.lines + 1
       → t.output.items ≡ s.output.items → t.refused ≡ s.refused + 1 → on_refusal ≢ Stop
       → IsBadLineIn o task fault (line_text s.lines s.line.items)
-      → IsTold o task (s.lines + 1) fault (line_text s.lines s.line.items) s.told.items t.told.items
+      → IsReported o task (s.lines + 1) fault (line_text s.lines s.line.items) s.reported.items t.reported.items
       → TakesLine o task on_refusal s t
-  told_taken s t fault line number output refused goes h told = record {
+  told_taken s t fault line number output refused goes h reported = record {
     line = line;
     lines = number;
     outcomes = λ before written verdicts e p.
-        rw (output, told.2, refused, ← append_assoc verdicts s.told.items told.0) (record {
-          outcomes = passed_over s.line.items fault told.0 p.outcomes goes
+        rw (output, reported.2, refused, ← append_assoc verdicts s.reported.items reported.0) (record {
+          outcomes = passed_over s.line.items fault reported.0 p.outcomes goes
               (subst (λ n. IsBadLineIn o task fault (line_text n s.line.items)) e h)
-              (subst (λ n. Tells (n + 1) fault (line_text n s.line.items) told.0) e (told.1 h));
+              (subst (λ n. IsDiagnostic (n + 1) fault (line_text n s.line.items) reported.0) e (reported.1 h));
           utf8 = p.utf8;
-          told_utf8 = IsUtf8-append (verdicts ++ s.told.items) told.0 p.told_utf8 told.3;
+          diagnostic_utf8 = IsUtf8-append (verdicts ++ s.reported.items) reported.0 p.diagnostic_utf8 reported.3;
         });
   }
 
   -- ---- taking bytes
 
   pub take_nothing : (s : Collected) → Takes o task on_refusal [] s s
-  take_nothing s before output told p =
-      subst (λ l. Progress o task on_refusal l output told s) (sym (append-nil before)) p
+  take_nothing s before output reported p =
+      subst (λ l. Progress o task on_refusal l output reported s) (sym (append-nil before)) p
 
   pub take_more : (xs ys : List ℕ) (s t u : Collected) → Takes o task on_refusal xs s t → Takes o task on_refusal ys t u
       → Takes o task on_refusal (xs ++ ys) s u
-  take_more xs ys s t u f g before output told p =
-      subst (λ l. Progress o task on_refusal l output told u) (append_assoc before xs ys)
-      (g (before ++ xs) output told (f before output told p))
+  take_more xs ys s t u f g before output reported p =
+      subst (λ l. Progress o task on_refusal l output reported u) (append_assoc before xs ys)
+      (g (before ++ xs) output reported (f before output reported p))
 
   -- a piece of the line
   pub span_taken : (span : List ℕ) (s t : Collected) → HasNoNewline span → t.line.items ≡ s.line.items ++ span
       → HaveSameOutcomes s t → Takes o task on_refusal span s t
-  span_taken span s t h e same before output told p = record {
+  span_taken span s t h e same before output reported p = record {
     done = p.done;
     whole = λ more. ap lines (append_assoc before span more) ∙ p.whole (span ++ more)
         ∙ ap (λ l. p.done ++ lines l) (sym (append_assoc s.line.items span more) ∙ ap (λ l. l ++ more) (sym e));
     unbroken = subst HasNoNewline (sym e) (open_both s.line.items span p.unbroken h);
     counted = same.lines ∙ p.counted;
-    outcomes = rw (same.output, same.told, same.refused) p.outcomes;
+    outcomes = rw (same.output, same.reported, same.refused) p.outcomes;
   }
     where
       open_both : (xs ys : List ℕ) → HasNoNewline xs → HasNoNewline ys → HasNoNewline (xs ++ ys)
@@ -200,7 +200,7 @@ module _ {o : Options} {task : Task} {on_refusal : OnRefusal} where
 
   -- the newline that ends it
   pub newline_taken : (s t : Collected) → TakesLine o task on_refusal s t → Takes o task on_refusal (10 ∷ []) s t
-  newline_taken s t taken before output told p = record {
+  newline_taken s t taken before output reported p = record {
     done = p.done ++ s.line.items ∷ [];
     whole = λ more. ap lines (append_assoc before (10 ∷ []) more) ∙ p.whole (10 ∷ more)
         ∙ ap (λ l. p.done ++ l) (lines_ended s.line.items more p.unbroken)
@@ -208,36 +208,36 @@ module _ {o : Options} {task : Task} {on_refusal : OnRefusal} where
         ∙ ap (λ l. (p.done ++ s.line.items ∷ []) ++ lines (l ++ more)) (sym taken.line);
     unbroken = subst HasNoNewline (sym taken.line) open_nil;
     counted = taken.lines ∙ ap (λ n. n + 1) p.counted ∙ sym (length-append p.done (s.line.items ∷ []));
-    outcomes = taken.outcomes p.done output told p.counted p.outcomes;
+    outcomes = taken.outcomes p.done output reported p.counted p.outcomes;
   }
 
   -- ---- stopping
 
-  pub reached : {bytes output told : List ℕ} {s : Collected} (t : Collected) (more : List ℕ) → HaveSameOutcomes s t
-      → Progress o task on_refusal bytes output told s → Reached o task on_refusal (bytes ++ more) output told t
+  pub reached : {bytes output reported : List ℕ} {s : Collected} (t : Collected) (more : List ℕ) → HaveSameOutcomes s t
+      → Progress o task on_refusal bytes output reported s → Reached o task on_refusal (bytes ++ more) output reported t
   reached {s} t more same p = record {
     done = p.done;
     others = lines (s.line.items ++ more);
     whole = p.whole more;
     counted = same.lines ∙ p.counted;
-    outcomes = rw (same.output, same.told, same.refused) p.outcomes;
+    outcomes = rw (same.output, same.reported, same.refused) p.outcomes;
   }
 
   pub stops_after : (xs ys : List ℕ) (fault : Error) (s t u : Collected) → Takes o task on_refusal xs s t
       → StopsWithin o task on_refusal ys fault t u → StopsWithin o task on_refusal (xs ++ ys) fault s u
-  stops_after xs ys fault s t u f g before output told more p =
-      subst (λ l. Stopped o task on_refusal (l ++ more) output told fault u) (append_assoc before xs ys)
-      (g (before ++ xs) output told more (f before output told p))
+  stops_after xs ys fault s t u f g before output reported more p =
+      subst (λ l. Stopped o task on_refusal (l ++ more) output reported fault u) (append_assoc before xs ys)
+      (g (before ++ xs) output reported more (f before output reported p))
 
   pub memory_stops : (bytes : List ℕ) (fault : Error) (s t : Collected) → fault ≡ OutOfMemory → HaveSameOutcomes s t
       → StopsWithin o task on_refusal bytes fault s t
-  memory_stops bytes fault s t e same before output told more p = record {
+  memory_stops bytes fault s t e same before output reported more p = record {
     reached = record {
       done = p.done;
       others = lines (s.line.items ++ (bytes ++ more));
       whole = ap lines (append_assoc before bytes more) ∙ p.whole (bytes ++ more);
       counted = same.lines ∙ p.counted;
-      outcomes = rw (same.output, same.told, same.refused) p.outcomes;
+      outcomes = rw (same.output, same.reported, same.refused) p.outcomes;
     };
     reason = by_memory o task on_refusal fault (text_held t) (length p.done) (lines (s.line.items ++ (bytes ++ more))) e;
   }
@@ -245,14 +245,14 @@ module _ {o : Options} {task : Task} {on_refusal : OnRefusal} where
   pub line_stops : (bytes : List ℕ) (fault : Error) (s t : Collected)
       → IsStoppedIn o task on_refusal fault (text_held s) → HaveSameOutcomes s t → t.line ≡ s.line
       → StopsWithin o task on_refusal (10 ∷ bytes) fault s t
-  line_stops bytes fault s t h same held before output told more p = record {
+  line_stops bytes fault s t h same held before output reported more p = record {
     reached = record {
       done = p.done;
       others = s.line.items ∷ lines (bytes ++ more);
       whole = ap lines (append_assoc before (10 ∷ bytes) more) ∙ p.whole (10 ∷ bytes ++ more)
           ∙ ap (λ l. p.done ++ l) (lines_ended s.line.items (bytes ++ more) p.unbroken);
       counted = same.lines ∙ p.counted;
-      outcomes = rw (same.output, same.told, same.refused) p.outcomes;
+      outcomes = rw (same.output, same.reported, same.refused) p.outcomes;
     };
     reason =
         stopped_at o task on_refusal fault (text_held t) (length p.done) s.line.items (lines (bytes ++ more))
@@ -262,45 +262,45 @@ module _ {o : Options} {task : Task} {on_refusal : OnRefusal} where
 
   -- ---- the last line
 
-  last_whole : {bytes output told : List ℕ} {s : Collected} → (p : Progress o task on_refusal bytes output told s)
+  last_whole : {bytes output reported : List ℕ} {s : Collected} → (p : Progress o task on_refusal bytes output reported s)
       → lines bytes ≡ p.done ++ lines s.line.items
   last_whole {bytes} {s} p =
       ap lines (sym (append-nil bytes)) ∙ p.whole [] ∙ ap (λ l. p.done ++ lines l) (append-nil s.line.items)
 
   pub no_last : (s : Collected) → length s.line.items ≡ 0 → Ends o task on_refusal s s
-  no_last s none before output told p =
+  no_last s none before output reported p =
       let all : lines before ≡ p.done =
       last_whole p ∙ ap (λ l. p.done ++ l) (lines_none s.line.items none) ∙ append-nil p.done in
       record {
         counted = p.counted ∙ ap length (sym all);
         outcomes =
-            subst (λ l. GivesIn o task on_refusal l (output ++ s.output.items) (told ++ s.told.items) s.refused)
+            subst (λ l. GivesIn o task on_refusal l (output ++ s.output.items) (reported ++ s.reported.items) s.refused)
             (sym all) p.outcomes;
       }
 
   pub last_taken : (s t : Collected) → 0 < length s.line.items → TakesLine o task on_refusal s t
       → Ends o task on_refusal s t
-  last_taken s t some taken before output told p =
+  last_taken s t some taken before output reported p =
       let all : lines before ≡ p.done ++ s.line.items ∷ [] =
       last_whole p ∙ ap (λ l. p.done ++ l) (lines_last s.line.items p.unbroken some) in
       record {
         counted = taken.lines ∙ ap (λ n. n + 1) p.counted ∙ sym (length-append p.done (s.line.items ∷ []))
             ∙ ap length (sym all);
         outcomes =
-            subst (λ l. GivesIn o task on_refusal l (output ++ t.output.items) (told ++ t.told.items) t.refused)
-            (sym all) (taken.outcomes p.done output told p.counted p.outcomes);
+            subst (λ l. GivesIn o task on_refusal l (output ++ t.output.items) (reported ++ t.reported.items) t.refused)
+            (sym all) (taken.outcomes p.done output reported p.counted p.outcomes);
       }
 
   pub last_stops : (fault : Error) (s t : Collected) → 0 < length s.line.items
       → IsStoppedIn o task on_refusal fault (text_held s) → HaveSameOutcomes s t → t.line ≡ s.line
       → StopsLast o task on_refusal fault s t
-  last_stops fault s t some h same held before output told p = record {
+  last_stops fault s t some h same held before output reported p = record {
     reached = record {
       done = p.done;
       others = s.line.items ∷ [];
       whole = last_whole p ∙ ap (λ l. p.done ++ l) (lines_last s.line.items p.unbroken some);
       counted = same.lines ∙ p.counted;
-      outcomes = rw (same.output, same.told, same.refused) p.outcomes;
+      outcomes = rw (same.output, same.reported, same.refused) p.outcomes;
     };
     reason =
         stopped_at o task on_refusal fault (text_held t) (length p.done) s.line.items []

@@ -29,23 +29,23 @@ use Rattle.bson_run.proofs.OneRead.{blank_taken, blank_turned, one_taken}
 use Rattle.bson_run.specs.Encode.{FailsFor, HasNoBytesFor, IsBytesOf, IsNoDocument, MeansKept}
 use Rattle.bson_run.specs.InOrder.{ConvertsInOrder, IsOutputInOrder}
 use Rattle.bson_run.specs.Lines.{ChecksIn, IsBlank, IsUncanonicalFor, IsWithoutBytes, WorksIn, WritesIn}
-use Rattle.bson_run.specs.Taken.{IsTakenAs, IsTurnedAway}
+use Rattle.bson_run.specs.Preprocessed.{IsPreprocessedAs, IsRejectedBefore}
 use Rattle.bson_run.specs.declared.order.Criterion.{Criterion}
 use Rattle.bson_run.specs.declared.order.Criterion.TheVariants as criterion
 use Rattle.bson_run.specs.declared.order.Criterion.TheVariants.{Valid}
 use Rattle.bson_run.specs.declared.order.Task.{Task}
-use Rattle.bson_run.specs.declared.order.Task.TheVariants.{Write, WriteInOrder, Check, Encode, EncodeInOrder, Taken}
+use Rattle.bson_run.specs.declared.order.Task.TheVariants.{Write, WriteInOrder, Check, Encode, EncodeInOrder, Preprocessed}
 use Rattle.bson_run.specs.declared.order.Work.{Work}
 use Rattle.bson_run.specs.declared.order.Work.TheVariants as work
 
 -- ---- what is read in the place of a text
 
 abbrev pub Reads : Task → (text read : List ℕ) → Type 0
-Reads (Taken taking work) text read = IsTakenAs taking text read
+Reads (Preprocessed preprocessing work) text read = IsPreprocessedAs preprocessing text read
 Reads task text read = read ≡ text
 
 abbrev pub Turned : Task → Place → List ℕ → Type 0
-Turned (Taken taking work) place text = IsTurnedAway taking place text
+Turned (Preprocessed preprocessing work) place text = IsRejectedBefore preprocessing place text
 Turned task place text = ⊥
 
 pub one_read : (task : Task) (text a b : List ℕ) → Reads task text a → Reads task text b → a ≡ b
@@ -54,7 +54,7 @@ one_read (WriteInOrder mode) text a b x y = x ∙ sym y
 one_read (Check criterion) text a b x y = x ∙ sym y
 one_read Encode text a b x y = x ∙ sym y
 one_read EncodeInOrder text a b x y = x ∙ sym y
-one_read (Taken taking work) text a b x y = one_taken taking text a b x y
+one_read (Preprocessed preprocessing work) text a b x y = one_taken preprocessing text a b x y
 
 pub blank_read : (task : Task) (text a : List ℕ) → IsBlank text → Reads task text a → a ≡ text
 blank_read (Write mode) text a h x = x
@@ -62,7 +62,7 @@ blank_read (WriteInOrder mode) text a h x = x
 blank_read (Check criterion) text a h x = x
 blank_read Encode text a h x = x
 blank_read EncodeInOrder text a h x = x
-blank_read (Taken taking work) text a h x = blank_taken taking text a h x
+blank_read (Preprocessed preprocessing work) text a h x = blank_taken preprocessing text a h x
 
 pub turned_blank : (task : Task) (place : Place) (text : List ℕ) → IsBlank text → Turned task place text → ⊥
 turned_blank (Write mode) place text h x = x
@@ -70,7 +70,7 @@ turned_blank (WriteInOrder mode) place text h x = x
 turned_blank (Check criterion) place text h x = x
 turned_blank Encode place text h x = x
 turned_blank EncodeInOrder place text h x = x
-turned_blank (Taken taking work) place text h x = blank_turned taking place text h x
+turned_blank (Preprocessed preprocessing work) place text h x = blank_turned preprocessing place text h x
 
 -- ---- causes
 
@@ -208,9 +208,9 @@ module _ (o : Options) where
   one_written (Check criterion) text a b x y = x.1 ∙ sym y.1
   one_written Encode text a b x y = ascending_one o text b a y x
   one_written EncodeInOrder text a b x y = in_order_one o text b a y x
-  one_written (Taken taking it) text a b x y =
+  one_written (Preprocessed preprocessing it) text a b x y =
       one_work it x.0 a b x.2
-      (subst (λ t. WorksIn o it t b) (one_taken taking text y.0 x.0 y.1 x.1) y.2)
+      (subst (λ t. WorksIn o it t b) (one_taken preprocessing text y.0 x.0 y.1 x.1) y.2)
 
   -- what is written of a text means something
   pub written_read : (task : Task) (text a : List ℕ) → WritesIn o task text a
@@ -221,7 +221,7 @@ module _ (o : Options) where
   written_read Encode text a x = (text, refl, meant text (document x.pairs) x.meaning)
   written_read EncodeInOrder text a x =
       (text, refl, by_default text (document x.pairs) x.meaning.0 x.meaning.1)
-  written_read (Taken taking it) text a x = (x.0, x.1, works it x.0 a x.2)
+  written_read (Preprocessed preprocessing it) text a x = (x.0, x.1, works it x.0 a x.2)
 
   -- ---- what has no bytes
 
@@ -249,7 +249,7 @@ module _ (o : Options) where
   without_read Encode why text h =
       (refl, fails_meant text why (fails_of (HasTextMeaningIn o.doubles text) why h))
   without_read EncodeInOrder why text h = (refl, fails_kept text why (fails_of (MeansKept o text) why h))
-  without_read (Taken taking it) why text h = absurd h
+  without_read (Preprocessed preprocessing it) why text h = absurd h
 
   -- ---- what is not canonical
 
@@ -261,7 +261,7 @@ module _ (o : Options) where
   uncanonical_read (Check criterion.Canonical) column text h = (refl, converts Canonical text (h.text ++ newline) h.converts)
   uncanonical_read Encode column text h = absurd h
   uncanonical_read EncodeInOrder column text h = absurd h
-  uncanonical_read (Taken taking it) column text h = absurd h
+  uncanonical_read (Preprocessed preprocessing it) column text h = absurd h
 
   pub uncanonical_bytes : (task : Task) (column : ℕ) (why : without.NoBytes) (text : List ℕ) → IsUncanonicalFor o task column text
       → IsWithoutBytes o task why text → ⊥
@@ -270,7 +270,7 @@ module _ (o : Options) where
   uncanonical_bytes (Check criterion) column why text h x = x
   uncanonical_bytes Encode column why text h x = h
   uncanonical_bytes EncodeInOrder column why text h x = h
-  uncanonical_bytes (Taken taking it) column why text h x = h
+  uncanonical_bytes (Preprocessed preprocessing it) column why text h x = h
 
   pub uncanonical_written : (task : Task) (column : ℕ) (text a : List ℕ) → IsUncanonicalFor o task column text
       → WritesIn o task text a → ⊥
@@ -282,7 +282,7 @@ module _ (o : Options) where
       no_difference column text h.text h.differ (sym (append_cancel_right h.text text newline ended))
   uncanonical_written Encode column text a h x = h
   uncanonical_written EncodeInOrder column text a h x = h
-  uncanonical_written (Taken taking it) column text a h x = h
+  uncanonical_written (Preprocessed preprocessing it) column text a h x = h
 
   pub one_column : (task : Task) (column other : ℕ) (text : List ℕ) → IsUncanonicalFor o task column text
       → IsUncanonicalFor o task other text → column ≡ other
@@ -295,4 +295,4 @@ module _ (o : Options) where
       one_difference column other text x.text x.differ (subst (IsFirstDifferenceAt other text) same y.differ)
   one_column Encode column other text x y = absurd x
   one_column EncodeInOrder column other text x y = absurd x
-  one_column (Taken taking it) column other text x y = absurd x
+  one_column (Preprocessed preprocessing it) column other text x y = absurd x

@@ -19,9 +19,9 @@ use Rattle.bson_v1.specs.Text.{IsUpgradedText}
 use Rattle.bson_tree.specs.Place.{PathSegment, path_of}
 use Rattle.bson_tree.specs.declared.place.Place.{Place}
 use Rattle.bson_run.specs.Lines.{IsBlank}
-use Rattle.bson_run.specs.Taken.{HasDoubleKeyAt, HasNoDoubleKey, IsNoJson, IsTakenAs, IsTurnedAway, UpgradesTo}
-use Rattle.bson_run.specs.declared.order.Taking.{Taking}
-use Rattle.bson_run.specs.declared.order.Taking.TheVariants.{Distinct, Legacy, DistinctLegacy}
+use Rattle.bson_run.specs.Preprocessed.{HasDoubleKeyAt, HasNoDoubleKey, IsNoJson, IsPreprocessedAs, IsRejectedBefore, UpgradesTo}
+use Rattle.bson_run.specs.declared.order.Preprocessing.{Preprocessing}
+use Rattle.bson_run.specs.declared.order.Preprocessing.TheVariants.{Distinct, Legacy, DistinctLegacy}
 
 -- ---- a JSON text each of whose numbers is in range is read
 
@@ -80,7 +80,7 @@ one_newer text a b (inl x) (inr y) = absurd (not_json text a x.0 x.1 y.0)
 one_newer text a b (inr x) (inl y) = absurd (not_json text b y.0 y.1 x.0)
 one_newer text a b (inr x) (inr y) = x.1 ∙ sym y.1
 
-pub one_taken : (taking : Taking) (text a b : List ℕ) → IsTakenAs taking text a → IsTakenAs taking text b → a ≡ b
+pub one_taken : (preprocessing : Preprocessing) (text a b : List ℕ) → IsPreprocessedAs preprocessing text a → IsPreprocessedAs preprocessing text b → a ≡ b
 one_taken Distinct text a b x y = x.1 ∙ sym y.1
 one_taken Legacy text a b x y = one_newer text a b x y
 one_taken DistinctLegacy text a b x y = one_newer text a b x.1 y.1
@@ -122,7 +122,7 @@ stays text a h (inl x) =
 stays text a h (inr x) = x.1
 
 -- it is read itself
-pub blank_taken : (taking : Taking) (text a : List ℕ) → IsBlank text → IsTakenAs taking text a → a ≡ text
+pub blank_taken : (preprocessing : Preprocessing) (text a : List ℕ) → IsBlank text → IsPreprocessedAs preprocessing text a → a ≡ text
 blank_taken Distinct text a h x = x.1
 blank_taken Legacy text a h x = stays text a h x
 blank_taken DistinctLegacy text a h x = stays text a h x.1
@@ -134,7 +134,7 @@ blank_double place text h x =
     cc
 
 -- and not turned away
-pub blank_turned : (taking : Taking) (place : Place) (text : List ℕ) → IsBlank text → IsTurnedAway taking place text → ⊥
+pub blank_turned : (preprocessing : Preprocessing) (place : Place) (text : List ℕ) → IsBlank text → IsRejectedBefore preprocessing place text → ⊥
 blank_turned Distinct place text h x = blank_double place text h x
 blank_turned Legacy place text h x = x
 blank_turned DistinctLegacy place text h x = blank_double place text h x
@@ -145,8 +145,8 @@ module _ (twice : (j : json.Json) (path : List PathSegment) → DuplicateAt j pa
   not_both : (place : Place) (text : List ℕ) → HasDoubleKeyAt place text → HasNoDoubleKey text → ⊥
   not_both place text h none = twice h.1.0 (path_of place) h.1.2 (none h.1.0 h.0 h.1.1)
 
-  pub not_taken : (taking : Taking) (place : Place) (text a : List ℕ) → IsTurnedAway taking place text
-      → IsTakenAs taking text a → ⊥
+  pub not_taken : (preprocessing : Preprocessing) (place : Place) (text a : List ℕ) → IsRejectedBefore preprocessing place text
+      → IsPreprocessedAs preprocessing text a → ⊥
   not_taken Distinct place text a h is = not_both place text h is.0
   not_taken Legacy place text a h is = h
   not_taken DistinctLegacy place text a h is = not_both place text h is.0
@@ -160,8 +160,8 @@ module _ (one_path : (j : json.Json) (path other : List PathSegment) → Duplica
       let same : y.1.0 ≡ x.1.0 = cc in
       one_path x.1.0 (path_of place) (path_of other) x.1.2 (subst (λ j. DuplicateAt j (path_of other)) same y.1.2)
 
-  pub one_turned : (taking : Taking) (place other : Place) (text : List ℕ) → IsTurnedAway taking place text
-      → IsTurnedAway taking other text → path_of place ≡ path_of other
+  pub one_turned : (preprocessing : Preprocessing) (place other : Place) (text : List ℕ) → IsRejectedBefore preprocessing place text
+      → IsRejectedBefore preprocessing other text → path_of place ≡ path_of other
   one_turned Distinct place other text x y = one_double place other text x y
   one_turned Legacy place other text x y = absurd x
   one_turned DistinctLegacy place other text x y = one_double place other text x y

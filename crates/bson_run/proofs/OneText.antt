@@ -20,7 +20,7 @@ use Rattle.bson_run.specs.Encode.{MeansKept}
 use Rattle.bson_run.specs.Lines.{IsBadLineIn, IsBlank, IsUncanonicalFor, IsWithoutBytes, WritesIn}
 use Rattle.bson_run.specs.Outcomes.{IsSameFault}
 use Rattle.bson_run.specs.declared.order.Task.{Task}
-use Rattle.bson_run.specs.declared.order.Task.TheVariants.{Write, WriteInOrder, Check, Encode, EncodeInOrder, Taken}
+use Rattle.bson_run.specs.declared.order.Task.TheVariants.{Write, WriteInOrder, Check, Encode, EncodeInOrder, Preprocessed}
 use Rattle.bson_run.proofs.OneOutput.{Reads, Turned, blank_read, fails_of, fault_text, has_bytes, no_fault, no_text, one_kept, one_meant}
 use Rattle.bson_run.proofs.OneOutput.{one_column, one_read, one_written, same_cause, same_path, turned_blank, uncanonical_bytes}
 use Rattle.bson_run.proofs.OneOutput.{uncanonical_read, uncanonical_written, without_read, written_read}
@@ -51,14 +51,14 @@ view o (WriteInOrder mode) text NotJson h = unread text refl h.0 h.1
 view o (Check criterion) text NotJson h = unread text refl h.0 h.1
 view o Encode text NotJson h = unread text refl h.0 h.1
 view o EncodeInOrder text NotJson h = unread text refl h.0 h.1
-view o (Taken taking it) text NotJson h = unread h.0.0 h.0.1 h.0.2 h.1
+view o (Preprocessed preprocessing it) text NotJson h = unread h.0.0 h.0.1 h.0.2 h.1
 view o (Write mode) text (NotExtendedJson place) h = meaningless place text refl h
 view o (WriteInOrder mode) text (NotExtendedJson place) h = meaningless place text refl h
 view o (Check criterion) text (NotExtendedJson place) h = meaningless place text refl h
 view o Encode text (NotExtendedJson place) h = meaningless place text refl h
 view o EncodeInOrder text (NotExtendedJson place) h = meaningless place text refl h
-view o (Taken taking it) text (NotExtendedJson place) (inl h) = meaningless place h.0 h.1 h.2
-view o (Taken taking it) text (NotExtendedJson place) (inr h) = turned place h
+view o (Preprocessed preprocessing it) text (NotExtendedJson place) (inl h) = meaningless place h.0 h.1 h.2
+view o (Preprocessed preprocessing it) text (NotExtendedJson place) (inr h) = turned place h
 view o task text (NoBytes why) h = bare why h
 view o task text (NotCanonical column) h = differs column h
 view o task text CannotRead h = absurd h
@@ -76,7 +76,7 @@ module _ (twice : (j : Json) (path : List PathSegment) → DuplicateAt j path �
   not_turned (Check criterion) place text a h is = h
   not_turned Encode place text a h is = h
   not_turned EncodeInOrder place text a h is = h
-  not_turned (Taken taking it) place text a h is = not_taken twice taking place text a h is
+  not_turned (Preprocessed preprocessing it) place text a h is = not_taken twice preprocessing place text a h is
 
   both_turned : (task : Task) (place other : Place) (text : List ℕ) → Turned task place text → Turned task other text
       → path_of place ≡ path_of other
@@ -85,7 +85,7 @@ module _ (twice : (j : Json) (path : List PathSegment) → DuplicateAt j path �
   both_turned (Check criterion) place other text x y = absurd x
   both_turned Encode place other text x y = absurd x
   both_turned EncodeInOrder place other text x y = absurd x
-  both_turned (Taken taking it) place other text x y = one_turned one_double taking place other text x y
+  both_turned (Preprocessed preprocessing it) place other text x y = one_turned one_double preprocessing place other text x y
 
   both_bare : (task : Task) (why other : without.NoBytes) (text : List ℕ) → IsWithoutBytes o task why text
       → IsWithoutBytes o task other text → why ≡ other
@@ -98,7 +98,7 @@ module _ (twice : (j : Json) (path : List PathSegment) → DuplicateAt j path �
   both_bare EncodeInOrder why other text x y =
       let P = MeansKept o text in
       same_cause P (one_kept o text) no_cause one_cause why other (fails_of P why x) (fails_of P other y)
-  both_bare (Taken taking it) why other text x y = absurd x
+  both_bare (Preprocessed preprocessing it) why other text x y = absurd x
 
   not_bare : (task : Task) (why : without.NoBytes) (text a : List ℕ) → WritesIn o task text a
       → IsWithoutBytes o task why text → ⊥
@@ -111,7 +111,7 @@ module _ (twice : (j : Json) (path : List PathSegment) → DuplicateAt j path �
   not_bare EncodeInOrder why text a w h =
       let P = MeansKept o text in
       has_bytes P (one_kept o text) no_cause one_cause why a w (fails_of P why h)
-  not_bare (Taken taking it) why text a w h = h
+  not_bare (Preprocessed preprocessing it) why text a w h = h
 
   module _ (task : Task) (text : List ℕ) where
     -- what is read is no text of a value, and one

@@ -7,7 +7,7 @@ use Rattle.json.specs.Lex.{tokens}
 use Rattle.json.specs.Token.{Token, bad}
 use Rattle.serde_json.specs.Data.{Data}
 use Rattle.serde_json.specs.Read.{max_depth, of_json}
-use Rattle.bson_run.specs.Place.{Breaks, HasGrammar, HasMoreBehind, HasTree, IsOfBad, IsOfToken, IsOfValue, NestsDeeper}
+use Rattle.bson_run.specs.Place.{Breaks, HasGrammar, HasTrailingData, HasTree, IsOfBad, IsOfToken, IsOfValue, NestsDeeper}
 use Rattle.bson_run.specs.Place.{HasBad}
 use Rattle.bson_run.specs.Place.{closes, opens}
 use Rattle.bson_run.specs.declared.rule.Rule.{Rule}
@@ -39,7 +39,7 @@ has_grammar bytes (t, is) = (is.utf8, all_read (value max_depth (tokens bytes)) 
 
 -- ---- more behind a value
 
-pub more_behind : (bytes : List ℕ) → HasMoreBehind bytes → Breaks bytes TrailingData
+pub more_behind : (bytes : List ℕ) → HasTrailingData bytes → Breaks bytes TrailingData
 more_behind bytes m = record {
   utf8 = (λ e. absurd cc, λ n. absurd (n m.0));
   number = (λ e. absurd cc, λ g. let one = g.0.1 in let other = m.1.2 in absurd cc);

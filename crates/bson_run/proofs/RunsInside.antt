@@ -22,12 +22,12 @@ all_given all bytes None h end = absurd h
 all_given all bytes (Some left) h end = h ∙ ap (λ l. bytes ++ l) end ∙ append-nil bytes
 
 module _ (o : Options) (task : Task) (on_refusal : OnRefusal) where
-  pub done_inside : (all : List ℕ) (after had holds told tells : Option (List ℕ)) (number refused : ℕ)
-      → DoneLinesIn o task on_refusal (Some all) after had holds told tells number refused
+  pub done_inside : (all : List ℕ) (after had holds reported reports : Option (List ℕ)) (number refused : ℕ)
+      → DoneLinesIn o task on_refusal (Some all) after had holds reported reports number refused
       → (number ≡ length (lines all)) × ((output : List ℕ) × (verdicts : List ℕ)
       × GivesIn o task on_refusal (lines all) output verdicts refused × Appends had holds output
-      × Appends told tells verdicts)
-  done_inside all after had holds told tells number refused h =
+      × Appends reported reports verdicts)
+  done_inside all after had holds reported reports number refused h =
       let same = all_given all h.bytes after h.all.given h.all.at_end in (
         h.counted ∙ ap (λ l. length (lines l)) (sym same),
         (
@@ -35,7 +35,7 @@ module _ (o : Options) (task : Task) (on_refusal : OnRefusal) where
           h.verdicts,
           subst (λ (l : List ℕ). GivesIn o task on_refusal (lines l) h.output h.verdicts refused) (sym same) h.outcomes,
           h.written,
-          h.reported,
+          h.reports_appended,
         ),
       )
 
@@ -85,16 +85,16 @@ module _ (o : Options) (task : Task) (on_refusal : OnRefusal) where
   at_line OutOfMemory of held n all h = absurd of
   at_line CannotWrite of held n all h = absurd of
 
-  abbrev Inside : List ℕ → (had holds told tells : Option (List ℕ)) → Error → ℕ → Type 0
-  Inside all had holds told tells fault number = (output : List ℕ) × (verdicts : List ℕ)
+  abbrev Inside : List ℕ → (had holds reported reports : Option (List ℕ)) → Error → ℕ → Type 0
+  Inside all had holds reported reports fault number = (output : List ℕ) × (verdicts : List ℕ)
       × StopsInside o task on_refusal (lines all) output verdicts fault number
-      × (WritesText task → IsUtf8 output) × IsUtf8 verdicts × Appends had holds output × Appends told tells verdicts
+      × (WritesText task → IsUtf8 output) × IsUtf8 verdicts × Appends had holds output × Appends reported reports verdicts
 
-  inside : (all : List ℕ) (after had holds told tells : Option (List ℕ)) (fault : Error) (number : ℕ) (held : List ℕ)
+  inside : (all : List ℕ) (after had holds reported reports : Option (List ℕ)) (fault : Error) (number : ℕ) (held : List ℕ)
       → IsOfText fault
-      → StopsAtIn o (IsStoppedAtIn o task on_refusal fault held) task on_refusal (Some all) after had holds told tells number
-      → Inside all had holds told tells fault number
-  inside all after had holds told tells fault number held of h =
+      → StopsAtIn o (IsStoppedAtIn o task on_refusal fault held) task on_refusal (Some all) after had holds reported reports number
+      → Inside all had holds reported reports fault number
+  inside all after had holds reported reports fault number held of h =
       let at = at_line fault of held (length h.done) h.others h.reason in
       let whole = given_all all h.reaches.bytes after h.reaches.given in
       let stopped : StopsInside o task on_refusal (lines all) h.output h.verdicts fault number = record {
@@ -108,19 +108,19 @@ module _ (o : Options) (task : Task) (on_refusal : OnRefusal) where
         stops = at.stops;
         reason = at.reason;
       } in
-      (h.output, h.verdicts, stopped, h.reaches.outcomes.utf8, h.reaches.outcomes.told_utf8, h.written.0, h.written.1)
+      (h.output, h.verdicts, stopped, h.reaches.outcomes.utf8, h.reaches.outcomes.diagnostic_utf8, h.written.0, h.written.1)
 
-  pub stops_inside : (all : List ℕ) (after had holds told tells : Option (List ℕ)) (fault : Error) (number : ℕ)
-      (held : List ℕ) → FailsAtIn o fault task on_refusal (Some all) after had holds told tells number held
-      → IsOfText fault → Inside all had holds told tells fault number
-  stops_inside all after had holds told tells NotJson number held h of =
-      inside all after had holds told tells NotJson number held of h
-  stops_inside all after had holds told tells (NotExtendedJson place) number held h of =
-      inside all after had holds told tells (NotExtendedJson place) number held of h
-  stops_inside all after had holds told tells (NoBytes why) number held h of =
-      inside all after had holds told tells (NoBytes why) number held of h
-  stops_inside all after had holds told tells (NotCanonical column) number held h of =
-      inside all after had holds told tells (NotCanonical column) number held of h
-  stops_inside all after had holds told tells CannotRead number held h of = absurd of
-  stops_inside all after had holds told tells OutOfMemory number held h of = absurd of
-  stops_inside all after had holds told tells CannotWrite number held h of = absurd of
+  pub stops_inside : (all : List ℕ) (after had holds reported reports : Option (List ℕ)) (fault : Error) (number : ℕ)
+      (held : List ℕ) → FailsAtIn o fault task on_refusal (Some all) after had holds reported reports number held
+      → IsOfText fault → Inside all had holds reported reports fault number
+  stops_inside all after had holds reported reports NotJson number held h of =
+      inside all after had holds reported reports NotJson number held of h
+  stops_inside all after had holds reported reports (NotExtendedJson place) number held h of =
+      inside all after had holds reported reports (NotExtendedJson place) number held of h
+  stops_inside all after had holds reported reports (NoBytes why) number held h of =
+      inside all after had holds reported reports (NoBytes why) number held of h
+  stops_inside all after had holds reported reports (NotCanonical column) number held h of =
+      inside all after had holds reported reports (NotCanonical column) number held of h
+  stops_inside all after had holds reported reports CannotRead number held h of = absurd of
+  stops_inside all after had holds reported reports OutOfMemory number held h of = absurd of
+  stops_inside all after had holds reported reports CannotWrite number held h of = absurd of

@@ -111,7 +111,7 @@ pub record IsAt (n indent : ℕ) (s : Layout) : Type 0 where
   pub start : s.start.items ≡ line indent
 
 -- the token was written behind what stands before it
-pub record Lays (n indent : ℕ) (s t : Layout) (it : Token) : Type 0 where
+pub record IsTokenLaidOut (n indent : ℕ) (s t : Layout) (it : Token) : Type 0 where
   pub at : IsAt n (leaves n it indent) t
   pub before : last_of t.before ≡ (after it 0).0
   pub out : t.out.items ≡ s.out.items ++ (separator (is_value (last_of s.before)) it

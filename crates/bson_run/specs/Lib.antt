@@ -6,7 +6,7 @@ pub mod Lines
 pub mod LinesSteps
 pub mod Outcomes
 pub mod Place
-pub mod Taken
+pub mod Preprocessed
 pub mod Words
 -- what public clauses cite of the crates below, so that a caller names this crate alone
 pub use Rattle.bson.specs.TextMeaning

@@ -26,11 +26,11 @@ use Rattle.bson_run.specs.declared.order.OnRefusal.{OnRefusal}
 use Rattle.bson_run.specs.declared.order.OnRefusal.TheVariants.{Stop}
 use Rattle.bson_run.specs.declared.order.Task.{Task}
 use Rattle.bson_run.specs.declared.order.Task.TheVariants.{Write, WriteInOrder, Check, Encode, EncodeInOrder}
-use Rattle.bson_run.specs.declared.order.Task.TheVariants.{Taken}
+use Rattle.bson_run.specs.declared.order.Task.TheVariants.{Preprocessed}
 use Rattle.bson_run.specs.declared.order.Work.{Work}
 use Rattle.bson_run.specs.declared.order.Work.TheVariants as work
 use Rattle.bson_tree.specs.declared.place.Place.{Place}
-use Rattle.bson_run.specs.Taken.{IsTakenAs, IsTurnedAway}
+use Rattle.bson_run.specs.Preprocessed.{IsPreprocessedAs, IsRejectedBefore}
 
 -- ---- the lines of an input
 
@@ -77,8 +77,8 @@ WritesIn o (WriteInOrder mode) text output = ConvertsInOrder o mode text output
 WritesIn o (Check criterion) text output = ChecksIn o criterion text × (output ≡ [])
 WritesIn o Encode text output = EncodesIn o text output
 WritesIn o EncodeInOrder text output = EncodesInOrder o text output
-WritesIn o (Taken taking work) text output =
-    (taken : List ℕ) × IsTakenAs taking text taken × WorksIn o work taken output
+WritesIn o (Preprocessed preprocessing work) text output =
+    (preprocessed : List ℕ) × IsPreprocessedAs preprocessing text preprocessed × WorksIn o work preprocessed output
 
 -- the task writes texts, and no bytes of documents
 abbrev pub WritesText : Task → Type 0
@@ -105,15 +105,15 @@ IsUncanonicalFor o task column text = ⊥
 
 -- the text is none, or what is read in its place
 abbrev pub IsUnreadIn : Options → Task → List ℕ → Type 0
-IsUnreadIn o (Taken taking work) text =
-    ((taken : List ℕ) × IsTakenAs taking text taken × IsRefusedIn o NotJson taken) × (IsBlank text → ⊥)
+IsUnreadIn o (Preprocessed preprocessing work) text =
+    ((preprocessed : List ℕ) × IsPreprocessedAs preprocessing text preprocessed × IsRefusedIn o NotJson preprocessed) × (IsBlank text → ⊥)
 IsUnreadIn o task text = IsBadTextIn o NotJson text
 
 -- the text has no meaning, or what is read in its place; or it is not taken
 abbrev pub IsMeaninglessIn : Options → Task → Place → List ℕ → Type 0
-IsMeaninglessIn o (Taken taking work) place text =
-    ((taken : List ℕ) × IsTakenAs taking text taken × IsRefusedIn o (NotExtendedJson place) taken)
-    ⊎ IsTurnedAway taking place text
+IsMeaninglessIn o (Preprocessed preprocessing work) place text =
+    ((preprocessed : List ℕ) × IsPreprocessedAs preprocessing text preprocessed × IsRefusedIn o (NotExtendedJson place) preprocessed)
+    ⊎ IsRejectedBefore preprocessing place text
 IsMeaninglessIn o task place text = IsBadTextIn o (NotExtendedJson place) text
 
 -- nothing is written of the text, for the fault
@@ -125,12 +125,12 @@ IsBadLineIn o task (NotCanonical column) text = IsUncanonicalFor o task column t
 IsBadLineIn o task other text = ⊥
 
 -- what is told of a refused line: its number, the fault and its place
-abbrev pub told_at : ℕ → Error → List ℕ → List ℕ
-told_at number fault place =
+abbrev pub diagnostic_at : ℕ → Error → List ℕ → List ℕ
+diagnostic_at number fault place =
     codes "bson: line " ++ decimal number ++ codes ": " ++ words_of fault ++ place ++ newline
 
-abbrev pub Tells : ℕ → Error → (text told : List ℕ) → Type 0
-Tells number fault text told = (place : List ℕ) × IsWhere text fault place × (told ≡ told_at number fault place)
+abbrev pub IsDiagnostic : ℕ → Error → (text reported : List ℕ) → Type 0
+IsDiagnostic number fault text reported = (place : List ℕ) × IsWhere text fault place × (reported ≡ diagnostic_at number fault place)
 
 -- ---- what lines give, one after the other
 
@@ -138,23 +138,23 @@ Tells number fault text told = (place : List ℕ) × IsWhere text fault place ×
 pub data OutcomesIn (o : Options) (task : Task) (on_refusal : OnRefusal)
     : List (List ℕ) → List ℕ → List ℕ → ℕ → Type 0 where
   none : OutcomesIn o task on_refusal [] [] [] 0
-  blank : {before : List (List ℕ)} {output told : List ℕ} {refused : ℕ} (line : List ℕ)
-      → OutcomesIn o task on_refusal before output told refused → IsBlank (line_text (length before) line)
-      → OutcomesIn o task on_refusal (before ++ line ∷ []) output told refused
-  written : {before : List (List ℕ)} {output told : List ℕ} {refused : ℕ} (line more : List ℕ)
-      → OutcomesIn o task on_refusal before output told refused → WritesIn o task (line_text (length before) line) more
-      → OutcomesIn o task on_refusal (before ++ line ∷ []) (output ++ more) told refused
-  passed_over : {before : List (List ℕ)} {output told : List ℕ} {refused : ℕ} (line : List ℕ) (fault : Error)
-      (more : List ℕ) → OutcomesIn o task on_refusal before output told refused → on_refusal ≢ Stop
-      → IsBadLineIn o task fault (line_text (length before) line) → Tells (length before + 1) fault (line_text (length before) line) more
-      → OutcomesIn o task on_refusal (before ++ line ∷ []) output (told ++ more) (refused + 1)
+  blank : {before : List (List ℕ)} {output reported : List ℕ} {refused : ℕ} (line : List ℕ)
+      → OutcomesIn o task on_refusal before output reported refused → IsBlank (line_text (length before) line)
+      → OutcomesIn o task on_refusal (before ++ line ∷ []) output reported refused
+  written : {before : List (List ℕ)} {output reported : List ℕ} {refused : ℕ} (line more : List ℕ)
+      → OutcomesIn o task on_refusal before output reported refused → WritesIn o task (line_text (length before) line) more
+      → OutcomesIn o task on_refusal (before ++ line ∷ []) (output ++ more) reported refused
+  passed_over : {before : List (List ℕ)} {output reported : List ℕ} {refused : ℕ} (line : List ℕ) (fault : Error)
+      (more : List ℕ) → OutcomesIn o task on_refusal before output reported refused → on_refusal ≢ Stop
+      → IsBadLineIn o task fault (line_text (length before) line) → IsDiagnostic (length before + 1) fault (line_text (length before) line) more
+      → OutcomesIn o task on_refusal (before ++ line ∷ []) output (reported ++ more) (refused + 1)
 
 -- the same, and texts that are written are UTF-8, as is what is told
-pub record GivesIn (o : Options) (task : Task) (on_refusal : OnRefusal) (all : List (List ℕ)) (output told : List ℕ)
+pub record GivesIn (o : Options) (task : Task) (on_refusal : OnRefusal) (all : List (List ℕ)) (output reported : List ℕ)
     (refused : ℕ) : Type 0 where
-  pub outcomes : OutcomesIn o task on_refusal all output told refused
+  pub outcomes : OutcomesIn o task on_refusal all output reported refused
   pub utf8 : WritesText task → IsUtf8 output
-  pub told_utf8 : IsUtf8 told
+  pub diagnostic_utf8 : IsUtf8 reported
 
 -- ---- a run
 --
@@ -168,7 +168,7 @@ left_of (Some bytes) = bytes
 
 -- all lines of the input were done, and what they give was written and told
 pub record DoneLinesIn (o : Options) (task : Task) (on_refusal : OnRefusal)
-    (before after had holds told tells : Option (List ℕ)) (number refused : ℕ) : Type 0 where
+    (before after had holds reported reports : Option (List ℕ)) (number refused : ℕ) : Type 0 where
   pub bytes : List ℕ
   pub output : List ℕ
   pub verdicts : List ℕ
@@ -176,7 +176,7 @@ pub record DoneLinesIn (o : Options) (task : Task) (on_refusal : OnRefusal)
   pub counted : number ≡ length (lines bytes)
   pub outcomes : GivesIn o task on_refusal (lines bytes) output verdicts refused
   pub written : Appends had holds output
-  pub reported : Appends told tells verdicts
+  pub reports_appended : Appends reported reports verdicts
 
 -- what was read, with what the reader has left, is the lines that were done and others; this is what the first gave
 pub record ReachesIn (o : Options) (task : Task) (on_refusal : OnRefusal) (before after : Option (List ℕ))
@@ -188,21 +188,21 @@ pub record ReachesIn (o : Options) (task : Task) (on_refusal : OnRefusal) (befor
   pub outcomes : GivesIn o task on_refusal done output verdicts refused
 
 -- the output and the verdicts were written and told
-abbrev pub WritesBoth : (had holds told tells : Option (List ℕ)) → (output verdicts : List ℕ) → Type 0
-WritesBoth had holds told tells output verdicts = Appends had holds output × Appends told tells verdicts
+abbrev pub WritesBoth : (had holds reported reports : Option (List ℕ)) → (output verdicts : List ℕ) → Type 0
+WritesBoth had holds reported reports output verdicts = Appends had holds output × Appends reported reports verdicts
 
 -- not both were written whole: the verdicts were not, and of the output no more than a beginning was written; or the
 -- verdicts were, and the output was not
-abbrev pub CutsShort : (had holds told tells : Option (List ℕ)) → (output verdicts : List ℕ) → Type 0
-CutsShort had holds told tells output verdicts =
-    (WritesPart told tells verdicts × WritesBeginning had holds output)
-    ⊎ (Appends told tells verdicts × WritesPart had holds output)
+abbrev pub CutsShort : (had holds reported reports : Option (List ℕ)) → (output verdicts : List ℕ) → Type 0
+CutsShort had holds reported reports output verdicts =
+    (WritesPart reported reports verdicts × WritesBeginning had holds output)
+    ⊎ (Appends reported reports verdicts × WritesPart had holds output)
 
 -- the run came to the line of this number and no further: this became of what the lines before it give, and this is why
 pub record EndsAtIn (o : Options)
-    (leaves : (had holds told tells : Option (List ℕ)) → (output verdicts : List ℕ) → Type 0)
+    (leaves : (had holds reported reports : Option (List ℕ)) → (output verdicts : List ℕ) → Type 0)
     (why : ℕ → List (List ℕ) → Type 0) (task : Task) (on_refusal : OnRefusal)
-    (before after had holds told tells : Option (List ℕ)) (number : ℕ) : Type 0 where
+    (before after had holds reported reports : Option (List ℕ)) (number : ℕ) : Type 0 where
   pub done : List (List ℕ)
   pub others : List (List ℕ)
   pub output : List ℕ
@@ -210,19 +210,19 @@ pub record EndsAtIn (o : Options)
   pub reaches : ReachesIn o task on_refusal before after done others output verdicts
   pub counted : number ≡ length done + 1
   pub reason : why (length done) others
-  pub written : leaves had holds told tells output verdicts
+  pub written : leaves had holds reported reports output verdicts
 
 -- the run stopped at the line of this number: what the lines before it give was written and told
 abbrev pub StopsAtIn : Options → (ℕ → List (List ℕ) → Type 0) → Task → OnRefusal
-    → (before after had holds told tells : Option (List ℕ)) → ℕ → Type 0
-StopsAtIn o why task on_refusal before after had holds told tells number =
-    EndsAtIn o WritesBoth why task on_refusal before after had holds told tells number
+    → (before after had holds reported reports : Option (List ℕ)) → ℕ → Type 0
+StopsAtIn o why task on_refusal before after had holds reported reports number =
+    EndsAtIn o WritesBoth why task on_refusal before after had holds reported reports number
 
 -- what the lines before it give was not written and told whole
 abbrev pub CutShortAtIn : Options → Task → OnRefusal
-    → (before after had holds told tells : Option (List ℕ)) → ℕ → Type 0
-CutShortAtIn o task on_refusal before after had holds told tells number =
-    EndsAtIn o CutsShort (λ n others. Unit {0}) task on_refusal before after had holds told tells number
+    → (before after had holds reported reports : Option (List ℕ)) → ℕ → Type 0
+CutShortAtIn o task on_refusal before after had holds reported reports number =
+    EndsAtIn o CutsShort (λ n others. Unit {0}) task on_refusal before after had holds reported reports number
 
 -- why a run stops at a text: it is refused, and refusals stop the run; or for no reason that the bytes tell
 abbrev pub IsStoppedIn : Options → Task → OnRefusal → Error → List ℕ → Type 0
@@ -247,11 +247,11 @@ IsStoppedAtIn o task on_refusal fault held before (line ∷ others) =
 -- what each fault says of the bytes, and of the line whose number and text stand beside it: that it came for this
 -- reason, but for a fault of a writer
 abbrev pub FailsAtIn : Options → Error → Task → OnRefusal
-    → (before after had holds told tells : Option (List ℕ)) → (number : ℕ) → (held : List ℕ) → Type 0
-FailsAtIn o CannotWrite task on_refusal before after had holds told tells number held =
-    CutShortAtIn o task on_refusal before after had holds told tells number
-FailsAtIn o fault task on_refusal before after had holds told tells number held =
-    StopsAtIn o (IsStoppedAtIn o task on_refusal fault held) task on_refusal before after had holds told tells number
+    → (before after had holds reported reports : Option (List ℕ)) → (number : ℕ) → (held : List ℕ) → Type 0
+FailsAtIn o CannotWrite task on_refusal before after had holds reported reports number held =
+    CutShortAtIn o task on_refusal before after had holds reported reports number
+FailsAtIn o fault task on_refusal before after had holds reported reports number held =
+    StopsAtIn o (IsStoppedAtIn o task on_refusal fault held) task on_refusal before after had holds reported reports number
 
 -- the number of the line at which a run is: the first that was not done
 abbrev pub number_of : LineRun → ℕ

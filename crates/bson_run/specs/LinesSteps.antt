@@ -1,7 +1,7 @@
 -- For private clauses: how far a run over lines has come.
 use Rattle.std.specs.Prelude.{◌≡◌, ◌≢◌, ◌⊎◌, ◌<◌, ◌≤◌, ◌+◌, ◌-◌, ◌^◌, ℕ, List, [], ◌∷◌, ◌++◌, Option, length, All, IsUtf8}
 use Rattle.std.specs.Io.KnownBytes.{Appends, Consumes, Keeps}
-use Rattle.bson_run.specs.Lines.{lines, text_held, GivesIn, IsBadLineIn, IsStoppedAtIn, Tells}
+use Rattle.bson_run.specs.Lines.{lines, text_held, GivesIn, IsBadLineIn, IsStoppedAtIn, IsDiagnostic}
 use Rattle.bson_convert.specs.Run.{WritesPart}
 -- the types that the steps speak of, for the proofs too
 pub use Rattle.bson.specs.declared.extjson.options.Options.{Options}
@@ -31,22 +31,22 @@ IsJudged o task OutOfMemory text = Unit {0}
 IsJudged o task fault text = IsBadLineIn o task fault text
 
 -- the verdict on a text was added to what was told
-abbrev pub IsTold : Options → Task → ℕ → Error → List ℕ → List ℕ → List ℕ → Type 0
-IsTold o task number fault text before after =
-    (more : List ℕ) × (IsBadLineIn o task fault text → Tells number fault text more) × (after ≡ before ++ more) × IsUtf8 more
+abbrev pub IsReported : Options → Task → ℕ → Error → List ℕ → List ℕ → List ℕ → Type 0
+IsReported o task number fault text before after =
+    (more : List ℕ) × (IsBadLineIn o task fault text → IsDiagnostic number fault text more) × (after ≡ before ++ more) × IsUtf8 more
 
 -- nothing was collected
 pub record IsStart (s : Collected) : Type 0 where
   pub line : s.line.items ≡ []
   pub output : s.output.items ≡ []
-  pub told : s.told.items ≡ []
+  pub reported : s.reported.items ≡ []
   pub lines : s.lines ≡ 0
   pub refused : s.refused ≡ 0
 
 -- the same was given by as many lines
 pub record HaveSameOutcomes (s t : Collected) : Type 0 where
   pub output : t.output.items ≡ s.output.items
-  pub told : t.told.items ≡ s.told.items
+  pub reported : t.reported.items ≡ s.reported.items
   pub lines : t.lines ≡ s.lines
   pub refused : t.refused ≡ s.refused
 
@@ -54,86 +54,86 @@ pub record HaveSameOutcomes (s t : Collected) : Type 0 where
 pub record TakesLine (o : Options) (task : Task) (on_refusal : OnRefusal) (s t : Collected) : Type 0 where
   pub line : t.line.items ≡ []
   pub lines : t.lines ≡ s.lines + 1
-  pub outcomes : (before : List (List ℕ)) (output told : List ℕ) → s.lines ≡ length before
-      → GivesIn o task on_refusal before (output ++ s.output.items) (told ++ s.told.items) s.refused
-      → GivesIn o task on_refusal (before ++ s.line.items ∷ []) (output ++ t.output.items) (told
-      ++ t.told.items) t.refused
+  pub outcomes : (before : List (List ℕ)) (output reported : List ℕ) → s.lines ≡ length before
+      → GivesIn o task on_refusal before (output ++ s.output.items) (reported ++ s.reported.items) s.refused
+      → GivesIn o task on_refusal (before ++ s.line.items ∷ []) (output ++ t.output.items) (reported
+      ++ t.reported.items) t.refused
 
 -- the bytes are the lines that are done and what has come of the next; what was written and told is what the lines
 -- gave, but for what is still held
-pub record Progress (o : Options) (task : Task) (on_refusal : OnRefusal) (bytes output told : List ℕ)
+pub record Progress (o : Options) (task : Task) (on_refusal : OnRefusal) (bytes output reported : List ℕ)
     (s : Collected) : Type 0 where
   pub done : List (List ℕ)
   pub whole : (more : List ℕ) → lines (bytes ++ more) ≡ done ++ lines (s.line.items ++ more)
   pub unbroken : HasNoNewline s.line.items
   pub counted : s.lines ≡ length done
-  pub outcomes : GivesIn o task on_refusal done (output ++ s.output.items) (told ++ s.told.items) s.refused
+  pub outcomes : GivesIn o task on_refusal done (output ++ s.output.items) (reported ++ s.reported.items) s.refused
 
 -- the bytes came after any others
 abbrev pub Takes : Options → Task → OnRefusal → List ℕ → Collected → Collected → Type 0
-Takes o task on_refusal bytes s t = (before output told : List ℕ) → Progress o task on_refusal before output told s
-    → Progress o task on_refusal (before ++ bytes) output told t
+Takes o task on_refusal bytes s t = (before output reported : List ℕ) → Progress o task on_refusal before output reported s
+    → Progress o task on_refusal (before ++ bytes) output reported t
 
 -- all lines of the bytes are done
-pub record Complete (o : Options) (task : Task) (on_refusal : OnRefusal) (bytes output told : List ℕ)
+pub record Complete (o : Options) (task : Task) (on_refusal : OnRefusal) (bytes output reported : List ℕ)
     (s : Collected) : Type 0 where
   pub counted : s.lines ≡ length (lines bytes)
-  pub outcomes : GivesIn o task on_refusal (lines bytes) (output ++ s.output.items) (told ++ s.told.items) s.refused
+  pub outcomes : GivesIn o task on_refusal (lines bytes) (output ++ s.output.items) (reported ++ s.reported.items) s.refused
 
 abbrev pub Ends : Options → Task → OnRefusal → Collected → Collected → Type 0
-Ends o task on_refusal s t = (before output told : List ℕ) → Progress o task on_refusal before output told s
-    → Complete o task on_refusal before output told t
+Ends o task on_refusal s t = (before output reported : List ℕ) → Progress o task on_refusal before output reported s
+    → Complete o task on_refusal before output reported t
 
 -- the lines of an input that are done, and what they gave
-pub record Reached (o : Options) (task : Task) (on_refusal : OnRefusal) (input output told : List ℕ)
+pub record Reached (o : Options) (task : Task) (on_refusal : OnRefusal) (input output reported : List ℕ)
     (s : Collected) : Type 0 where
   pub done : List (List ℕ)
   pub others : List (List ℕ)
   pub whole : lines input ≡ done ++ others
   pub counted : s.lines ≡ length done
-  pub outcomes : GivesIn o task on_refusal done (output ++ s.output.items) (told ++ s.told.items) s.refused
+  pub outcomes : GivesIn o task on_refusal done (output ++ s.output.items) (reported ++ s.reported.items) s.refused
 
 -- the next line stops the run
-pub record Stopped (o : Options) (task : Task) (on_refusal : OnRefusal) (input output told : List ℕ) (fault : Error)
+pub record Stopped (o : Options) (task : Task) (on_refusal : OnRefusal) (input output reported : List ℕ) (fault : Error)
     (s : Collected) : Type 0 where
-  pub reached : Reached o task on_refusal input output told s
+  pub reached : Reached o task on_refusal input output reported s
   pub reason : IsStoppedAtIn o task on_refusal fault (text_held s) (length reached.done) reached.others
 
 -- a line that ends among the bytes stops the run, whatever follows them
 abbrev pub StopsWithin : Options → Task → OnRefusal → List ℕ → Error → Collected → Collected → Type 0
-StopsWithin o task on_refusal bytes fault s t = (before output told more : List ℕ)
-    → Progress o task on_refusal before output told s
-    → Stopped o task on_refusal ((before ++ bytes) ++ more) output told fault t
+StopsWithin o task on_refusal bytes fault s t = (before output reported more : List ℕ)
+    → Progress o task on_refusal before output reported s
+    → Stopped o task on_refusal ((before ++ bytes) ++ more) output reported fault t
 
 -- the last line stops the run
 abbrev pub StopsLast : Options → Task → OnRefusal → Error → Collected → Collected → Type 0
-StopsLast o task on_refusal fault s t = (before output told : List ℕ)
-    → Progress o task on_refusal before output told s → Stopped o task on_refusal before output told fault t
+StopsLast o task on_refusal fault s t = (before output reported : List ℕ)
+    → Progress o task on_refusal before output reported s → Stopped o task on_refusal before output reported fault t
 
 -- ---- with a reader and writers
 
 -- what a reader gave was taken, and all that the lines gave was written and told
 pub record Running (o : Options) (task : Task) (on_refusal : OnRefusal)
-    (before after had holds told tells : Option (List ℕ)) (s : Collected) : Type 0 where
+    (before after had holds reported reports : Option (List ℕ)) (s : Collected) : Type 0 where
   pub bytes : List ℕ
   pub output : List ℕ
   pub verdicts : List ℕ
   pub given : Consumes before after bytes
   pub written : Appends had holds output
-  pub reported : Appends told tells verdicts
+  pub reports_appended : Appends reported reports verdicts
   pub nothing_held : s.output.items ≡ []
-  pub nothing_untold : s.told.items ≡ []
+  pub nothing_untold : s.reported.items ≡ []
   pub progress : Progress o task on_refusal bytes output verdicts s
 
 -- the writer of verdicts failed, and nothing was written to the other; or all verdicts were told, and the other failed
-abbrev pub CannotWriteBoth : (had holds told tells : Option (List ℕ)) → (output verdicts : List ℕ) → Type 0
-CannotWriteBoth had holds told tells output verdicts =
-    (WritesPart told tells verdicts × Keeps had holds) ⊎ (Appends told tells verdicts × WritesPart had holds output)
+abbrev pub CannotWriteBoth : (had holds reported reports : Option (List ℕ)) → (output verdicts : List ℕ) → Type 0
+CannotWriteBoth had holds reported reports output verdicts =
+    (WritesPart reported reports verdicts × Keeps had holds) ⊎ (Appends reported reports verdicts × WritesPart had holds output)
 
 -- nothing is held any more, and the lines are as they were
 pub record HasWritten (s t : Collected) : Type 0 where
   pub line : t.line.items ≡ s.line.items
   pub output : t.output.items ≡ []
-  pub told : t.told.items ≡ []
+  pub reported : t.reported.items ≡ []
   pub lines : t.lines ≡ s.lines
   pub refused : t.refused ≡ s.refused

@@ -4,7 +4,7 @@ use Rattle.bson.specs.declared.extjson.options.Options.{Options}
 use Rattle.bson_tree.specs.Place.{path_of}
 use Rattle.bson_convert.specs.declared.error.Error.{Error}
 use Rattle.bson_convert.specs.declared.error.Error.TheVariants.{NotJson, NotExtendedJson, NoBytes, NotCanonical}
-use Rattle.bson_run.specs.Lines.{line_text, IsBadLineIn, OutcomesIn, Tells}
+use Rattle.bson_run.specs.Lines.{line_text, IsBadLineIn, OutcomesIn, IsDiagnostic}
 use Rattle.bson_run.specs.declared.order.OnRefusal.{OnRefusal}
 use Rattle.bson_run.specs.declared.order.OnRefusal.TheVariants.{Stop}
 use Rattle.bson_run.specs.declared.order.Task.{Task}
@@ -25,13 +25,13 @@ IsSameFault (NoBytes why) (NoBytes other) = why ≡ other
 IsSameFault (NotCanonical column) (NotCanonical other) = column ≡ other
 IsSameFault fault other = ⊥
 
--- verdicts on the same texts for the same faults; they differ only in what `Tells` leaves open: the column and the rule
+-- verdicts on the same texts for the same faults; they differ only in what `IsDiagnostic` leaves open: the column and the rule
 -- of a text that is no JSON, and behind a path the words for what was expected and found
 pub data AreAlike : List ℕ → List ℕ → Type 0 where
   silent : AreAlike [] []
-  also : {told tells : List ℕ} (number : ℕ) (fault cause : Error) (text said says : List ℕ) → AreAlike told tells
-      → IsSameFault fault cause → Tells number fault text said → Tells number cause text says
-      → AreAlike (told ++ said) (tells ++ says)
+  also : {reported reports : List ℕ} (number : ℕ) (fault cause : Error) (text said says : List ℕ) → AreAlike reported reports
+      → IsSameFault fault cause → IsDiagnostic number fault text said → IsDiagnostic number cause text says
+      → AreAlike (reported ++ said) (reports ++ says)
 
 -- a run over these lines does those before the one of this number, and stops at that one, which is refused for the fault
 pub record StopsInside (o : Options) (task : Task) (on_refusal : OnRefusal) (all : List (List ℕ))

@@ -48,8 +48,8 @@ cut_at most tell words =
     flat_map tell (take most (chars words)) ++ (if nat_lt most (length (chars words)) then codes ".." else [])
 
 -- words as they are told: 300 characters
-abbrev pub told_as : List ℕ → List ℕ
-told_as words = cut_at 300 shown words
+abbrev pub shown_words : List ℕ → List ℕ
+shown_words words = cut_at 300 shown words
 
 -- what is told of a value: 60 characters
 abbrev pub found_as : List ℕ → List ℕ
@@ -73,7 +73,7 @@ IsReasonIn text (BadObjectId why) words = Unit {0}
 abbrev pub IsPlacedMessage : List ℕ → Place → List ℕ → Type 0
 IsPlacedMessage text place words =
     (message : List ℕ) × IsReasonIn text place.reason message
-    × (words ≡ at_path (told_as (dotted (path_of place))) ++ codes " (" ++ told_as message ++ codes ")")
+    × (words ≡ at_path (shown_words (dotted (path_of place))) ++ codes " (" ++ shown_words message ++ codes ")")
 
 -- the bytes are UTF-8 and one value by the grammar of JSON, arrays and objects nesting as deep as texts may (RFC 8259)
 abbrev pub HasGrammar : List ℕ → Type 0
@@ -84,8 +84,8 @@ abbrev pub HasTree : List ℕ → Type 0
 HasTree bytes = (t : Data) × IsTextOf bytes t
 
 -- one value stands at the beginning of a text, and more behind it
-abbrev pub HasMoreBehind : List ℕ → Type 0
-HasMoreBehind bytes =
+abbrev pub HasTrailingData : List ℕ → Type 0
+HasTrailingData bytes =
     IsUtf8 bytes × ((t : Token) × (ts : List Token) × (skip_value max_depth (tokens bytes) ≡ Some (t ∷ ts)))
 
 -- how many brackets a token opens, and how many it closes
@@ -125,7 +125,7 @@ pub record Breaks (bytes : List ℕ) (rule : Rule) : Type 0 where
   pub utf8 : rule ≡ Utf8 ↔ ¬ (IsUtf8 bytes)
   pub number : rule ≡ OutOfRange ↔ HasGrammar bytes × IsNoText bytes
   pub rewritten : rule ≡ RewrittenDepth ↔ HasTree bytes
-  pub more : rule ≡ TrailingData ↔ HasMoreBehind bytes
+  pub more : rule ≡ TrailingData ↔ HasTrailingData bytes
   pub blank : IsUtf8 bytes → tokens bytes ≡ [] → rule ≡ UnexpectedEnd
   pub depth : rule ≡ Depth → NestsDeeper (tokens bytes)
   pub no_token : IsOfBad rule → HasBad (tokens bytes)
@@ -165,7 +165,7 @@ abbrev pub IsExplanation : List ℕ → Error → Explanation → Type 0
 IsExplanation text fault (explained.Syntax stop) = (fault ≡ NotJson) × Breaks text stop.rule
 IsExplanation text fault (explained.Value place reason) =
     (fault ≡ NotExtendedJson place.now)
-    × ((message : List ℕ) × IsReasonIn text place.now.reason message × (string_bytes reason ≡ told_as message))
+    × ((message : List ℕ) × IsReasonIn text place.now.reason message × (string_bytes reason ≡ shown_words message))
 IsExplanation text fault (explained.Difference column) = fault ≡ NotCanonical column
 IsExplanation text fault explained.Other = IsOfNoText fault
 
@@ -173,7 +173,7 @@ IsExplanation text fault explained.Other = IsOfNoText fault
 abbrev pub words_at : List ℕ → Explanation → List ℕ
 words_at text (explained.Syntax stop) = at_column (column_at stop.offset text) stop.rule
 words_at text (explained.Value place reason) =
-    at_path (told_as (dotted (path_of place.now))) ++ codes " (" ++ string_bytes reason ++ codes ")"
+    at_path (shown_words (dotted (path_of place.now))) ++ codes " (" ++ string_bytes reason ++ codes ")"
 words_at text (explained.Difference column) = at_difference column
 words_at text explained.Other = []
 

@@ -3,7 +3,7 @@ use Rattle.std.specs.Prelude.{ℕ, List, codes}
 use Rattle.bson_convert.specs.Words.{name_of}
 use Rattle.bson_run.specs.declared.order.Task.{Task}
 use Rattle.bson_run.specs.declared.order.Task.TheVariants.{Write, WriteInOrder, Check, Encode, EncodeInOrder}
-use Rattle.bson_run.specs.declared.order.Task.TheVariants.{Taken}
+use Rattle.bson_run.specs.declared.order.Task.TheVariants.{Preprocessed}
 use Rattle.bson_run.specs.declared.order.Work.{Work}
 use Rattle.bson_run.specs.declared.order.Work.TheVariants as work
 use Rattle.bson_run.specs.declared.rule.Rule.{Rule}
@@ -20,7 +20,7 @@ task_name (WriteInOrder mode) = name_of mode
 task_name (Check criterion) = codes "check"
 task_name Encode = codes "encode"
 task_name EncodeInOrder = codes "encode"
-task_name (Taken taking work) = work_name work
+task_name (Preprocessed preprocessing work) = work_name work
 
 abbrev pub words_broken : Rule → List ℕ
 words_broken rule.Utf8 = codes "invalid UTF-8"

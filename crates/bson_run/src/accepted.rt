@@ -7,7 +7,7 @@ ghost use Rattle.bson_run.specs.InOrder.{ConvertsInOrder};
 use crate::convert::{convert_whole_in_order, filter_once};
 use bson::extjson::Options;
 use bson_convert::convert::{convert_whole, end_line};
-use bson_convert::converted::{Tried, normalize, refuse, try_text};
+use bson_convert::converted::{Attempt, normalize, refuse, try_text};
 use bson_convert::error::Error;
 use bson_convert::mode::Mode;
 use bson_tokens::arrangement::Arrangement;
@@ -54,8 +54,8 @@ impl Accepted {
         ensures fault { IfErr result (λ fault. IsRefusedIn options fault bytes.now) }
     {
         match try_text(alloc, options, mode, bytes)? {
-            Tried::Written(text) => Ok(Accepted::Output(end_line(text)?)),
-            Tried::Normalized(text) => Ok(Accepted::Normalized(mode, text)),
+            Attempt::Written(text) => Ok(Accepted::Output(end_line(text)?)),
+            Attempt::Normalized(text) => Ok(Accepted::Normalized(mode, text)),
         }
     }
 

@@ -2,23 +2,23 @@
 ghost use Rattle.std.specs.Prelude.{◌≡◌, ◌⊎◌, ◌++◌, ◌+◌, [], ◌∷◌, ◌<◌, length, IfOk, IfErr, take};
 ghost use Rattle.std.specs.Prelude.{OnOk, OnErr, None, Ok, IsTrue, ◌↔◌, string_bytes};
 ghost use Rattle.std.specs.Prelude.{MatchOption, IfSome, IsUtf8, ◌≢◌, slice_index};
-ghost use Rattle.bson_run.specs.Lines.{IsBlank, IsBadLineIn, IsStoppedIn, Tells, WritesIn};
+ghost use Rattle.bson_run.specs.Lines.{IsBlank, IsBadLineIn, IsStoppedIn, IsDiagnostic, WritesIn};
 ghost use Rattle.bson_convert.specs.Convert.{IsRefusedIn};
-ghost use Rattle.bson_run.specs.Lines.{told_at, text_held, line_text, ChecksIn, WorksIn, WritesText};
+ghost use Rattle.bson_run.specs.Lines.{diagnostic_at, text_held, line_text, ChecksIn, WorksIn, WritesText};
 ghost use Rattle.bson_run.specs.LinesSteps.{Ends, CountsFit, HaveSameOutcomes, IsCountedOut};
-ghost use Rattle.bson_run.specs.LinesSteps.{IsJudged, HasNoNewline, IsStart, IsTold, StopsLast, StopsWithin};
+ghost use Rattle.bson_run.specs.LinesSteps.{IsJudged, HasNoNewline, IsStart, IsReported, StopsLast, StopsWithin};
 ghost use Rattle.bson_run.specs.LinesSteps.{Takes, TakesLine};
 ghost use Rattle.bson_run.specs.declared.order.OnRefusal.TheVariants.{Stop};
 ghost use Rattle.bson_run.specs.Place.{IsWhere};
 ghost use Rattle.bson_run.specs.declared.order.Task.{Task};
-ghost use Rattle.bson_run.specs.declared.order.Task.TheVariants.{Check, Taken};
+ghost use Rattle.bson_run.specs.declared.order.Task.TheVariants.{Check, Preprocessed};
 ghost use Rattle.bson.specs.declared.extjson.options.Options.{Options};
 
 use crate::convert::convert_line_in_order;
 use crate::encode::{encode_line_ordered, encode_sorted};
 use crate::explain::explain_under;
-use crate::order::{Criterion, OnRefusal, Taking, Task, Work};
-use crate::taken::take_as;
+use crate::order::{Criterion, OnRefusal, Preprocessing, Task, Work};
+use crate::preprocessed::preprocess_text;
 use bson::extjson::Options;
 use bson_convert::canonical::check_canonical_line;
 use bson_convert::convert::convert_line;
@@ -39,7 +39,7 @@ const LONG: usize = 1 << 20;
 
 /// What is asked of a run.
 #[derive(Clone, Copy)]
-pub struct Asked {
+pub struct Settings {
     pub options: Options,
     pub task: Task,
     pub on_refusal: OnRefusal,
@@ -50,7 +50,7 @@ pub struct Asked {
 pub struct Collected {
     pub line: Vec<u8>,
     pub output: Vec<u8>,
-    pub told: Vec<u8>,
+    pub reported: Vec<u8>,
     pub lines: u64,
     pub refused: u64,
     /// The memory for reading a line, made once in a run.
@@ -87,20 +87,20 @@ fn is_blank(text: &[u8]) -> bool
 // What is written of the text, or nothing for one that is blank.
 fn judge(
     alloc: Global,
-    asked: Asked,
+    settings: Settings,
     text: &[u8],
     scratch: &mut Scratch,
 ) -> Result<Option<Vec<u8>>, Error>
     ensures blank { result ≡ Ok None → IsBlank text.now }
-    ensures ok { IfOk result (λ some. IfSome some (λ output. WritesIn asked.options asked.task text.now output.items)) }
-    ensures utf8 { WritesText asked.task → IfOk result (λ some. IfSome some (λ output. IsUtf8 output.items)) }
-    ensures fault { IfErr result (λ fault. IsJudged asked.options asked.task fault text.now) }
+    ensures ok { IfOk result (λ some. IfSome some (λ output. WritesIn settings.options settings.task text.now output.items)) }
+    ensures utf8 { WritesText settings.task → IfOk result (λ some. IfSome some (λ output. IsUtf8 output.items)) }
+    ensures fault { IfErr result (λ fault. IsJudged settings.options settings.task fault text.now) }
 {
     if is_blank(text) {
         return Ok(None);
     }
-    let options = asked.options;
-    match asked.task {
+    let options = settings.options;
+    match settings.task {
         Task::Write(mode) => Ok(Some(convert_line(alloc, options, mode, text, scratch)?)),
         Task::WriteInOrder(mode) => {
             Ok(Some(convert_line_in_order(alloc, options, mode, text, scratch)?))
@@ -111,8 +111,8 @@ fn judge(
         }
         Task::Encode => Ok(Some(encode_sorted(alloc, options, text)?)),
         Task::EncodeInOrder => Ok(Some(encode_line_ordered(alloc, options, text, scratch)?)),
-        Task::Taken(taking, work) => {
-            Ok(Some(judge_taken(alloc, options, taking, work, text, scratch)?))
+        Task::Preprocessed(preprocessing, work) => {
+            Ok(Some(check_preprocessed(alloc, options, preprocessing, work, text, scratch)?))
         }
     }
 }
@@ -139,20 +139,20 @@ fn check(
 }
 
 // What is written of a text that is not blank, once it was taken.
-fn judge_taken(
+fn check_preprocessed(
     alloc: Global,
     options: Options,
-    taking: Taking,
+    preprocessing: Preprocessing,
     work: Work,
     text: &[u8],
     scratch: &mut Scratch,
 ) -> Result<Vec<u8>, Error>
     requires { ¬ IsBlank text.now }
-    ensures ok { IfOk result (λ output. WritesIn options (Taken taking work) text.now output.items) }
+    ensures ok { IfOk result (λ output. WritesIn options (Preprocessed preprocessing work) text.now output.items) }
     ensures utf8 { IfOk result (λ output. IsUtf8 output.items) }
-    ensures fault { IfErr result (λ fault. IsJudged options (Taken taking work) fault text.now) }
+    ensures fault { IfErr result (λ fault. IsJudged options (Preprocessed preprocessing work) fault text.now) }
 {
-    match take_as(alloc, taking, text)? {
+    match preprocess_text(alloc, preprocessing, text)? {
         Some(upgraded) => work_on(alloc, options, work, upgraded.as_bytes(), scratch),
         None => work_on(alloc, options, work, text, scratch),
     }
@@ -181,7 +181,7 @@ fn work_on(
 
 // What is told of a line that is refused: its number, the words for the fault, and its place.
 fn verdict(alloc: Global, number: u64, fault: &Error, place: &str) -> Result<String, AllocError>
-    ensures { IfOk result (λ told. string_bytes told ≡ told_at number fault.now place.now) }
+    ensures { IfOk result (λ reported. string_bytes reported ≡ diagnostic_at number fault.now place.now) }
 {
     let words = fault.message();
     format!(in alloc; "bson: line {number}: {words}{place}\n")
@@ -219,7 +219,7 @@ impl Collected {
         Collected {
             line: Vec::new(alloc),
             output: Vec::new(alloc),
-            told: Vec::new(alloc),
+            reported: Vec::new(alloc),
             lines: 0,
             refused: 0,
             scratch: Scratch::new(alloc),
@@ -247,14 +247,14 @@ impl Collected {
     }
 
     // Takes the line that was collected: what it gives is added, and the next line is empty.
-    fn end_line(&mut self, alloc: Global, asked: Asked) -> Step
+    fn end_line(&mut self, alloc: Global, settings: Settings) -> Step
         requires room { CountsFit self.old }
         ensures room { CountsFit self.new }
-        ensures ok { OnOk result (TakesLine asked.options asked.task asked.on_refusal self.old self.new) }
+        ensures ok { OnOk result (TakesLine settings.options settings.task settings.on_refusal self.old self.new) }
         ensures same { OnErr result (HaveSameOutcomes self.old self.new) }
         ensures held { OnErr result (self.new.line ≡ self.old.line) }
         ensures fault { IfErr result
-            (λ e. IsStoppedIn asked.options asked.task asked.on_refusal e (line_text self.old.lines self.old.line.items)) }
+            (λ e. IsStoppedIn settings.options settings.task settings.on_refusal e (line_text self.old.lines self.old.line.items)) }
         ensures count { IfErr result (λ e. IsCountedOut e self.old.lines) }
     {
         if self.lines + 1 == u64::MAX {
@@ -262,10 +262,10 @@ impl Collected {
             return Err(Error::CannotRead);
         }
         let line = text(self.lines, &self.line);
-        match judge(alloc, asked, line, &mut self.scratch) {
+        match judge(alloc, settings, line, &mut self.scratch) {
             Ok(None) => {}
             Ok(Some(output)) => self.add(output)?,
-            Err(fault) => self.refuse(alloc, asked, fault)?,
+            Err(fault) => self.refuse(alloc, settings, fault)?,
         }
         self.line.clear();
         self.lines += 1;
@@ -276,7 +276,7 @@ impl Collected {
     fn add(&mut self, output: Vec<u8>) -> Step
         ensures ok { OnOk result (self.new.output.items ≡ self.old.output.items ++ output.items) }
         ensures err { OnErr result (self.new.output.items ≡ self.old.output.items) }
-        ensures same { (self.new.line ≡ self.old.line) × (self.new.told ≡ self.old.told)
+        ensures same { (self.new.line ≡ self.old.line) × (self.new.reported ≡ self.old.reported)
             × (self.new.lines ≡ self.old.lines) × (self.new.refused ≡ self.old.refused) }
         ensures fault { IfErr result (λ e. e ≡ Error.OutOfMemory) }
     {
@@ -288,25 +288,25 @@ impl Collected {
     }
 
     // Tells of the line, where refused lines don't stop the run.
-    fn refuse(&mut self, alloc: Global, asked: Asked, fault: Error) -> Step
+    fn refuse(&mut self, alloc: Global, settings: Settings, fault: Error) -> Step
         requires room { CountsFit self.old }
-        ensures ok { OnOk result ((fault ≢ Error.OutOfMemory) × (asked.on_refusal ≢ Stop)
+        ensures ok { OnOk result ((fault ≢ Error.OutOfMemory) × (settings.on_refusal ≢ Stop)
             × (self.new.refused ≡ self.old.refused + 1)
-            × ((options : Options) (task : Task) → IsTold options task (self.old.lines + 1) fault
-            (line_text self.old.lines self.old.line.items) self.old.told.items self.new.told.items)) }
-        ensures err { OnErr result ((self.new.told.items ≡ self.old.told.items)
+            × ((options : Options) (task : Task) → IsReported options task (self.old.lines + 1) fault
+            (line_text self.old.lines self.old.line.items) self.old.reported.items self.new.reported.items)) }
+        ensures err { OnErr result ((self.new.reported.items ≡ self.old.reported.items)
             × (self.new.refused ≡ self.old.refused)) }
         ensures same { (self.new.line ≡ self.old.line) × (self.new.output ≡ self.old.output)
             × (self.new.lines ≡ self.old.lines) }
-        ensures fault { IfErr result (λ e. (e ≡ Error.OutOfMemory) ⊎ ((asked.on_refusal ≡ Stop) × (e ≡ fault))) }
+        ensures fault { IfErr result (λ e. (e ≡ Error.OutOfMemory) ⊎ ((settings.on_refusal ≡ Stop) × (e ≡ fault))) }
     {
         if fault.is_memory() {
             return Err(fault);
         }
-        if asked.on_refusal == OnRefusal::Stop {
+        if settings.on_refusal == OnRefusal::Stop {
             return Err(fault);
         }
-        match self.tell(alloc, asked.task, &fault) {
+        match self.tell(alloc, settings.task, &fault) {
             Ok(()) => {}
             Err(_) => return Err(Error::OutOfMemory),
         }
@@ -318,45 +318,45 @@ impl Collected {
     fn tell(&mut self, alloc: Global, task: Task, fault: &Error) -> Result<(), AllocError>
         requires room { CountsFit self.old }
         ensures ok { OnOk result
-            ((options : Options) (task : Task) → IsTold options task (self.old.lines + 1) fault.now
-            (line_text self.old.lines self.old.line.items) self.old.told.items self.new.told.items) }
-        ensures err { OnErr result (self.new.told.items ≡ self.old.told.items) }
+            ((options : Options) (task : Task) → IsReported options task (self.old.lines + 1) fault.now
+            (line_text self.old.lines self.old.line.items) self.old.reported.items self.new.reported.items) }
+        ensures err { OnErr result (self.new.reported.items ≡ self.old.reported.items) }
         ensures same { (self.new.line ≡ self.old.line) × (self.new.output ≡ self.old.output)
             × (self.new.lines ≡ self.old.lines) × (self.new.refused ≡ self.old.refused) }
     {
         let place = self.place(alloc, task, fault)?;
         let verdict = verdict(alloc, self.lines + 1, fault, &place)?;
-        self.told.extend_from_slice(verdict.as_bytes())
+        self.reported.extend_from_slice(verdict.as_bytes())
     }
 
     /// Takes bytes: each line that ends in them, and what comes of the next.
-    pub fn take(&mut self, alloc: Global, asked: Asked, bytes: &[u8]) -> Step
+    pub fn take(&mut self, alloc: Global, settings: Settings, bytes: &[u8]) -> Step
         requires room { CountsFit self.old }
         ensures room { CountsFit self.new }
-        ensures ok { OnOk result (Takes asked.options asked.task asked.on_refusal bytes.now self.old self.new) }
-        ensures fault { IfErr result (λ e. StopsWithin asked.options asked.task asked.on_refusal bytes.now e self.old self.new) }
+        ensures ok { OnOk result (Takes settings.options settings.task settings.on_refusal bytes.now self.old self.new) }
+        ensures fault { IfErr result (λ e. StopsWithin settings.options settings.task settings.on_refusal bytes.now e self.old self.new) }
         ensures count { IfErr result (λ e. IsCountedOut e self.new.lines) }
     {
         let mut rest = bytes;
         while let Some(at) = newline_at(rest) {
             self.extend_line(&rest[..at])?;
-            self.end_line(alloc, asked)?;
+            self.end_line(alloc, settings)?;
             rest = &rest[at + 1..];
         }
         self.extend_line(rest)
     }
 
     /// Takes a last line that no newline ends, unless it is empty.
-    pub fn take_last(&mut self, alloc: Global, asked: Asked) -> Step
+    pub fn take_last(&mut self, alloc: Global, settings: Settings) -> Step
         requires room { CountsFit self.old }
         ensures room { CountsFit self.new }
-        ensures ok { OnOk result (Ends asked.options asked.task asked.on_refusal self.old self.new) }
-        ensures fault { IfErr result (λ e. StopsLast asked.options asked.task asked.on_refusal e self.old self.new) }
+        ensures ok { OnOk result (Ends settings.options settings.task settings.on_refusal self.old self.new) }
+        ensures fault { IfErr result (λ e. StopsLast settings.options settings.task settings.on_refusal e self.old self.new) }
         ensures count { IfErr result (λ e. IsCountedOut e self.new.lines) }
     {
         if self.line.is_empty() {
             return Ok(());
         }
-        self.end_line(alloc, asked)
+        self.end_line(alloc, settings)
     }
 }

@@ -1,14 +1,14 @@
 //! Why a text is rejected, and where: as data, and in words.
 ghost use Rattle.std.specs.Prelude.{◌≡◌, ◌++◌, codes, ℕ, List, IfOk, string_bytes};
 ghost use Rattle.bson_tree.specs.Place.{dotted, path_of};
-ghost use Rattle.bson_run.specs.Place.{IsExplanation, IsQuote, IsReasonIn, IsWhere, at_difference, at_path, told_as};
+ghost use Rattle.bson_run.specs.Place.{IsExplanation, IsQuote, IsReasonIn, IsWhere, at_difference, at_path, shown_words};
 ghost use Rattle.bson_run.specs.Place.{words_at};
 
-use crate::order::{Taking, Task};
+use crate::order::{Preprocessing, Task};
 use crate::quoted::quote;
 use crate::shorten::shorten;
 use crate::stop::Stop;
-use crate::taken::{DUPLICATE_KEY, take_as};
+use crate::preprocessed::{DUPLICATE_KEY, preprocess_text};
 use bson_convert::error::Error;
 use bson_tree::place::{Place, Reason, Segment};
 use std::alloc::{AllocError, Global};
@@ -123,8 +123,8 @@ pub fn explain_under(
 // The text that a task read in the place of this one, if it read another.
 fn newer_text(alloc: Global, task: Task, text: &[u8]) -> Result<Option<String>, AllocError> {
     match task {
-        Task::Taken(Taking::Legacy | Taking::DistinctLegacy, _) => {
-            match take_as(alloc, Taking::Legacy, text) {
+        Task::Preprocessed(Preprocessing::Legacy | Preprocessing::DistinctLegacy, _) => {
+            match preprocess_text(alloc, Preprocessing::Legacy, text) {
                 Ok(newer) => Ok(newer),
                 Err(_) => Err(AllocError),
             }
@@ -157,7 +157,7 @@ fn explanation_in<'a>(
     match fault {
         Error::NotJson => Ok(Explanation::Syntax(Stop::of(alloc, text)?)),
         Error::NotExtendedJson(place) => {
-            let reason = told_reason(alloc, place, text, newer)?;
+            let reason = reason_text(alloc, place, text, newer)?;
             Ok(Explanation::Value(place, reason))
         }
         Error::NotCanonical(column) => Ok(Explanation::Difference(*column)),
@@ -175,7 +175,7 @@ fn column_text(alloc: Global, column: usize) -> Result<String, AllocError>
 // The words for a place, and for the reason there.
 fn place_text(alloc: Global, place: &Place, reason: &str) -> Result<String, AllocError>
     ensures { IfOk result (λ words. string_bytes words
-        ≡ at_path (told_as (dotted (path_of place.now))) ++ codes " (" ++ reason.now ++ codes ")") }
+        ≡ at_path (shown_words (dotted (path_of place.now))) ++ codes " (" ++ reason.now ++ codes ")") }
 {
     let whole = place.path(alloc)?;
     let path = shorten(alloc, whole.as_str(), MOST, true)?;
@@ -186,14 +186,14 @@ fn place_text(alloc: Global, place: &Place, reason: &str) -> Result<String, Allo
 }
 
 // The reason at a place, as a message has it.
-fn told_reason(
+fn reason_text(
     alloc: Global,
     place: &Place,
     text: &[u8],
     newer: Option<&[u8]>,
 ) -> Result<String, AllocError>
     ensures { IfOk result (λ words. (message : List ℕ) × IsReasonIn text.now place.now.reason message
-        × (string_bytes words ≡ told_as message)) }
+        × (string_bytes words ≡ shown_words message)) }
 {
     let reason = reason_in(alloc, place, text, newer)?;
     shorten(alloc, reason.as_str(), MOST, true)

@@ -5,7 +5,7 @@ ghost use Rattle.json.specs.Layout.{after, is_value};
 ghost use Rattle.json.specs.Lex.{tokens};
 ghost use Rattle.json.specs.Print.{begins, token_text, IsPrintable};
 ghost use Rattle.json.specs.Reads.{opens, token_of};
-ghost use Rattle.bson_run.specs.Indent.{indented, HasSameTokens, line, gap, last_of, IsAt, Lays};
+ghost use Rattle.bson_run.specs.Indent.{indented, HasSameTokens, line, gap, last_of, IsAt, IsTokenLaidOut};
 
 use json::{Reader, Scratch, Token, Writer};
 use std::alloc::{AllocError, Global};
@@ -86,7 +86,7 @@ impl Layout {
     fn put(&mut self, token: Token<'_>) -> Result<(), AllocError>
         requires { token ≢ Token.Bad → IsPrintable (token_of token) }
         ensures laid { (n indent : ℕ) → IsAt n indent self.old
-            → OnOk result (Lays n indent self.old self.new (token_of token.entry)) }
+            → OnOk result (IsTokenLaidOut n indent self.old self.new (token_of token.entry)) }
         ensures utf8 { OnOk result (IsUtf8 (token_text (token_of token.entry))) }
     {
         let begins = begins(token);

@@ -21,10 +21,10 @@ use bson_tokens::laws::one_double;
 /// faults.
 pub fn one_outcome()
     ensures { (options : Options) (task : Task) (on_refusal : OnRefusal) (lines : List (List ℕ))
-        (output other told tells : List ℕ) (refused left : ℕ)
-        → OutcomesIn options task on_refusal lines output told refused
-        → OutcomesIn options task on_refusal lines other tells left
-        → (output ≡ other) × AreAlike told tells × (refused ≡ left) }
+        (output other reported reports : List ℕ) (refused left : ℕ)
+        → OutcomesIn options task on_refusal lines output reported refused
+        → OutcomesIn options task on_refusal lines other reports left
+        → (output ≡ other) × AreAlike reported reports × (refused ≡ left) }
 {
     one_double();
     what_fits_has_no_cause();
@@ -35,14 +35,14 @@ pub fn one_outcome()
 /// output before that line, and the lines are not all done.
 pub fn one_stop()
     ensures stop { (options : Options) (task : Task) (on_refusal : OnRefusal) (lines : List (List ℕ))
-        (output other told tells : List ℕ) (fault cause : Error) (number count : ℕ)
-        → StopsInside options task on_refusal lines output told fault number
-        → StopsInside options task on_refusal lines other tells cause count
-        → (output ≡ other) × AreAlike told tells × IsSameFault fault cause × (number ≡ count) }
+        (output other reported reports : List ℕ) (fault cause : Error) (number count : ℕ)
+        → StopsInside options task on_refusal lines output reported fault number
+        → StopsInside options task on_refusal lines other reports cause count
+        → (output ≡ other) × AreAlike reported reports × IsSameFault fault cause × (number ≡ count) }
     ensures either { (options : Options) (task : Task) (on_refusal : OnRefusal) (lines : List (List ℕ))
-        (output other told tells : List ℕ) (fault : Error) (number refused : ℕ)
-        → OutcomesIn options task on_refusal lines other tells refused
-        → StopsInside options task on_refusal lines output told fault number → ⊥ }
+        (output other reported reports : List ℕ) (fault : Error) (number refused : ℕ)
+        → OutcomesIn options task on_refusal lines other reports refused
+        → StopsInside options task on_refusal lines output reported fault number → ⊥ }
 {
     one_double();
     what_fits_has_no_cause();
@@ -68,16 +68,16 @@ pub fn outputs_are_kept()
 /// fault of a text stops inside them. What it wrote and reported is that of the lines before.
 pub fn runs_are_inside()
     ensures done { (options : Options) (task : Task) (on_refusal : OnRefusal) (all : List ℕ)
-        (after had holds told tells : Option (List ℕ)) (number refused : ℕ)
-        → DoneLinesIn options task on_refusal (Some all) after had holds told tells number refused
+        (after had holds reported reports : Option (List ℕ)) (number refused : ℕ)
+        → DoneLinesIn options task on_refusal (Some all) after had holds reported reports number refused
         → (number ≡ length (lines all)) × ((output : List ℕ) × (verdicts : List ℕ)
         × GivesIn options task on_refusal (lines all) output verdicts refused
-        × Appends had holds output × Appends told tells verdicts) }
+        × Appends had holds output × Appends reported reports verdicts) }
     ensures stops { (options : Options) (task : Task) (on_refusal : OnRefusal) (all : List ℕ)
-        (after had holds told tells : Option (List ℕ)) (fault : Error) (number : ℕ) (held : List ℕ)
-        → FailsAtIn options fault task on_refusal (Some all) after had holds told tells number held → IsOfText fault
+        (after had holds reported reports : Option (List ℕ)) (fault : Error) (number : ℕ) (held : List ℕ)
+        → FailsAtIn options fault task on_refusal (Some all) after had holds reported reports number held → IsOfText fault
         → (output : List ℕ) × (verdicts : List ℕ)
         × StopsInside options task on_refusal (lines all) output verdicts fault number
         × (WritesText task → IsUtf8 output) × IsUtf8 verdicts
-        × Appends had holds output × Appends told tells verdicts }
+        × Appends had holds output × Appends reported reports verdicts }
 {}

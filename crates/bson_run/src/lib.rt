@@ -27,4 +27,4 @@ mod quoted;
 pub mod rule;
 mod shorten;
 pub mod stop;
-pub mod taken;
+pub mod preprocessed;

@@ -8,7 +8,7 @@ ghost use Rattle.bson_run.specs.LinesSteps.{CannotWriteBoth, CountsFit, HasWritt
 ghost use Rattle.bson_run.specs.LinesSteps.{IsStart, Running};
 ghost use Rattle.bson_run.specs.Place.{IsWhere};
 
-use crate::collected::{Asked, Collected, empty};
+use crate::collected::{Settings, Collected, empty};
 use crate::order::{OnRefusal, Task};
 use bson::extjson::Options;
 use bson_convert::error::Error;
@@ -23,10 +23,10 @@ const BLOCK: usize = 65536;
 ///
 /// ```
 /// let mut lines: &[u8] = b"1\n[\n";
-/// let (mut output, mut told) = (Vec::new(alloc), Vec::new(alloc));
+/// let (mut output, mut reported) = (Vec::new(alloc), Vec::new(alloc));
 /// let task = Task::Check(Criterion::Valid);
 /// let mut run = LineRun::new(alloc, task, OnRefusal::KeepGoing);
-/// let counts = run.run(alloc, &mut lines, &mut output, &mut told);
+/// let counts = run.run(alloc, &mut lines, &mut output, &mut reported);
 /// println!(rt; "{counts:?}")?; // Ok(Counts { lines: 2, refused: 1 })
 /// ```
 #[derive(Clone, Copy, PartialEq, Eq, Debug)]
@@ -41,9 +41,9 @@ pub struct Counts {
 ///
 /// ```
 /// let mut lines: &[u8] = br#"{"n": 1.5}"#;
-/// let (mut output, mut told) = (Vec::new(alloc), Vec::new(alloc));
+/// let (mut output, mut reported) = (Vec::new(alloc), Vec::new(alloc));
 /// let mut run = LineRun::new(alloc, Task::Check(Criterion::Valid), OnRefusal::Stop);
-/// if let Err(fault) = run.run(alloc, &mut lines, &mut output, &mut told) {
+/// if let Err(fault) = run.run(alloc, &mut lines, &mut output, &mut reported) {
 ///     let place = run.place(alloc, &fault)?;
 ///     println!(rt; "line {}: {}{place}", run.number(), fault.message())?;
 /// }
@@ -63,7 +63,7 @@ pub struct LineRun {
 impl LineRun {
     /// Makes a run that did not begin, with the options by default.
     pub fn new(alloc: Global, task: Task, on_refusal: OnRefusal) -> LineRun
-        ensures asked { (result.options ≡ default_options) × (result.task ≡ task) × (result.on_refusal ≡ on_refusal) }
+        ensures settings { (result.options ≡ default_options) × (result.task ≡ task) × (result.on_refusal ≡ on_refusal) }
     {
         LineRun {
             options: Options::default(),
@@ -111,13 +111,13 @@ impl LineRun {
         ensures same { (self.new.options ≡ self.old.options) × (self.new.task ≡ self.old.task)
             × (self.new.on_refusal ≡ self.old.on_refusal) }
     {
-        let asked = Asked {
+        let settings = Settings {
             options: self.options,
             task: self.task,
             on_refusal: self.on_refusal,
         };
         self.collected = Collected::new(alloc);
-        run_on(alloc, asked, &mut self.collected, reader, writer, report)
+        run_on(alloc, settings, &mut self.collected, reader, writer, report)
     }
 
     /// Returns the number of the line at which the run is: the first that was not done. Lines are
@@ -143,7 +143,7 @@ impl LineRun {
 // A run that has collected nothing yet.
 fn run_on<R: Read, W: Write, T: Write>(
     alloc: Global,
-    asked: Asked,
+    settings: Settings,
     collected: &mut Collected,
     reader: &mut R,
     writer: &mut W,
@@ -153,11 +153,11 @@ fn run_on<R: Read, W: Write, T: Write>(
     requires room { CountsFit collected.old }
     ensures room { CountsFit collected.new }
     ensures done { IfOk result
-        (λ counts. DoneLinesIn asked.options asked.task asked.on_refusal (R.remaining reader.old) (R.remaining reader.new)
+        (λ counts. DoneLinesIn settings.options settings.task settings.on_refusal (R.remaining reader.old) (R.remaining reader.new)
         (W.contents writer.old) (W.contents writer.new) (T.contents report.old) (T.contents report.new) counts.lines
         counts.refused) }
     ensures fails { IfErr result
-        (λ e. FailsAtIn asked.options e asked.task asked.on_refusal (R.remaining reader.old) (R.remaining reader.new)
+        (λ e. FailsAtIn settings.options e settings.task settings.on_refusal (R.remaining reader.old) (R.remaining reader.new)
         (W.contents writer.old) (W.contents writer.new) (T.contents report.old) (T.contents report.new) (collected.new.lines + 1) (text_held collected.new)) }
 {
     let mut block = [0u8; BLOCK];
@@ -166,9 +166,9 @@ fn run_on<R: Read, W: Write, T: Write>(
             return Err(Error::CannotRead);
         };
         if count == 0 {
-            return end(alloc, asked, collected, writer, report);
+            return end(alloc, settings, collected, writer, report);
         }
-        pass_on(alloc, asked, collected, &block[..count], writer, report)?;
+        pass_on(alloc, settings, collected, &block[..count], writer, report)?;
     }
     // A count that no run reaches.
     Err(Error::CannotRead)
@@ -177,7 +177,7 @@ fn run_on<R: Read, W: Write, T: Write>(
 // Takes a block, and writes what its lines gave.
 fn pass_on<W: Write, T: Write>(
     alloc: Global,
-    asked: Asked,
+    settings: Settings,
     collected: &mut Collected,
     block: &[u8],
     writer: &mut W,
@@ -185,21 +185,21 @@ fn pass_on<W: Write, T: Write>(
 ) -> Result<(), Error>
     requires room { CountsFit collected.old }
     ensures room { CountsFit collected.new }
-    ensures ok { OnOk result ((before given after had told : Option (List ℕ))
-        → Running asked.options asked.task asked.on_refusal before given had (W.contents writer.old) told (T.contents report.old)
+    ensures ok { OnOk result ((before given after had reported : Option (List ℕ))
+        → Running settings.options settings.task settings.on_refusal before given had (W.contents writer.old) reported (T.contents report.old)
         collected.old
         → Consumes given after block.now
-        → Running asked.options asked.task asked.on_refusal before after had (W.contents writer.new) told (T.contents report.new)
+        → Running settings.options settings.task settings.on_refusal before after had (W.contents writer.new) reported (T.contents report.new)
         collected.new) }
-    ensures fails { IfErr result (λ e. (before given after had told : Option (List ℕ))
-        → Running asked.options asked.task asked.on_refusal before given had (W.contents writer.old) told (T.contents report.old)
+    ensures fails { IfErr result (λ e. (before given after had reported : Option (List ℕ))
+        → Running settings.options settings.task settings.on_refusal before given had (W.contents writer.old) reported (T.contents report.old)
         collected.old
         → Consumes given after block.now
-        → FailsAtIn asked.options e asked.task asked.on_refusal before after had (W.contents writer.new) told
+        → FailsAtIn settings.options e settings.task settings.on_refusal before after had (W.contents writer.new) reported
         (T.contents report.new) (collected.new.lines + 1) (text_held collected.new)) }
     ensures count { IfErr result (λ e. IsCountedOut e collected.new.lines) }
 {
-    let step = collected.take(alloc, asked, block);
+    let step = collected.take(alloc, settings, block);
     write_out(collected, writer, report)?;
     step
 }
@@ -207,28 +207,28 @@ fn pass_on<W: Write, T: Write>(
 // Takes a last line that no newline ends, and writes what it gave.
 fn end<W: Write, T: Write>(
     alloc: Global,
-    asked: Asked,
+    settings: Settings,
     collected: &mut Collected,
     writer: &mut W,
     report: &mut T,
 ) -> Result<Counts, Error>
     requires room { CountsFit collected.old }
     ensures room { CountsFit collected.new }
-    ensures done { IfOk result (λ counts. (before after had told : Option (List ℕ))
-        → Running asked.options asked.task asked.on_refusal before after had (W.contents writer.old) told (T.contents report.old)
+    ensures done { IfOk result (λ counts. (before after had reported : Option (List ℕ))
+        → Running settings.options settings.task settings.on_refusal before after had (W.contents writer.old) reported (T.contents report.old)
         collected.old
         → IsAtEnd after
-        → DoneLinesIn asked.options asked.task asked.on_refusal before after had (W.contents writer.new) told
+        → DoneLinesIn settings.options settings.task settings.on_refusal before after had (W.contents writer.new) reported
         (T.contents report.new) counts.lines counts.refused) }
-    ensures fails { IfErr result (λ e. (before after had told : Option (List ℕ))
-        → Running asked.options asked.task asked.on_refusal before after had (W.contents writer.old) told (T.contents report.old)
+    ensures fails { IfErr result (λ e. (before after had reported : Option (List ℕ))
+        → Running settings.options settings.task settings.on_refusal before after had (W.contents writer.old) reported (T.contents report.old)
         collected.old
         → IsAtEnd after
-        → FailsAtIn asked.options e asked.task asked.on_refusal before after had (W.contents writer.new) told
+        → FailsAtIn settings.options e settings.task settings.on_refusal before after had (W.contents writer.new) reported
         (T.contents report.new) (collected.new.lines + 1) (text_held collected.new)) }
     ensures count { IfErr result (λ e. IsCountedOut e collected.new.lines) }
 {
-    let step = collected.take_last(alloc, asked);
+    let step = collected.take_last(alloc, settings);
     write_out(collected, writer, report)?;
     step?;
     Ok(Counts {
@@ -248,20 +248,20 @@ fn write_out<W: Write, T: Write>(
     ensures room { CountsFit collected.new }
     ensures ok { OnOk result (HasWritten collected.old collected.new) }
     ensures written { OnOk result (Appends (W.contents writer.old) (W.contents writer.new) collected.old.output.items) }
-    ensures reported { OnOk result (Appends (T.contents report.old) (T.contents report.new) collected.old.told.items) }
+    ensures reports_appended { OnOk result (Appends (T.contents report.old) (T.contents report.new) collected.old.reported.items) }
     ensures cut { OnErr result
         (CannotWriteBoth (W.contents writer.old) (W.contents writer.new) (T.contents report.old)
-        (T.contents report.new) collected.old.output.items collected.old.told.items) }
+        (T.contents report.new) collected.old.output.items collected.old.reported.items) }
     ensures same { OnErr result (collected.new.lines ≡ collected.old.lines) }
     ensures fault { IfErr result (λ e. e ≡ Error.CannotWrite) }
 {
-    let Ok(()) = write_whole(report, &collected.told) else {
+    let Ok(()) = write_whole(report, &collected.reported) else {
         return Err(Error::CannotWrite);
     };
     let Ok(()) = write_whole(writer, &collected.output) else {
         return Err(Error::CannotWrite);
     };
     empty(&mut collected.output);
-    collected.told.clear();
+    collected.reported.clear();
     Ok(())
 }

@@ -29,7 +29,7 @@ pub enum Task {
     /// The same, with the keys of each document in the order of the text.
     EncodeInOrder,
     /// This of the text that is taken so, where it is not refused.
-    Taken(Taking, Work),
+    Preprocessed(Preprocessing, Work),
 }
 
 /// Which texts a check accepts.
@@ -56,14 +56,14 @@ pub enum Criterion {
 /// ```
 /// let mut lines: &[u8] = br#"{"a": 1, "a": 2}"#;
 /// let (mut output, mut told) = (Vec::new(alloc), Vec::new(alloc));
-/// let task = Task::Taken(Taking::Distinct, Work::Check);
+/// let task = Task::Preprocessed(Preprocessing::Distinct, Work::Check);
 /// let mut run = LineRun::new(alloc, task, OnRefusal::KeepGoing);
 /// drop(run.run(alloc, &mut lines, &mut output, &mut told));
 /// rt.print(str::from_utf8(&told)?)?;
 /// // bson: line 1: not Extended JSON at a (duplicate key)
 /// ```
 #[derive(Clone, Copy, PartialEq, Eq, Debug)]
-pub enum Taking {
+pub enum Preprocessing {
     /// A text in which an object has a key twice is refused.
     Distinct,
     /// In the place of a text of Extended JSON v1 that of v2 is read for which it stands.
@@ -77,7 +77,7 @@ pub enum Taking {
 /// ```
 /// let mut lines: &[u8] = br#"{"$type": "00", "$binary": "AQI="}"#;
 /// let (mut output, mut told) = (Vec::new(alloc), Vec::new(alloc));
-/// let task = Task::Taken(Taking::Legacy, Work::Write(Mode::Relaxed));
+/// let task = Task::Preprocessed(Preprocessing::Legacy, Work::Write(Mode::Relaxed));
 /// let mut run = LineRun::new(alloc, task, OnRefusal::Stop);
 /// drop(run.run(alloc, &mut lines, &mut output, &mut told));
 /// rt.print(str::from_utf8(&output)?)?; // {"$binary":{"base64":"AQI=","subType":"00"}}

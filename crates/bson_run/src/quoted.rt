@@ -21,10 +21,10 @@ pub(crate) fn quote(alloc: Global, segments: &[Segment], text: &[u8]) -> Result<
     };
     let mut scratch = Scratch::new(alloc);
     let mut reader = Reader::new(text, &mut scratch)?;
-    let Ok(Some((from, behind))) = value_at(&mut reader, segments) else {
+    let Ok(Some((from, following))) = value_at(&mut reader, segments) else {
         return Ok(String::new(alloc));
     };
-    match part(text, from, behind) {
+    match part(text, from, following) {
         Some(value) => found_text(alloc, value),
         None => Ok(String::new(alloc)),
     }
@@ -39,10 +39,10 @@ fn found_text(alloc: Global, value: &str) -> Result<String, AllocError>
 }
 
 // The value that begins there, without what separates it from the next.
-fn part(text: &str, from: usize, behind: usize) -> Option<&str>
+fn part(text: &str, from: usize, following: usize) -> Option<&str>
     ensures { IfSome result (λ part. IsPart part.now text.now) }
 {
-    let (front, _) = text.split_at_checked(behind)?;
+    let (front, _) = text.split_at_checked(following)?;
     let (_, part) = front.split_at_checked(from)?;
     let part = part.trim_ascii_end().trim_end_matches(',');
     Some(part.trim_ascii_end())

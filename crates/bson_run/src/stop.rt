@@ -145,12 +145,12 @@ fn has_tree(alloc: Global, text: &str) -> Result<bool, AllocError>
 // How many bytes stand before the first number that has no finite double, or 0 if there is none.
 fn number_out_of_range(text: &str, scratch: &mut Scratch) -> Result<usize, AllocError> {
     let mut reader = Reader::new(text, scratch)?;
-    let mut behind = 0usize;
+    let mut following = 0usize;
     while let Some(token) = reader.next() {
         if is_out_of_range(token) {
-            return Ok(behind.saturating_add(blanks(text.as_bytes(), behind)));
+            return Ok(following.saturating_add(blanks(text.as_bytes(), following)));
         }
-        behind = reader.offset();
+        following = reader.offset();
     }
     Ok(0)
 }

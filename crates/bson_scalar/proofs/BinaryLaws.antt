@@ -19,7 +19,7 @@ use Rattle.bson_scalar.specs.Faults.{or_wrong_shape, wrong_shape}
 use Rattle.bson_scalar.specs.Means.{MeansScalar, binary, uuid}
 use Rattle.bson_scalar.specs.Reading.{binary_read, uuid_read, byte_of, bytes_of, bytes_with, only_byte}
 use Rattle.bson_scalar.specs.Scalar.{Scalar}
-use Rattle.bson_scalar.specs.Shapes.{object_of_one}
+use Rattle.bson_scalar.specs.TreeParts.{object_of_one}
 use Rattle.bson_scalar.proofs.InverseLemmas.{if_some, key_is, means_by, un_ok, un_some, some_then, text_then, two_then}
 use Rattle.bson_scalar.proofs.InverseLemmas.{two_same}
 

@@ -13,7 +13,7 @@ use Rattle.bson_scalar.specs.Dates.{is_recent}
 use Rattle.bson_scalar.specs.Means.{MeansScalar, date_of_millis, date_of_text, date_of_number}
 use Rattle.bson_scalar.specs.Reading.{date_read, millis_of}
 use Rattle.bson_scalar.specs.Scalar.{Scalar, date}
-use Rattle.bson_scalar.specs.Shapes.{object_of_one}
+use Rattle.bson_scalar.specs.TreeParts.{object_of_one}
 use Rattle.bson_scalar.proofs.InverseLemmas.{means_by, un_ok, then_ok, or_bad_ok, text_then, lone_then}
 use Rattle.bson_scalar.proofs.IntText.{int_of_from}
 

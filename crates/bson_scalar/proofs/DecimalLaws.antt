@@ -19,7 +19,7 @@ use Rattle.serde_json.specs.Data.{Data}
 use Rattle.bson_scalar.specs.Means.{MeansScalar, number_decimal}
 use Rattle.bson_scalar.specs.Reading.{special_decimal, decimal_at, decimal_pattern, decimal_read}
 use Rattle.bson_scalar.specs.Scalar.{Scalar}
-use Rattle.bson_scalar.specs.Shapes.{object_of_one}
+use Rattle.bson_scalar.specs.TreeParts.{object_of_one}
 use Rattle.bson_scalar.proofs.InverseLemmas.{means_by, un_ok, text_then, some_then}
 
 same : (xs ys : List ℕ) → bytes_eq xs ys ≡ true → xs ≡ ys

@@ -13,7 +13,7 @@ use Rattle.bson_scalar.specs.Means.{MeansScalarIn, MeansScalar, number_double, n
 use Rattle.bson_scalar.specs.Normal.{IsReadScalarIn, IsReadScalar}
 use Rattle.bson_scalar.specs.Reading.{double_read_in}
 use Rattle.bson_scalar.specs.Scalar.{Scalar, double}
-use Rattle.bson_scalar.specs.Shapes.{object_of_one}
+use Rattle.bson_scalar.specs.TreeParts.{object_of_one}
 use Rattle.bson_scalar.specs.declared.form.Doubles.{Doubles}
 use Rattle.bson_scalar.specs.declared.form.Doubles.TheVariants.{Special, Finite}
 use Rattle.bson_scalar.proofs.DoubleLaws.{double_form, double_again, double_text-form, special_is}

@@ -8,7 +8,7 @@ use Rattle.serde_json.specs.Data.{Data}
 use Rattle.bson_scalar.specs.Means.{MeansScalar, oid, db_pointer}
 use Rattle.bson_scalar.specs.Reading.{oid_read, pointer_read, id_or, parsed_object_id}
 use Rattle.bson_scalar.specs.Scalar.{Scalar}
-use Rattle.bson_scalar.specs.Shapes.{object_of_one}
+use Rattle.bson_scalar.specs.TreeParts.{object_of_one}
 use Rattle.std.specs.Prelude.{codes}
 use Rattle.bson_scalar.proofs.InverseLemmas.{means_by, un_ok, then_ok, text_then, lone_then, two_then, two_same}
 

@@ -17,7 +17,7 @@ use Rattle.bson_scalar.specs.Means.{MeansScalar, narrow_number, wide_number, num
 use Rattle.bson_scalar.specs.Means.{MeansScalarIn, nearest_to_number}
 use Rattle.bson_scalar.specs.Reading.{number_read, number_read_in, or_double_read, int32_read, int64_read, int_of}
 use Rattle.bson_scalar.specs.Scalar.{Scalar, int32, int64}
-use Rattle.bson_scalar.specs.Shapes.{object_of_one}
+use Rattle.bson_scalar.specs.TreeParts.{object_of_one}
 use Rattle.bson_scalar.specs.declared.form.Doubles.{Doubles}
 use Rattle.bson_scalar.specs.declared.form.Doubles.TheVariants.{Special, Finite}
 use Rattle.bson_scalar.proofs.InverseLemmas.{means_by, un_ok, text_then, some_then}

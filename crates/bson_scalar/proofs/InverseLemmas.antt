@@ -9,9 +9,9 @@ use Rattle.serde_json.specs.Data as tree
 use Rattle.serde_json.specs.Find.{as_str}
 use Rattle.bson_scalar.specs.Faults.{Fault, ◌>>=◌, or_wrong_shape}
 use Rattle.bson_scalar.specs.Means.{MeansScalar}
-use Rattle.bson_scalar.specs.Reading.{lone_member, two_members, on_text, on_lone, on_two}
+use Rattle.bson_scalar.specs.Reading.{single_key_member, two_members, on_text, on_single_key, on_two}
 use Rattle.bson_scalar.specs.Scalar.{Scalar}
-use Rattle.bson_scalar.specs.Shapes.{object_of_one, object_of_two}
+use Rattle.bson_scalar.specs.TreeParts.{object_of_one, object_of_two}
 
 pub un_ok : {A : Type 0} (x y : A) → ◌≡◌ {A = Result A Fault} (Ok x) (Ok y) → y ≡ x
 un_ok x y h = cc
@@ -48,7 +48,7 @@ string_is (tree.string t) s h = ap tree.string (un_some _ _ h)
 string_is (tree.array ds) s h = cc
 string_is (tree.object ns) s h = cc
 
-pub lone_is : (a : List ℕ) (d e : Data) → lone_member a d ≡ Some e → d ≡ object_of_one a e
+pub lone_is : (a : List ℕ) (d e : Data) → single_key_member a d ≡ Some e → d ≡ object_of_one a e
 lone_is a tree.null e h = cc
 lone_is a (tree.boolean b) e h = cc
 lone_is a (tree.number n) e h = cc
@@ -77,9 +77,9 @@ pub text_then : {X : Type 0} (d : Data) (f : List ℕ → Result X Fault) (x : X
     → (s : List ℕ) × (d ≡ tree.string s) × (f s ≡ Ok x)
 text_then d f x h = let t = some_then (as_str d) f x h in (t.0, string_is d t.0 t.1, t.2)
 
-pub lone_then : {X : Type 0} (a : List ℕ) (d : Data) (f : Data → Result X Fault) (x : X) → on_lone a d f ≡ Ok x
+pub lone_then : {X : Type 0} (a : List ℕ) (d : Data) (f : Data → Result X Fault) (x : X) → on_single_key a d f ≡ Ok x
     → (e : Data) × (d ≡ object_of_one a e) × (f e ≡ Ok x)
-lone_then a d f x h = let t = some_then (lone_member a d) f x h in (t.0, lone_is a d t.0 t.1, t.2)
+lone_then a d f x h = let t = some_then (single_key_member a d) f x h in (t.0, lone_is a d t.0 t.1, t.2)
 
 pub two_then : {X : Type 0} (a b : List ℕ) (d : Data) (f : Data → Data → Result X Fault) (x : X) → on_two a b d f ≡ Ok x
     → (e : Data) × (g : Data) × (d ≡ object_of_two a e b g) × (f e g ≡ Ok x)

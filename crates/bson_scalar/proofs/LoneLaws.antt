@@ -10,7 +10,7 @@ use Rattle.bson_scalar.specs.Means.{MeansScalar, min_key, max_key, undefined}
 use Rattle.bson_scalar.specs.Reading.{one_read, is_one, undefined_read}
 use Rattle.bson_scalar.specs.Scalar.{Scalar}
 use Rattle.bson_scalar.specs.Scalar as kind
-use Rattle.bson_scalar.specs.Shapes.{whole, object_of_one}
+use Rattle.bson_scalar.specs.TreeParts.{whole, object_of_one}
 use Rattle.bson_scalar.proofs.InverseLemmas.{means_by, un_ok}
 
 if_ok : (b : Bool) (y x : Scalar) → ◌≡◌ {A = Result Scalar Fault} (cond b (Ok y) (Err wrong_shape)) (Ok x)

@@ -5,7 +5,7 @@ use Rattle.serde_json.specs.Data.{Data}
 use Rattle.bson_scalar.specs.Means.{MeansScalar, regular_expression}
 use Rattle.bson_scalar.specs.Reading.{regex_read}
 use Rattle.bson_scalar.specs.Scalar.{Scalar}
-use Rattle.bson_scalar.specs.Shapes.{object_of_one}
+use Rattle.bson_scalar.specs.TreeParts.{object_of_one}
 use Rattle.bson_scalar.proofs.InverseLemmas.{means_by, un_ok, text_then, two_then, two_same}
 
 pub regex_from : (d : Data) (x : Scalar) → regex_read d ≡ Ok x

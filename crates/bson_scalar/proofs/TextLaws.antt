@@ -5,7 +5,7 @@ use Rattle.serde_json.specs.Data.{Data}
 use Rattle.bson_scalar.specs.Means.{MeansScalar, symbol, code}
 use Rattle.bson_scalar.specs.Reading.{symbol_read, code_read}
 use Rattle.bson_scalar.specs.Scalar.{Scalar}
-use Rattle.bson_scalar.specs.Shapes.{object_of_one}
+use Rattle.bson_scalar.specs.TreeParts.{object_of_one}
 use Rattle.bson_scalar.proofs.InverseLemmas.{means_by, un_ok, text_then}
 
 pub symbol_from : (d : Data) (x : Scalar) → symbol_read d ≡ Ok x → MeansScalar (object_of_one (codes "$symbol") d) x

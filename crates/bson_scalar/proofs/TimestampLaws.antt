@@ -6,7 +6,7 @@ use Rattle.serde_json.specs.Data.{Data}
 use Rattle.bson_scalar.specs.Means.{MeansScalar, timestamp}
 use Rattle.bson_scalar.specs.Reading.{timestamp_read}
 use Rattle.bson_scalar.specs.Scalar.{Scalar}
-use Rattle.bson_scalar.specs.Shapes.{u32_at, object_of_one, natural}
+use Rattle.bson_scalar.specs.TreeParts.{u32_at, object_of_one, natural}
 use Rattle.bson_scalar.proofs.InverseLemmas.{means_by, un_ok, some_then, two_then}
 
 pub timestamp_from : (d : Data) (x : Scalar) → timestamp_read d ≡ Ok x

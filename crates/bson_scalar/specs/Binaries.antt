@@ -9,7 +9,7 @@ use Rattle.bson_types.specs.Subtype.{subtype_byte}
 use Rattle.bson_types.specs.declared.spec.BinarySubtype.{BinarySubtype}
 use Rattle.serde_json.specs.Data.{Data}
 use Rattle.serde_json.specs.Data as tree
-use Rattle.bson_scalar.specs.Shapes.{object_of_one, object_of_two}
+use Rattle.bson_scalar.specs.TreeParts.{object_of_one, object_of_two}
 use Rattle.bson_scalar.specs.Table.{key_of}
 use Rattle.bson_scalar.specs.declared.wrapper.Wrapper.TheVariants.{Binary}
 

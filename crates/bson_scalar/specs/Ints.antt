@@ -7,7 +7,7 @@ use mir.Syntax.{Width}
 use Rattle.serde_json.specs.Data.{Data}
 use Rattle.serde_json.specs.Data as tree
 use Rattle.bson_scalar.specs.Scalar.{Scalar, int32, int64}
-use Rattle.bson_scalar.specs.Shapes.{object_of_one}
+use Rattle.bson_scalar.specs.TreeParts.{object_of_one}
 use Rattle.bson_scalar.specs.Table.{key_of}
 use Rattle.bson_scalar.specs.declared.wrapper.Wrapper.TheVariants.{NumberInt, NumberLong}
 

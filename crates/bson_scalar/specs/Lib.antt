@@ -4,7 +4,7 @@ pub mod SameLaws
 pub mod Feed
 pub mod Faults
 pub mod Table
-pub mod Shapes
+pub mod TreeParts
 pub mod Ints
 pub mod Shortest
 pub mod Doubles
@@ -12,7 +12,7 @@ pub mod Decimals
 pub mod Texts
 pub mod Ids
 pub mod Timestamps
-pub mod Lone
+pub mod Constants
 pub mod Binaries
 pub mod Regexes
 pub mod Dates

@@ -21,7 +21,7 @@ use Rattle.bson_scalar.specs.Doubles.{double_pattern, finite_number}
 use Rattle.bson_scalar.specs.Ints.{IsIntText}
 use Rattle.bson_scalar.specs.Scalar.{Scalar}
 use Rattle.bson_scalar.specs.Scalar as kind
-use Rattle.bson_scalar.specs.Shapes.{object_of_one, object_of_two, whole, u32_at}
+use Rattle.bson_scalar.specs.TreeParts.{object_of_one, object_of_two, whole, u32_at}
 use Rattle.bson_scalar.specs.declared.form.Doubles.{Doubles}
 use Rattle.bson_scalar.specs.declared.form.Doubles.TheVariants.{Special, Finite}
 

@@ -27,7 +27,7 @@ use Rattle.bson_scalar.specs.Faults.{Fault, wrong_shape, wrong_id, ◌>>=◌, or
 use Rattle.bson_scalar.specs.Ints.{fits_bits, narrowest}
 use Rattle.bson_scalar.specs.Scalar.{Scalar, null, undefined, min_key, max_key, boolean, double, int32, int64, text}
 use Rattle.bson_scalar.specs.Scalar.{symbol, code, regex, timestamp, binary, object_id, date, decimal, db_pointer}
-use Rattle.bson_scalar.specs.Shapes.{whole, u32_at}
+use Rattle.bson_scalar.specs.TreeParts.{whole, u32_at}
 use Rattle.bson_scalar.specs.Table.{wrapper_of, Wrapper, Oid, Symbol, RegularExpression, NumberInt, NumberLong}
 use Rattle.bson_scalar.specs.Table.{NumberDouble, NumberDecimal, Binary, Uuid, Code, Timestamp, Date, MinKey, MaxKey}
 use Rattle.bson_scalar.specs.Table.{DbPointer, Undefined}
@@ -37,9 +37,9 @@ use Rattle.bson_scalar.specs.declared.form.Doubles.TheVariants.{Special, Finite}
 -- ---- shapes
 
 -- the value of a map that has this key alone
-abbrev pub lone_member : List ℕ → Data → Option Data
-lone_member a (tree.object (member k d no_members)) = if bytes_eq k a then Some d else None
-lone_member a _ = None
+abbrev pub single_key_member : List ℕ → Data → Option Data
+single_key_member a (tree.object (member k d no_members)) = if bytes_eq k a then Some d else None
+single_key_member a _ = None
 
 -- the values of a map that has just these two keys, of which a is the lesser
 abbrev pub two_members : List ℕ → List ℕ → Data → Option (Data × Data)
@@ -51,8 +51,8 @@ two_members a b _ = None
 abbrev pub on_text : {X : Type 0} → Data → (List ℕ → Result X Fault) → Result X Fault
 on_text d f = or_wrong_shape (as_str d) >>= f
 
-abbrev pub on_lone : {X : Type 0} → List ℕ → Data → (Data → Result X Fault) → Result X Fault
-on_lone a d f = or_wrong_shape (lone_member a d) >>= f
+abbrev pub on_single_key : {X : Type 0} → List ℕ → Data → (Data → Result X Fault) → Result X Fault
+on_single_key a d f = or_wrong_shape (single_key_member a d) >>= f
 
 abbrev pub on_two : {X : Type 0} → List ℕ → List ℕ → Data → (Data → Data → Result X Fault) → Result X Fault
 on_two a b d f = or_wrong_shape (two_members a b d) >>= λ p. f p.0 p.1
@@ -142,7 +142,7 @@ oid_read d = on_text d (λ s. parsed_object_id s >>= λ id. Ok (object_id id))
 abbrev pub pointer_read : Data → Result Scalar Fault
 pointer_read d =
     on_two (codes "$id") (codes "$ref") d (λ i r.
-    on_text r (λ name. on_lone (codes "$oid") i (λ t. on_text t (λ s. parsed_object_id s >>= λ id. Ok (db_pointer name id)))))
+    on_text r (λ name. on_single_key (codes "$oid") i (λ t. on_text t (λ s. parsed_object_id s >>= λ id. Ok (db_pointer name id)))))
 
 -- ---- moments
 
@@ -154,7 +154,7 @@ timestamp_read d =
 abbrev pub millis_of : Data → Result ℤ Fault
 millis_of (tree.string s) = or_wrong_shape (named_moment s)
 millis_of (tree.number n) = or_wrong_shape (as_i64 n)
-millis_of d = on_lone (codes "$numberLong") d (λ t. on_text t (λ s. or_wrong_shape (int_of 63 s)))
+millis_of d = on_single_key (codes "$numberLong") d (λ t. on_text t (λ s. or_wrong_shape (int_of 63 s)))
 
 abbrev pub date_read : Data → Result Scalar Fault
 date_read d = millis_of d >>= λ z. Ok (date z)
@@ -231,9 +231,9 @@ abbrev pub single_at : Option Wrapper → Data → Result Scalar Fault
 single_at = single_at_in Special
 
 -- code with the scope null
-abbrev pub code_beside : Data → Data → Result Scalar Fault
-code_beside tree.null d = code_read d
-code_beside _ d = Err wrong_shape
+abbrev pub code_with_null_scope : Data → Data → Result Scalar Fault
+code_with_null_scope tree.null d = code_read d
+code_with_null_scope _ d = Err wrong_shape
 
 abbrev pub scalar_read_in : Doubles → Data → Result Scalar Fault
 scalar_read_in m tree.null = Ok null
@@ -242,5 +242,5 @@ scalar_read_in m (tree.number n) = number_read_in m n
 scalar_read_in m (tree.string s) = Ok (text s)
 scalar_read_in m (tree.object (member k d no_members)) = single_at_in m (wrapper_of k) d
 scalar_read_in m (tree.object (member k d (member l e no_members))) =
-    if bytes_eq k (codes "$code") && bytes_eq l (codes "$scope") then code_beside e d else Err wrong_shape
+    if bytes_eq k (codes "$code") && bytes_eq l (codes "$scope") then code_with_null_scope e d else Err wrong_shape
 scalar_read_in m _ = Err wrong_shape

@@ -3,7 +3,7 @@
 use Rattle.std.specs.Prelude.{ℕ, List, codes}
 use Rattle.serde_json.specs.Data.{Data}
 use Rattle.serde_json.specs.Data as tree
-use Rattle.bson_scalar.specs.Shapes.{object_of_one, object_of_two}
+use Rattle.bson_scalar.specs.TreeParts.{object_of_one, object_of_two}
 use Rattle.bson_scalar.specs.Table.{key_of}
 use Rattle.bson_scalar.specs.declared.wrapper.Wrapper.TheVariants.{RegularExpression}
 

@@ -2,7 +2,7 @@
 -- Read and written: {"$timestamp": {"t": 1, "i": 2}}.
 use Rattle.std.specs.Prelude.{ℕ, codes}
 use Rattle.serde_json.specs.Data.{Data}
-use Rattle.bson_scalar.specs.Shapes.{object_of_one, object_of_two, natural}
+use Rattle.bson_scalar.specs.TreeParts.{object_of_one, object_of_two, natural}
 use Rattle.bson_scalar.specs.Table.{key_of}
 use Rattle.bson_scalar.specs.declared.wrapper.Wrapper.TheVariants.{Timestamp}
 

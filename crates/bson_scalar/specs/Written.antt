@@ -12,7 +12,7 @@ use Rattle.bson_scalar.specs.Decimals.{decimal_tree}
 use Rattle.bson_scalar.specs.Doubles.{double_tree, double_text, IsDoubleTextIn, text_in}
 use Rattle.bson_scalar.specs.Ids.{oid_tree, pointer_tree}
 use Rattle.bson_scalar.specs.Ints.{int32_tree, int64_tree}
-use Rattle.bson_scalar.specs.Lone.{min_key_tree, max_key_tree, undefined_tree}
+use Rattle.bson_scalar.specs.Constants.{min_key_tree, max_key_tree, undefined_tree}
 use Rattle.bson_types.specs.Regex.{sorted_text}
 use Rattle.bson_scalar.specs.Regexes.{regex_tree}
 use Rattle.bson_scalar.specs.Texts.{symbol_tree, code_tree}

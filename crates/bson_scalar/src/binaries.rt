@@ -13,12 +13,12 @@ ghost use Rattle.bson_scalar.specs.Binaries.{binary_tree};
 ghost use Rattle.bson_scalar.specs.Faults.{Gives, or_wrong_shape};
 ghost use Rattle.bson_scalar.specs.Reading.{binary_read, uuid_read, byte_of as byte_at};
 ghost use Rattle.bson_scalar.specs.Reading.{bytes_of as bytes_at};
-ghost use Rattle.bson_scalar.specs.Shapes.{object_of_one, object_of_two};
+ghost use Rattle.bson_scalar.specs.TreeParts.{object_of_one, object_of_two};
 ghost use Rattle.bson_scalar.specs.View.{scalar_view};
 
 use crate::error::Error;
 use crate::scalar::Scalar;
-use crate::shapes::{are_bytes, expect, text_in, two_in};
+use crate::tree_parts::{are_bytes, expect, text_in, two_keys_in};
 use crate::sink::Sink;
 use crate::wrapped::{begin, end_one, two_texts};
 use base64::engine::general_purpose::STANDARD;
@@ -59,7 +59,7 @@ fn bytes_of(alloc: Global, text: &str) -> Result<Vec<u8>, Error>
 pub(crate) fn read_binary(alloc: Global, value: Value) -> Result<Scalar, Error>
     ensures { Gives scalar_view result (binary_read (view value)) }
 {
-    let (base64, subtype) = two_in(value, "base64", "subType", BINARY_SHAPE)?;
+    let (base64, subtype) = two_keys_in(value, "base64", "subType", BINARY_SHAPE)?;
     let base64 = text_in(base64, BINARY_SHAPE)?;
     let subtype = text_in(subtype, BINARY_SHAPE)?;
     let bytes = bytes_of(alloc, base64.as_str())?;

@@ -4,7 +4,7 @@ ghost use Rattle.std.specs.Prelude.{◌≡◌, ◌++◌, ◌&&◌, IfOk, OnOk, c
 ghost use Rattle.std.specs.Str.{bytes_eq};
 ghost use Rattle.serde_json.specs.Data.{object, string};
 ghost use Rattle.serde_json.specs.View.{view, members_view};
-ghost use Rattle.bson_scalar.specs.Shapes.{object_of_two};
+ghost use Rattle.bson_scalar.specs.TreeParts.{object_of_two};
 ghost use Rattle.bson_scalar.specs.Tokens.{code_tokens};
 
 use json::Writer;

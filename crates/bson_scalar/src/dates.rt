@@ -16,7 +16,7 @@ use crate::error::Error;
 use crate::form::Form;
 use crate::ints::int64_of;
 use crate::scalar::Scalar;
-use crate::shapes::{expect, lone_in, text_in};
+use crate::tree_parts::{expect, single_key_in, text_in};
 use crate::sink::Sink;
 use crate::wrapped::{begin, end_one, wrapped_numeral, wrapped_owned};
 use bson_datetime::DateTime;
@@ -46,7 +46,7 @@ fn millis_in(value: Value) -> Result<i64, Error>
         ),
         Value::Number(number) => expect(number.as_i64(), SHAPE),
         value => {
-            let text = text_in(lone_in(value, "$numberLong", SHAPE)?, SHAPE)?;
+            let text = text_in(single_key_in(value, "$numberLong", SHAPE)?, SHAPE)?;
             expect(int64_of(text.as_str()), SHAPE)
         }
     }

@@ -9,7 +9,7 @@ ghost use Rattle.bson_scalar.specs.View.{scalar_view};
 
 use crate::error::Error;
 use crate::scalar::Scalar;
-use crate::shapes::{expect, text_in};
+use crate::tree_parts::{expect, text_in};
 use crate::sink::Sink;
 use crate::wrapped::wrapped_owned;
 use bson_decimal::Decimal128;

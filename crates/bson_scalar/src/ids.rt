@@ -9,12 +9,12 @@ ghost use Rattle.bson_types.specs.Oid.{IsObjectId};
 ghost use Rattle.bson_scalar.specs.Faults.{Gives};
 ghost use Rattle.bson_scalar.specs.Ids.{oid_tree, pointer_tree};
 ghost use Rattle.bson_scalar.specs.Reading.{parsed_object_id, oid_read, pointer_read};
-ghost use Rattle.bson_scalar.specs.Shapes.{object_of_two};
+ghost use Rattle.bson_scalar.specs.TreeParts.{object_of_two};
 ghost use Rattle.bson_scalar.specs.View.{scalar_view};
 
 use crate::error::Error;
 use crate::scalar::Scalar;
-use crate::shapes::{lone_in, text_in, two_in};
+use crate::tree_parts::{single_key_in, text_in, two_keys_in};
 use crate::sink::Sink;
 use crate::wrapped::{begin, begin_second, end_one, end_two, wrapped_owned};
 use bson_types::db_pointer::DbPointer;
@@ -49,9 +49,9 @@ pub(crate) fn read_oid(alloc: Global, value: Value) -> Result<Scalar, Error>
 pub(crate) fn read_pointer(alloc: Global, value: Value) -> Result<Scalar, Error>
     ensures { Gives scalar_view result (pointer_read (view value)) }
 {
-    let (id, name) = two_in(value, "$id", "$ref", POINTER_SHAPE)?;
+    let (id, name) = two_keys_in(value, "$id", "$ref", POINTER_SHAPE)?;
     let namespace = text_in(name, POINTER_SHAPE)?;
-    let text = text_in(lone_in(id, "$oid", POINTER_SHAPE)?, POINTER_SHAPE)?;
+    let text = text_in(single_key_in(id, "$oid", POINTER_SHAPE)?, POINTER_SHAPE)?;
     let id = id_of(alloc, text.as_str())?;
     Ok(Scalar::DbPointer(DbPointer::new(namespace, id)))
 }

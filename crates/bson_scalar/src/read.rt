@@ -13,7 +13,7 @@ use crate::error::Error;
 use crate::form::Doubles;
 use crate::ids::{read_oid, read_pointer};
 use crate::ints::{read_int32, read_int64};
-use crate::lone::{read_max_key, read_min_key, read_undefined};
+use crate::constants::{read_max_key, read_min_key, read_undefined};
 use crate::regexes::read_regex;
 use crate::scalar::Scalar;
 use crate::texts::{read_code, read_symbol};

@@ -10,7 +10,7 @@ ghost use Rattle.bson_scalar.specs.View.{scalar_view};
 
 use crate::error::Error;
 use crate::scalar::Scalar;
-use crate::shapes::{text_in, two_in};
+use crate::tree_parts::{text_in, two_keys_in};
 use crate::sink::Sink;
 use crate::wrapped::{begin, end_one, two_texts};
 use bson_types::regex::{Regex, sort_characters};
@@ -23,7 +23,7 @@ const SHAPE: &str = "`$regularExpression` must have the strings `pattern` and `o
 pub(crate) fn read_regex(alloc: Global, value: Value) -> Result<Scalar, Error>
     ensures { Gives scalar_view result (regex_read (view value)) }
 {
-    let (options, pattern) = two_in(value, "options", "pattern", SHAPE)?;
+    let (options, pattern) = two_keys_in(value, "options", "pattern", SHAPE)?;
     let options = text_in(options, SHAPE)?;
     let pattern = text_in(pattern, SHAPE)?;
     let options = sort_characters(alloc, options.as_str())?;

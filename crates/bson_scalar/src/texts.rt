@@ -8,7 +8,7 @@ ghost use Rattle.bson_scalar.specs.View.{scalar_view};
 
 use crate::error::Error;
 use crate::scalar::Scalar;
-use crate::shapes::text_in;
+use crate::tree_parts::text_in;
 use crate::sink::Sink;
 use crate::wrapped::wrapped_owned;
 use serde_json::Value;

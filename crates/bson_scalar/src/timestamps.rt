@@ -4,13 +4,13 @@ ghost use Rattle.std.specs.Prelude.{◌≡◌, ◌<◌, ◌^◌, IfOk, OnOk, cod
 ghost use Rattle.serde_json.specs.View.{view};
 ghost use Rattle.bson_scalar.specs.Faults.{Gives};
 ghost use Rattle.bson_scalar.specs.Reading.{timestamp_read};
-ghost use Rattle.bson_scalar.specs.Shapes.{object_of_two, natural};
+ghost use Rattle.bson_scalar.specs.TreeParts.{object_of_two, natural};
 ghost use Rattle.bson_scalar.specs.Timestamps.{timestamp_tree};
 ghost use Rattle.bson_scalar.specs.View.{scalar_view};
 
 use crate::error::Error;
 use crate::scalar::Scalar;
-use crate::shapes::{two_in, u32_of};
+use crate::tree_parts::{two_keys_in, u32_of};
 use crate::sink::Sink;
 use crate::wrapped::{begin, begin_second, end_one, end_two};
 use bson_types::timestamp::Timestamp;
@@ -23,7 +23,7 @@ const SHAPE: &str = "`$timestamp` must have `t` and `i`, integers from 0 to 4294
 pub(crate) fn read_timestamp(value: Value) -> Result<Scalar, Error>
     ensures { Gives scalar_view result (timestamp_read (view value)) }
 {
-    let (increment, time) = two_in(value, "i", "t", SHAPE)?;
+    let (increment, time) = two_keys_in(value, "i", "t", SHAPE)?;
     match (u32_of(&time), u32_of(&increment)) {
         (Some(time), Some(increment)) => Ok(Scalar::Timestamp(Timestamp { time, increment })),
         _ => Err(Error::DeserializationError { message: SHAPE }),

@@ -3,7 +3,7 @@ ghost use Rattle.std.specs.Prelude.{◌≡◌, ℕ, List, IfOk, string_bytes};
 ghost use Rattle.std.specs.Fmt.{signed_decimal};
 ghost use Rattle.serde_json.specs.Data.{Data, no_members, member, put};
 ghost use Rattle.serde_json.specs.Data as tree;
-ghost use Rattle.bson_scalar.specs.Shapes.{object_of_one, object_of_two};
+ghost use Rattle.bson_scalar.specs.TreeParts.{object_of_one, object_of_two};
 
 use crate::sink::Sink;
 use std::alloc::AllocError;

@@ -16,7 +16,7 @@ use crate::doubles::write_double;
 use crate::form::{Doubles, Form};
 use crate::ids::{write_oid, write_pointer};
 use crate::ints::{write_int32, write_int64};
-use crate::lone::{write_max_key, write_min_key, write_undefined};
+use crate::constants::{write_max_key, write_min_key, write_undefined};
 use crate::regexes::write_regex;
 use crate::scalar::Scalar;
 use crate::sink::{Sink, Trees};

@@ -8,7 +8,7 @@ use Rattle.jiff_fmt.specs.Reader.{fraction_value}
 use Rattle.bson_datetime.specs.Moment.{Civil, IsCivil, IsMoment}
 use Rattle.bson_datetime.proofs.Offered.{rfc-fields}
 use Rattle.bson_scalar.specs.Scalar as kind
-use Rattle.bson_scalar.specs.Shapes.{object_of_one}
+use Rattle.bson_scalar.specs.TreeParts.{object_of_one}
 use Rattle.bson_scalar.specs.declared.form.Form.TheVariants.{Relaxed}
 use Rattle.bson_model.specs.Means.{Means}
 use Rattle.bson_model.specs.Value as model

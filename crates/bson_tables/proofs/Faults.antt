@@ -6,7 +6,7 @@ use Rattle.serde_json.specs.Data as tree
 use Rattle.bson_decimal.specs.Steps.{cut_at_34, raise_to_least, zeros_to_add, exponent_value, written_exponent_place}
 use Rattle.bson_decimal.specs.Steps.{scaled_exponent, coefficient, stored_pair, finite}
 use Rattle.bson_scalar.specs.Reading.{decimal_pattern}
-use Rattle.bson_scalar.specs.Shapes.{object_of_one, object_of_two}
+use Rattle.bson_scalar.specs.TreeParts.{object_of_one, object_of_two}
 use Rattle.bson_scalar.specs.Faults.{wrong_shape, wrong_id}
 use Rattle.bson_model.specs.Fault.{fault_of, MeansNothing}
 use Rattle.bson_tables.proofs.Shapes.{whole, list_of_two, none}

@@ -4,7 +4,7 @@ use Rattle.std.specs.Prelude.{codes}
 use Rattle.serde_json.specs.Data.{Data, negative}
 use Rattle.serde_json.specs.Data as tree
 use Rattle.bson_scalar.specs.Scalar as kind
-use Rattle.bson_scalar.specs.Shapes.{object_of_one, object_of_two}
+use Rattle.bson_scalar.specs.TreeParts.{object_of_one, object_of_two}
 use Rattle.bson_scalar.specs.Means as means
 use Rattle.bson_scalar.specs.Means.{IsBase64, IsOidText, sorted_text, subtype_of, IsHyphenatedText, Uuid, Names}
 use Rattle.bson_scalar.specs.Means.{Parses}

@@ -11,7 +11,7 @@ use Rattle.bson_types.specs.Regex.{sorted_text}
 use Rattle.bson_scalar.specs.Faults.{wrong_shape}
 use Rattle.bson_scalar.specs.Doubles.{double_tree}
 use Rattle.bson_scalar.specs.Scalar.{null, boolean, double, text, code, timestamp, regex}
-use Rattle.bson_scalar.specs.Shapes.{object_of_one, object_of_two}
+use Rattle.bson_scalar.specs.TreeParts.{object_of_one, object_of_two}
 use Rattle.bson_scalar.specs.Written as scalar_tree
 use Rattle.bson_scalar.specs.declared.form.Doubles.{Doubles}
 use Rattle.bson_scalar.specs.declared.form.Doubles.TheVariants.{Special, Finite}

@@ -5,7 +5,7 @@ use Rattle.serde_json.specs.Data.{Data}
 use Rattle.serde_json.specs.Data as tree
 use Rattle.bson_scalar.specs.Faults.{wrong_shape, wrong_id}
 use Rattle.bson_scalar.specs.Scalar as kind
-use Rattle.bson_scalar.specs.Shapes.{object_of_one, object_of_two}
+use Rattle.bson_scalar.specs.TreeParts.{object_of_one, object_of_two}
 use Rattle.bson_scalar.specs.declared.form.Doubles.TheVariants.{Special}
 use Rattle.bson_model.specs.Value as model
 use Rattle.bson_tree.specs.Place.{FaultAt, key, element, array, document, here, later, at_key}

@@ -13,7 +13,7 @@ use Rattle.bson_decimal.specs.Pattern.{normal_decimal}
 use Rattle.bson_decimal.specs.Displayed.{decimal128_text as decimal_text}
 use Rattle.bson_scalar.specs.Reading.{decimal_pattern}
 use Rattle.bson_scalar.specs.Scalar as kind
-use Rattle.bson_scalar.specs.Shapes.{object_of_one, object_of_two}
+use Rattle.bson_scalar.specs.TreeParts.{object_of_one, object_of_two}
 use Rattle.bson_scalar.specs.declared.form.Form.{Form}
 use Rattle.bson_model.specs.Means.{Means}
 use Rattle.bson_model.specs.Value as model

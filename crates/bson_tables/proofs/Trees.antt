@@ -4,7 +4,7 @@ use Rattle.std.specs.Prelude.{codes}
 use Rattle.serde_json.specs.Data.{Data, negative}
 use Rattle.serde_json.specs.Data as tree
 use Rattle.bson_scalar.specs.Scalar as kind
-use Rattle.bson_scalar.specs.Shapes.{object_of_one, object_of_two}
+use Rattle.bson_scalar.specs.TreeParts.{object_of_one, object_of_two}
 use Rattle.std.specs.Fmt.{signed_decimal}
 use Rattle.hex.specs.Hex.{encode_lower}
 use Rattle.bson_datetime.specs.Displayed.{rfc}

@@ -178,11 +178,11 @@ module _ (D : Doubles) (L S : Type 0) where
   pub behind_denied : (e f : Stop) (depth : ℕ) (first : Option (List ℕ)) (ts q : List Token)
       → read_key ts ≡ Some (first, q) → first ≡ Some (codes "$scope") → IsStopAfter e f
       → CodeDenied D L S e true (value depth q) → ObjectDenied D L S f (inside depth ts)
-  behind_denied e f depth first ts q key is behind nothing ms r parsed d =
+  behind_denied e f depth first ts q key is needs_comma nothing ms r parsed d =
       let k = codes "$scope" in
       let here : from_key depth (Some k) q ≡ Some (ms, r) =
       sym (begins depth (Some k) ts q (key ∙ ap (λ x. Some (x, q)) is)) ∙ parsed in
-      behind_key e f depth q behind nothing ms r here d
+      behind_key e f depth q needs_comma nothing ms r here d
 
   -- ---- code with its scope
 

@@ -156,10 +156,10 @@ module _ (D : Doubles) where
 
   -- the keys of the members to the end
   pub end_keys : {S : Type 0} (wrote : S → List ℕ → Value → S → Type 0) (keyed : S → List ℕ → S → Type 0) (b : Bool)
-      (whole : Option (json.Members × List Token)) (s : List Token) (ks : List Key) (begun now : S)
-      → ToGo D wrote keyed b whole (Some (json.no_members, s)) ks begun now
+      (whole : Option (json.Members × List Token)) (s : List Token) (ks : List Key) (mark now : S)
+      → ToGo D wrote keyed b whole (Some (json.no_members, s)) ks mark now
       → (all : json.Members) × (whole ≡ Some (all, s)) × (keys all ≡ texts ks)
-  end_keys wrote keyed b whole s ks begun now go =
+  end_keys wrote keyed b whole s ks mark now go =
       let g = go json.no_members s no_members model.no_pairs now refl refl refl (λ is. refl) refl in
       (g.0, g.3, keys_kept g.0 g.1 g.2 g.4 g.5 ∙ g.7 ∙ append_none (texts ks))
 
@@ -194,9 +194,9 @@ module _ (D : Doubles) (L S : Type 0) where
   unfolding items
   item_stopped e p zero ts going nothing js r is d = cc
   item_stopped e p (suc n) ts going nothing js r is d =
-      let begun : option_and_then (λ q. parse_map (json.item q.0) (items p n q.1)) (p ts) ≡ Some (js, r) =
+      let mark : option_and_then (λ q. parse_map (json.item q.0) (items p n q.1)) (p ts) ≡ Some (js, r) =
       sym (ap (items_step p (items p n) ts) going) ∙ is in
-      let g = then_parsed json.item (items p n) (p ts) js r begun in
+      let g = then_parsed json.item (items p n) (p ts) js r mark in
       let j = g.0 in
       let ks = g.2 in
       nothing j g.1 g.3 (denied e (λ p. (p.0, p.1.0)) (λ u. u.0) (λ u m. (item_means D j ks m).0)

@@ -32,7 +32,7 @@ use Rattle.bson_tokens.proofs.Offered.{Is, is_found}
 use Rattle.bson_text.proofs.Objects.{step_more}
 use Rattle.bson_text.proofs.Denials.{mapped_parse, then_parsed, split_kept, mapped}
 use Rattle.bson_text.specs.Placed.{IsUnder, Rises, ItemsRise, MembersRise, trees_of, any_wrapper, FirstPlain, IsOf}
-use Rattle.bson_text.specs.Placed.{IsShape, IsPlaceWithin, Elemented, AtKey, Membered, verdict_of}
+use Rattle.bson_text.specs.Placed.{IsShapeFault, IsPlaceWithin, Elemented, AtKey, Membered, verdict_of}
 use Rattle.bson_text.specs.Placed.{ValuePlaced, ItemsPlaced, MembersPlaced, ObjectPlaced}
 use Rattle.bson_text.specs.declared.stop.Stop.{Stop}
 use Rattle.bson_text.proofs.Passing.{at_map}
@@ -48,7 +48,7 @@ placed_within v w s x p q is (path, reason) e = record {
   reason = subst (IsReason is.fault) (sym reason) is.reason;
 }
 
-pub placed_here : (w : Verdict) (q : Place) → IsShape q → w ≡ here → IsOf w q
+pub placed_here : (w : Verdict) (q : Place) → IsShapeFault q → w ≡ here → IsOf w q
 placed_here w q (path, reason) e = record {
   fault = wrong_shape;
   path = e ∙ ap (λ y. Some (wrong_shape, y)) (sym path);
@@ -122,9 +122,9 @@ module _ (D : Doubles) where
   items_placed e f whole depth (suc n) place ts mid rest going from at out = at_map f _ _ (λ q (p, is, further, passed) js r ds whole_is rise of.
       let P = value depth in
       let g = from js r ds whole_is rise of in
-      let begun : option_and_then (λ x. parse_map (json.item x.0) (items P n x.1)) (P ts) ≡ Some (g.0, r) =
+      let mark : option_and_then (λ x. parse_map (json.item x.0) (items P n x.1)) (P ts) ≡ Some (g.0, r) =
       sym (items_step_at P n ts going) ∙ g.2 in
-      let b = then_parsed json.item (items P n) (P ts) g.0 r begun in
+      let b = then_parsed json.item (items P n) (P ts) g.0 r mark in
       let rises = subst ItemsRise b.5 g.3 in
       let a = split_kept item (of_json b.0) (of_items b.2) g.1 (subst (λ x. of_items x ≡ Some g.1) b.5 g.4) in
       let here = subst (λ x. ValuePlaced D x (P ts) mid) is at in

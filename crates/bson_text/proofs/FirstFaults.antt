@@ -18,7 +18,7 @@ use Rattle.bson_tree.specs.declared.place.Place.{Place}
 use Rattle.bson_tokens.proofs.Offered.{text_read}
 use Rattle.bson_tokens.specs.Normalized.{normalized, HasNumbers, ItemsHaveNumbers, MembersHaveNumbers, IsNormalizedText}
 use Rattle.bson_tokens.specs.declared.arrangement.Arrangement.TheVariants.{Ascending}
-use Rattle.bson_tokens.specs.Told.{IsTextPlaceIn}
+use Rattle.bson_tokens.specs.TextPlaces.{IsTextPlaceIn}
 use Rattle.bson_text.proofs.Normalized.{normalized_rises}
 use Rattle.bson_text.specs.Placed.{TextPlaced}
 use Rattle.bson_text.specs.declared.stop.Stop.{Stop}

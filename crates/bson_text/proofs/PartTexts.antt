@@ -42,15 +42,15 @@ printed_then t ts =
 
 -- the text of elements, after another or at first, with the closing bracket
 abbrev pub printed_items : Bool → Items → List ℕ
-printed_items behind ds = print_from behind (items_tokens (items_outline ds))
+printed_items needs_comma ds = print_from needs_comma (items_tokens (items_outline ds))
 
-pub no_more_items : (behind : Bool) → printed_items behind no_items ≡ 93 ∷ []
+pub no_more_items : (needs_comma : Bool) → printed_items needs_comma no_items ≡ 93 ∷ []
 unfolding print_from
 no_more_items true = refl
 no_more_items false = refl
 
-first_printed : (behind : Bool) (j : Json) (ts : List Token)
-    → print_from behind (json_tokens j ++ ts) ≡ comma_if behind ++ print_from false (json_tokens j ++ ts)
+first_printed : (needs_comma : Bool) (j : Json) (ts : List Token)
+    → print_from needs_comma (json_tokens j ++ ts) ≡ comma_if needs_comma ++ print_from false (json_tokens j ++ ts)
 unfolding print_from
 first_printed false j ts = refl
 first_printed true json.null ts = refl
@@ -60,11 +60,11 @@ first_printed true (json.string s) ts = refl
 first_printed true (json.array js) ts = refl
 first_printed true (json.object ms) ts = refl
 
-pub one_more_item : (behind : Bool) (t : Data) (ds : Items)
-    → comma_if behind ++ (text_of t ++ printed_items true ds) ≡ printed_items behind (item t ds)
-one_more_item behind t ds =
+pub one_more_item : (needs_comma : Bool) (t : Data) (ds : Items)
+    → comma_if needs_comma ++ (text_of t ++ printed_items true ds) ≡ printed_items needs_comma (item t ds)
+one_more_item needs_comma t ds =
     let rest = items_tokens (items_outline ds) in
-    ap (λ l. comma_if behind ++ l) (sym (printed_then t rest)) ∙ sym (first_printed behind (outline t) rest)
+    ap (λ l. comma_if needs_comma ++ l) (sym (printed_then t rest)) ∙ sym (first_printed needs_comma (outline t) rest)
 
 pub array_printed : (ds : Items) → 91 ∷ printed_items false ds ≡ text_of (array ds)
 unfolding print_from
@@ -78,29 +78,29 @@ key_alone k = append-nil (quoted k ++ 58 ∷ [])
 
 -- the text of members, after another or at first, with the closing brace
 abbrev pub printed_members : Bool → Members → List ℕ
-printed_members behind ms = print_from behind (members_tokens (members_outline ms))
+printed_members needs_comma ms = print_from needs_comma (members_tokens (members_outline ms))
 
-pub no_more_members : (behind : Bool) → printed_members behind no_members ≡ 125 ∷ []
+pub no_more_members : (needs_comma : Bool) → printed_members needs_comma no_members ≡ 125 ∷ []
 unfolding print_from
 no_more_members true = refl
 no_more_members false = refl
 
-key_printed : (behind : Bool) (k : List ℕ) (ts : List Token)
-    → comma_if behind ++ ((quoted k ++ 58 ∷ []) ++ print_from false ts) ≡ print_from behind (key k ∷ ts)
+key_printed : (needs_comma : Bool) (k : List ℕ) (ts : List Token)
+    → comma_if needs_comma ++ ((quoted k ++ 58 ∷ []) ++ print_from false ts) ≡ print_from needs_comma (key k ∷ ts)
 unfolding print_from
 key_printed true k ts = refl
 key_printed false k ts = refl
 
-pub one_more_member : (behind : Bool) (k : List ℕ) (t : Data) (ms : Members)
-    → comma_if behind ++ ((quoted k ++ 58 ∷ text_of t) ++ printed_members true ms)
-    ≡ printed_members behind (member k t ms)
-one_more_member behind k t ms =
+pub one_more_member : (needs_comma : Bool) (k : List ℕ) (t : Data) (ms : Members)
+    → comma_if needs_comma ++ ((quoted k ++ 58 ∷ text_of t) ++ printed_members true ms)
+    ≡ printed_members needs_comma (member k t ms)
+one_more_member needs_comma k t ms =
     let rest = members_tokens (members_outline ms) in
-    ap (λ l. comma_if behind ++ l)
+    ap (λ l. comma_if needs_comma ++ l)
     (append_assoc (quoted k) (58 ∷ text_of t) (print_from true rest)
     ∙ sym (append_assoc (quoted k) (58 ∷ []) (text_of t ++ print_from true rest))
     ∙ ap (λ l. (quoted k ++ 58 ∷ []) ++ l) (sym (printed_then t rest)))
-    ∙ key_printed behind k (tokens_of t ++ rest)
+    ∙ key_printed needs_comma k (tokens_of t ++ rest)
 
 pub object_printed : (ms : Members) → 123 ∷ printed_members false ms ≡ text_of (object ms)
 unfolding print_from

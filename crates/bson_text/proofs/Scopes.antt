@@ -27,7 +27,7 @@ use Rattle.bson_tokens.proofs.Offered.{was_read as from_tree}
 use Rattle.bson_text.specs.Walked.{inside, from_key}
 use Rattle.bson_text.proofs.Denials.{mapped_parse, then_parsed, split_kept, mapped}
 use Rattle.bson_text.proofs.Parsed.{same_parse, after_first, none_behind, a_text}
-use Rattle.bson_text.specs.Placed.{Rises, MembersRise, trees_of, IsOf, IsShape, IsPlaceWithin, IsBeside, NoScopeAt}
+use Rattle.bson_text.specs.Placed.{Rises, MembersRise, trees_of, IsOf, IsShapeFault, IsPlaceWithin, IsShapeFaultPassed, NoScopeAt}
 use Rattle.bson_text.specs.Placed.{StepPassed, MembersTo, ScopeSeen, InScope, EndPlaced, CodePlaced, ScopePlaced, code_verdict}
 use Rattle.bson_text.specs.Placed.{MembersPlaced, ObjectPlaced}
 use Rattle.bson_text.specs.Parts.{IsNoScope}
@@ -62,7 +62,7 @@ seen_end depth n ts s r ms p q ended is within_scope =
     ((members_off (value depth) n ts s r ms ended is).0, subst (λ x. ScopeSeen x p q) (sym none) within_scope)
 
 pub seen_more : (depth n : ℕ) (ts s rest r : List Token) (k : List ℕ) (ms : json.Members) (p q : Place)
-    → read_key ts ≡ Some (Some k, s) → members (value depth) n ts ≡ Some (ms, r) → StepPassed depth s rest → IsShape q
+    → read_key ts ≡ Some (Some k, s) → members (value depth) n ts ≡ Some (ms, r) → StepPassed depth s rest → IsShapeFault q
     → (rest ≡ r) × ScopeSeen ms p q
 seen_more depth n ts s rest r k ms p q named is passed shape =
     let g = is_first depth n ts s r k ms named is in
@@ -263,7 +263,7 @@ module _ (D : Doubles) where
 
   pub textless_placed : (f : Stop) (depth : ℕ) (k l : List ℕ) (w : Wrapper) (ts r q rest : List Token) (held : Data)
       → wrapper_of k ≡ Some w → IsHeldAs (converted of_json (value depth ts)) held r → read_key r ≡ Some (Some l, q)
-      → as_str held ≡ None → IsBeside depth q f rest → ObjectPlaced D f (from_key depth (Some k) ts) rest
+      → as_str held ≡ None → IsShapeFaultPassed depth q f rest → ObjectPlaced D f (from_key depth (Some k) ts) rest
   textless_placed f depth k l w ts r q rest held named read key_is none out = at_map f _ _ (λ x (shape, passed) ms end ds parsed rise of.
       let P = value depth in
       let j = from_tree of_json (P ts) read.0 r read.1 in

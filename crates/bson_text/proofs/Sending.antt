@@ -50,14 +50,14 @@ items_sent n (model.value v vs) old now new (mid, (u, w, sent), more) ended =
       joined old mid new (tokens_of u) (items_tokens (items_outline rest.0)) sent rest.2,
     )
 
-pub array_sent : (vs : Values) (old begun now new : TextWriter) → TokensWritten old (token.begin_array ∷ []) begun
-    → ItemsWritten (λ a k v b. ValueTokensWritten a v b) (λ i. []) 0 vs begun now → TokensWritten now (token.end_array ∷ []) new
+pub array_sent : (vs : Values) (old mark now new : TextWriter) → TokensWritten old (token.begin_array ∷ []) mark
+    → ItemsWritten (λ a k v b. ValueTokensWritten a v b) (λ i. []) 0 vs mark now → TokensWritten now (token.end_array ∷ []) new
     → ValueTokensWritten old (model.array vs) new
-array_sent vs old begun now new begin written ended =
-    let rest = items_sent 0 vs begun now new written ended in (
+array_sent vs old mark now new begin written ended =
+    let rest = items_sent 0 vs mark now new written ended in (
       array rest.0,
-      rw (at_first old begun (token.begin_array ∷ []) (λ D f. values_in_order D f vs ≡ Ok rest.0) begin rest.1) refl,
-      joined old begun new (token.begin_array ∷ []) (items_tokens (items_outline rest.0)) begin rest.2,
+      rw (at_first old mark (token.begin_array ∷ []) (λ D f. values_in_order D f vs ≡ Ok rest.0) begin rest.1) refl,
+      joined old mark new (token.begin_array ∷ []) (items_tokens (items_outline rest.0)) begin rest.2,
     )
 
 -- ---- documents
@@ -79,26 +79,26 @@ pairs_sent (pair k v ps) old now new (named, mid, key, (u, w, sent), more) ended
       joined old mid new (token.key k ∷ tokens_of u) (members_tokens (members_outline rest.0)) both rest.2,
     )
 
-pub document_sent : (ps : Pairs) (old begun now new : TextWriter) → TokensWritten old (token.begin_object ∷ []) begun
-    → PairsWritten (λ a k v b. ValueTokensWritten a v b) (λ a k b. TokensWritten a (token.key k ∷ []) b) ps begun now
+pub document_sent : (ps : Pairs) (old mark now new : TextWriter) → TokensWritten old (token.begin_object ∷ []) mark
+    → PairsWritten (λ a k v b. ValueTokensWritten a v b) (λ a k b. TokensWritten a (token.key k ∷ []) b) ps mark now
     → TokensWritten now (token.end_object ∷ []) new → PairTokensWritten old ps new
-document_sent ps old begun now new begin written ended =
-    let rest = pairs_sent ps begun now new written ended in (
+document_sent ps old mark now new begin written ended =
+    let rest = pairs_sent ps mark now new written ended in (
       rest.0,
-      at_first old begun (token.begin_object ∷ []) (λ D f. pairs_in_order D f ps ≡ Ok rest.0) begin rest.1,
-      joined old begun new (token.begin_object ∷ []) (members_tokens (members_outline rest.0)) begin rest.2,
+      at_first old mark (token.begin_object ∷ []) (λ D f. pairs_in_order D f ps ≡ Ok rest.0) begin rest.1,
+      joined old mark new (token.begin_object ∷ []) (members_tokens (members_outline rest.0)) begin rest.2,
     )
 
 pub embedded : (ps : Pairs) (old new : TextWriter) → PairTokensWritten old ps new → ValueTokensWritten old (document ps) new
 embedded ps old new (us, w, sent) = (object us, rw w refl, sent)
 
-pub code_sent : (s : List ℕ) (ps : Pairs) (old begun now new : TextWriter) → TokensWritten old (code_tokens s) begun
-    → PairTokensWritten begun ps now → TokensWritten now (token.end_object ∷ []) new → ValueTokensWritten old (code_scope s ps) new
-code_sent s ps old begun now new begin (us, w, sent) ended = (
+pub code_sent : (s : List ℕ) (ps : Pairs) (old mark now new : TextWriter) → TokensWritten old (code_tokens s) mark
+    → PairTokensWritten mark ps now → TokensWritten now (token.end_object ∷ []) new → ValueTokensWritten old (code_scope s ps) new
+code_sent s ps old mark now new begin (us, w, sent) ended = (
   with_scope s us,
-  rw (at_first old begun (code_tokens s) (λ D f. pairs_in_order D f ps ≡ Ok us) begin w) refl,
-  joined old begun new (code_tokens s) (tokens_of (object us) ++ token.end_object ∷ []) begin
-      (joined begun now new (tokens_of (object us)) (token.end_object ∷ []) sent ended),
+  rw (at_first old mark (code_tokens s) (λ D f. pairs_in_order D f ps ≡ Ok us) begin w) refl,
+  joined old mark new (code_tokens s) (tokens_of (object us) ++ token.end_object ∷ []) begin
+      (joined mark now new (tokens_of (object us)) (token.end_object ∷ []) sent ended),
 )
 
 -- ---- a whole text

@@ -8,10 +8,10 @@ use Rattle.bson_tokens.specs.declared.arrangement.Arrangement.{Arrangement}
 use Rattle.bson_tokens.specs.declared.arrangement.Arrangement.TheVariants.{FirstPlaces}
 use Rattle.bson_model.specs.Displayed.{display_text, entry, entry_texts}
 use Rattle.bson_model.specs.Value.{Pairs, no_pairs, pair, document}
-use Rattle.bson_text.specs.ShownWritten.{member_front, separator_if, brace_behind, pairs_shown, value_shown}
+use Rattle.bson_text.specs.ShownWritten.{member_front, separator_if, closing_brace, pairs_shown, value_shown}
 use Rattle.bson_text.specs.ShownWritten.{DisplayAdded, DisplayBegun, DisplayKeyAdded, DisplayPairsAdded, DisplayValueAdded}
 use Rattle.bson_text.specs.Walked.{PairsWritten, keys_of, once}
-use Rattle.bson_text.specs.declared.sorted_text.Begun.{Begun}
+use Rattle.bson_text.specs.declared.sorted_text.Mark.{Mark}
 use Rattle.bson_text.specs.declared.shown_text.ShownWriter.{ShownWriter}
 use Rattle.bson_text.proofs.Once.{once_is}
 use Rattle.bson_text.proofs.ShownMembers.{member_text, same_order}
@@ -20,14 +20,14 @@ use Rattle.bson_text.proofs.Standing.{text_before}
 
 -- the members, each behind a blank, with a comma before those behind another value
 abbrev members : Bool → Pairs → List ℕ
-members behind no_pairs = []
-members behind (pair k v ps) = comma_if behind ++ ((codes " " ++ entry k (display_text v)) ++ members true ps)
+members needs_comma no_pairs = []
+members needs_comma (pair k v ps) = comma_if needs_comma ++ ((codes " " ++ entry k (display_text v)) ++ members true ps)
 
-abbrev is_behind : Bool → Pairs → Bool
-is_behind behind no_pairs = behind
-is_behind behind (pair k v ps) = true
+abbrev needs_comma_after : Bool → Pairs → Bool
+needs_comma_after needs_comma no_pairs = needs_comma
+needs_comma_after needs_comma (pair k v ps) = true
 
-still_behind : (ps : Pairs) → is_behind true ps ≡ true
+still_behind : (ps : Pairs) → needs_comma_after true ps ≡ true
 still_behind no_pairs = refl
 still_behind (pair k v ps) = refl
 
@@ -36,7 +36,7 @@ members_after no_pairs = refl
 members_after (pair k v ps) = ap (λ l. codes ", " ++ (entry k (display_text v) ++ l)) (members_after ps)
 
 document_shown : (ps : Pairs)
-    → codes "{" ++ (members false ps ++ brace_behind (is_behind false ps)) ≡ display_text (document ps)
+    → codes "{" ++ (members false ps ++ closing_brace (needs_comma_after false ps)) ≡ display_text (document ps)
 document_shown no_pairs = refl
 document_shown (pair k v ps) =
     ap (λ l. codes "{ " ++ ((entry k (display_text v) ++ l) ++ codes " }")) (members_after ps)
@@ -45,8 +45,8 @@ document_shown (pair k v ps) =
 record Behind (ps : Pairs) (old new : ShownWriter) : Type 0 where
   pub starts : List ℕ
   pub held : new.starts.items ≡ old.starts.items ++ starts
-  pub text : new.text.items ≡ old.text.items ++ members old.behind ps
-  pub behind : new.behind ≡ is_behind old.behind ps
+  pub text : new.text.items ≡ old.text.items ++ members old.needs_comma ps
+  pub needs_comma : new.needs_comma ≡ needs_comma_after old.needs_comma ps
 
 all_written : (ps : Pairs) (old new : ShownWriter) → old.arrangement ≡ FirstPlaces
     → PairsWritten (λ a k v b. DisplayValueAdded a v b) DisplayKeyAdded ps old new → Behind ps old new
@@ -54,7 +54,7 @@ all_written no_pairs old new in_order is = record {
   starts = [];
   held = ap (λ w. w.starts.items) (sym is) ∙ sym (append-nil old.starts.items);
   text = ap (λ w. w.text.items) (sym is) ∙ sym (append-nil old.text.items);
-  behind = ap (λ w. w.behind) (sym is);
+  needs_comma = ap (λ w. w.needs_comma) (sym is);
 }
 all_written (pair k v ps) old new in_order (named, mid, keyed, wrote, more) =
     let rest = all_written ps mid new (wrote.1 ∙ keyed.1 ∙ in_order) more in
@@ -68,18 +68,18 @@ all_written (pair k v ps) old new in_order (named, mid, keyed, wrote, more) =
           ∙ ap (λ a. member_front old ++ (codes " " ++ entry k (display_text (value_shown a v)))) in_order
           ∙ ap (λ w. member_front old ++ (codes " " ++ entry k (display_text w))) (as_it_is v))
           ∙ append_assoc (member_front old) own (members true ps)
-          ∙ append_assoc old.text.items (comma_if old.behind) (own ++ members true ps);
-      behind = rest.behind ∙ ap (λ b. is_behind b ps) wrote.0 ∙ still_behind ps;
+          ∙ append_assoc old.text.items (comma_if old.needs_comma) (own ++ members true ps);
+      needs_comma = rest.needs_comma ∙ ap (λ b. needs_comma_after b ps) wrote.0 ∙ still_behind ps;
     }
 
 -- the text of the document behind what stood before it
 whole : (before front mid now new : List ℕ) (ps : Pairs) → mid ≡ before ++ (front ++ codes "{")
-    → now ≡ mid ++ members false ps → new ≡ now ++ brace_behind (is_behind false ps)
+    → now ≡ mid ++ members false ps → new ≡ now ++ closing_brace (needs_comma_after false ps)
     → new ≡ before ++ (front ++ display_text (document ps))
-whole before front mid now new ps begun written ended =
-    let brace = brace_behind (is_behind false ps) in
+whole before front mid now new ps mark written ended =
+    let brace = closing_brace (needs_comma_after false ps) in
     let end = members false ps ++ brace in
-    ended ∙ ap (λ l. l ++ brace) written ∙ append_assoc mid (members false ps) brace ∙ ap (λ l. l ++ end) begun
+    ended ∙ ap (λ l. l ++ brace) written ∙ append_assoc mid (members false ps) brace ∙ ap (λ l. l ++ end) mark
     ∙ append_assoc before (front ++ codes "{") end
     ∙ ap (λ l. before ++ l) (append_assoc front (codes "{") end ∙ ap (λ l. front ++ l) (document_shown ps))
 
@@ -88,25 +88,25 @@ as_they_came : (a : Arrangement) (ps : Pairs) → a ≡ FirstPlaces → AreDisti
 as_they_came a ps is apart = sym (ap (λ o. pairs_shown o (once ps)) is ∙ once_is ps apart)
 
 -- the document's members, and the brace behind them
-pub document_added : (start mid now kept new : ShownWriter) (begun : Begun) (ps : Pairs) → now.arrangement ≡ FirstPlaces
-    → DisplayBegun start begun mid → PairsWritten (λ a k v b. DisplayValueAdded a v b) DisplayKeyAdded ps mid now
+pub document_added : (start mid now kept new : ShownWriter) (mark : Mark) (ps : Pairs) → now.arrangement ≡ FirstPlaces
+    → DisplayBegun start mark mid → PairsWritten (λ a k v b. DisplayValueAdded a v b) DisplayKeyAdded ps mid now
     → AreDistinct (keys_of ps) → kept.text.items ≡ now.text.items → kept.arrangement ≡ now.arrangement
-    → kept.starts.items ≡ take begun.held now.starts.items → DisplayAdded kept (brace_behind now.behind) true new
+    → kept.starts.items ≡ take mark.held now.starts.items → DisplayAdded kept (closing_brace now.needs_comma) true new
     → DisplayPairsAdded start (once ps) new
-document_added start mid now kept new begun ps in_order (here, held, (off, order, starts, text)) written apart same
-    also cut (behind, ordered, left, ended) =
+document_added start mid now kept new mark ps in_order (here, held, (off, order, starts, text)) written apart same
+    also cut (needs_comma, ordered, left, ended) =
     let first : mid.arrangement ≡ FirstPlaces = sym (same_order ps mid now written) ∙ in_order in
     let all = all_written ps mid now first written in
-    let brace : brace_behind now.behind ≡ brace_behind (is_behind false ps) =
-    ap brace_behind (all.behind ∙ ap (λ b. is_behind b ps) off) in (
-      behind,
+    let brace : closing_brace now.needs_comma ≡ closing_brace (needs_comma_after false ps) =
+    ap closing_brace (all.needs_comma ∙ ap (λ b. needs_comma_after b ps) off) in (
+      needs_comma,
       ordered ∙ also ∙ same_order ps mid now written ∙ order,
       left ∙ cut
-          ∙ text_before start.starts.items all.starts now.starts.items begun.held
+          ∙ text_before start.starts.items all.starts now.starts.items mark.held
           (all.held ∙ ap (λ l. l ++ all.starts) starts) held,
-      whole start.text.items (separator_if start.behind) mid.text.items now.text.items new.text.items ps text
+      whole start.text.items (separator_if start.needs_comma) mid.text.items now.text.items new.text.items ps text
           (all.text ∙ ap (λ b. mid.text.items ++ members b ps) off)
-          (ended ∙ ap (λ l. l ++ brace_behind now.behind) same ∙ ap (λ l. now.text.items ++ l) brace)
-          ∙ ap (λ qs. start.text.items ++ (separator_if start.behind ++ display_text (document qs)))
+          (ended ∙ ap (λ l. l ++ closing_brace now.needs_comma) same ∙ ap (λ l. now.text.items ++ l) brace)
+          ∙ ap (λ qs. start.text.items ++ (separator_if start.needs_comma ++ display_text (document qs)))
           (as_they_came start.arrangement ps (sym order ∙ first) apart),
     )

@@ -16,7 +16,7 @@ use Rattle.bson_text.specs.ShownWritten.{next_display, member_front, separator_i
 use Rattle.bson_text.specs.ShownWritten.{value_shown}
 use Rattle.bson_text.specs.Walked.{PairsWritten, keys_of, once}
 use Rattle.bson_text.specs.declared.spans.MemberSpan.{MemberSpan}
-use Rattle.bson_text.specs.declared.sorted_text.Begun.{Begun}
+use Rattle.bson_text.specs.declared.sorted_text.Mark.{Mark}
 use Rattle.bson_text.specs.declared.shown_text.ShownWriter.{ShownWriter}
 use Rattle.bson_text.proofs.SpansInOrder.{HasMembers, closed}
 use Rattle.bson_text.proofs.ShownTexts.{as_sorted}
@@ -28,14 +28,14 @@ abbrev pub IsShownMember : List ℕ → Value → List ℕ → Type 0
 IsShownMember k v s = s ≡ codes " " ++ entry k (display_text v)
 
 abbrev pub seen : ShownWriter → Seen
-seen w = record { text = w.text.items; starts = w.starts.items; behind = w.behind }
+seen w = record { text = w.text.items; starts = w.starts.items; needs_comma = w.needs_comma }
 
 -- the key and the value behind it are the member's text
 pub member_text : (k : List ℕ) (v : Value) (old named new : ShownWriter) → DisplayKeyAdded old k named → DisplayValueAdded named v new
     → new.text.items ≡ member_front old ++ (codes " " ++ entry k (display_text (value_shown old.arrangement v)))
 member_text k v old named new (off, order, begins, key) (after, same, kept, text) =
     let t = display_text (value_shown old.arrangement v) in
-    text ∙ ap (λ a. named.text.items ++ (separator_if named.behind ++ display_text (value_shown a v))) order
+    text ∙ ap (λ a. named.text.items ++ (separator_if named.needs_comma ++ display_text (value_shown a v))) order
     ∙ ap (λ b. named.text.items ++ (separator_if b ++ t)) off ∙ ap (λ l. l ++ t) key
     ∙ append_assoc (member_front old) (codes " \"" ++ (k ++ codes "\": ")) t
     ∙ ap (λ l. member_front old ++ (codes " \"" ++ l)) (append_assoc k (codes "\": ") t)
@@ -51,7 +51,7 @@ one_added k v old named new ascending keyed wrote =
           ∙ ap (λ a. member_front old ++ (codes " " ++ entry k (display_text (value_shown a v)))) ascending
           ∙ ap (λ w. member_front old ++ (codes " " ++ entry k (display_text w))) (as_sorted v);
       starts = wrote.2 ∙ keyed.2;
-      behind = wrote.0;
+      needs_comma = wrote.0;
     }
 
 members_added : (ps : Pairs) (old new : ShownWriter) → old.arrangement ≡ Ascending
@@ -70,13 +70,13 @@ same_order no_pairs old new is = ap (λ w. w.arrangement) (sym is)
 same_order (pair k v ps) old new (named, mid, keyed, wrote, more) = same_order ps mid new more ∙ wrote.1 ∙ keyed.1
 
 -- the document that is open
-pub document_stands : (start mid now : ShownWriter) (begun : Begun) (ps : Pairs) (ks : List (Bor (List ℕ)))
-    → DisplayBegun start begun mid → PairsWritten (λ a k v b. DisplayValueAdded a v b) DisplayKeyAdded ps mid now
+pub document_stands : (start mid now : ShownWriter) (mark : Mark) (ps : Pairs) (ks : List (Bor (List ℕ)))
+    → DisplayBegun start mark mid → PairsWritten (λ a k v b. DisplayValueAdded a v b) DisplayKeyAdded ps mid now
     → keys_of ps ≡ map (λ k. k.now) ks → now.arrangement ≡ Ascending
-    → DocumentStands IsShownMember (next_display start) start.starts.items (seen now) begun ks ps
-document_stands start mid now begun ps ks (here, held, (off, order, kept, text)) written named ascending =
-    opened_document IsShownMember (next_display start) start.starts.items (seen mid) (seen now) begun ps ks here held
-    (text ∙ sym (append_assoc start.text.items (separator_if start.behind) (codes "{"))) kept off
+    → DocumentStands IsShownMember (next_display start) start.starts.items (seen now) mark ks ps
+document_stands start mid now mark ps ks (here, held, (off, order, kept, text)) written named ascending =
+    opened_document IsShownMember (next_display start) start.starts.items (seen mid) (seen now) mark ps ks here held
+    (text ∙ sym (append_assoc start.text.items (separator_if start.needs_comma) (codes "{"))) kept off
     (members_added ps mid now (sym (same_order ps mid now written) ∙ ascending) written) named
 
 -- ---- a document of keys has pairs

@@ -30,14 +30,14 @@ as_sorted (model.array vs) = refl
 as_sorted (document ps) = refl
 
 -- a text and then another
-pub joined : (a b c : ShownWriter) (s t : List ℕ) (near behind : Bool) → DisplayAdded a s near b → DisplayAdded b t behind c
-    → DisplayAdded a (s ++ t) behind c
-joined a b c s t near behind (w, order, starts, is) (x, same, kept, more) =
+pub joined : (a b c : ShownWriter) (s t : List ℕ) (near needs_comma : Bool) → DisplayAdded a s near b → DisplayAdded b t needs_comma c
+    → DisplayAdded a (s ++ t) needs_comma c
+joined a b c s t near needs_comma (w, order, starts, is) (x, same, kept, more) =
     (x, same ∙ order, kept ∙ starts, more ∙ ap (λ l. l ++ t) is ∙ append_assoc a.text.items s t)
 
 -- the same text, as it may be written otherwise
-pub as_text : (a b : ShownWriter) (s t : List ℕ) (behind : Bool) → s ≡ t → DisplayAdded a s behind b → DisplayAdded a t behind b
-as_text a b s t behind is h = subst (λ l. DisplayAdded a l behind b) is h
+pub as_text : (a b : ShownWriter) (s t : List ℕ) (needs_comma : Bool) → s ≡ t → DisplayAdded a s needs_comma b → DisplayAdded a t needs_comma b
+as_text a b s t needs_comma is h = subst (λ l. DisplayAdded a l needs_comma b) is h
 
 -- ---- arrays
 
@@ -52,11 +52,11 @@ one_item Ascending v vs = ap (λ w. model.value w (sorted_items vs)) (sym (as_so
 
 -- the texts of elements, after another or at first
 abbrev parts : Bool → List (List ℕ) → List ℕ
-parts behind [] = []
-parts behind (t ∷ ts) = separator_if behind ++ (t ++ parts true ts)
+parts needs_comma [] = []
+parts needs_comma (t ∷ ts) = separator_if needs_comma ++ (t ++ parts true ts)
 
 abbrev array_end : Bool → Values → List ℕ
-array_end behind vs = parts behind (item_texts vs) ++ codes "]"
+array_end needs_comma vs = parts needs_comma (item_texts vs) ++ codes "]"
 
 parts_after : (ts : List (List ℕ)) → parts true ts ≡ flat_map (λ t. codes ", " ++ t) ts
 parts_after [] = refl
@@ -69,47 +69,47 @@ array_shown (model.value v vs) =
 
 items_added : (n : ℕ) (vs : Values) (old now new : ShownWriter)
     → ItemsWritten (λ a k v b. DisplayValueAdded a v b) (λ i. []) n vs old now → DisplayAdded now (codes "]") true new
-    → DisplayAdded old (array_end old.behind (items_shown old.arrangement vs)) true new
+    → DisplayAdded old (array_end old.needs_comma (items_shown old.arrangement vs)) true new
 items_added n no_values old now new is ended =
-    as_text old new (codes "]") _ true (ap (array_end old.behind) (sym (no_items old.arrangement)))
+    as_text old new (codes "]") _ true (ap (array_end old.needs_comma) (sym (no_items old.arrangement)))
     (subst (λ a. DisplayAdded a (codes "]") true new) (sym is) ended)
 items_added n (model.value v vs) old now new (mid, put, more) ended =
     let t = display_text (value_shown old.arrangement v) in
-    let front = separator_if old.behind in
+    let front = separator_if old.needs_comma in
     let items = items_shown old.arrangement vs in
     let rest = parts true (item_texts items) in
     as_text old new _ _ true
     (ap (λ b. (front ++ t) ++ array_end b (items_shown mid.arrangement vs)) put.0
     ∙ ap (λ a. (front ++ t) ++ array_end true (items_shown a vs)) put.1
     ∙ sym (append_assoc (front ++ t) rest (codes "]")) ∙ ap (λ l. l ++ codes "]") (append_assoc front t rest)
-    ∙ ap (array_end old.behind) (sym (one_item old.arrangement v vs)))
-    (joined old mid new (front ++ t) (array_end mid.behind (items_shown mid.arrangement vs)) true true put
+    ∙ ap (array_end old.needs_comma) (sym (one_item old.arrangement v vs)))
+    (joined old mid new (front ++ t) (array_end mid.needs_comma (items_shown mid.arrangement vs)) true true put
     (items_added (n + 1) vs mid now new more ended))
 
-pub array_added : (vs : Values) (old begun now new : ShownWriter) → DisplayNext old (codes "[") false begun
-    → ItemsWritten (λ a k v b. DisplayValueAdded a v b) (λ i. []) 0 vs begun now → DisplayAdded now (codes "]") true new
+pub array_added : (vs : Values) (old mark now new : ShownWriter) → DisplayNext old (codes "[") false mark
+    → ItemsWritten (λ a k v b. DisplayValueAdded a v b) (λ i. []) 0 vs mark now → DisplayAdded now (codes "]") true new
     → DisplayValueAdded old (model.array vs) new
-array_added vs old begun now new begin written ended =
-    let front = separator_if old.behind in
-    let items = array_end begun.behind (items_shown begun.arrangement vs) in
+array_added vs old mark now new begin written ended =
+    let front = separator_if old.needs_comma in
+    let items = array_end mark.needs_comma (items_shown mark.arrangement vs) in
     as_text old new _ _ true
     (append_assoc front (codes "[") items
-    ∙ ap (λ b. front ++ (codes "[" ++ array_end b (items_shown begun.arrangement vs))) begin.0
+    ∙ ap (λ b. front ++ (codes "[" ++ array_end b (items_shown mark.arrangement vs))) begin.0
     ∙ ap (λ a. front ++ (codes "[" ++ array_end false (items_shown a vs))) begin.1
     ∙ ap (λ l. front ++ l) (array_shown (items_shown old.arrangement vs)))
-    (joined old begun new (front ++ codes "[") items false true begin (items_added 0 vs begun now new written ended))
+    (joined old mark new (front ++ codes "[") items false true begin (items_added 0 vs mark now new written ended))
 
 -- ---- a whole text
 
 whole_shown : (old new : ShownWriter) (v : Value) (a : Arrangement) → DisplayValueAdded old v new → old.arrangement ≡ a
-    → old.behind ≡ false → old.text.items ≡ [] → new.text.items ≡ display_text (value_shown a v)
+    → old.needs_comma ≡ false → old.text.items ≡ [] → new.text.items ≡ display_text (value_shown a v)
 whole_shown old new v a (after, same, starts, shown) order first none =
-    shown ∙ ap (λ l. l ++ (separator_if old.behind ++ display_text (value_shown old.arrangement v))) none
+    shown ∙ ap (λ l. l ++ (separator_if old.needs_comma ++ display_text (value_shown old.arrangement v))) none
     ∙ ap (λ b. separator_if b ++ display_text (value_shown old.arrangement v)) first
     ∙ ap (λ o. display_text (value_shown o v)) order
 
 pub text_shown : (D : Doubles) (a : Arrangement) (text : List ℕ) (old new : ShownWriter)
-    → (v : Value) × HasMeaningInOrder D text v × DisplayValueAdded old v new → old.arrangement ≡ a → old.behind ≡ false
+    → (v : Value) × HasMeaningInOrder D text v × DisplayValueAdded old v new → old.arrangement ≡ a → old.needs_comma ≡ false
     → old.text.items ≡ [] → IsShownTextBy D a text new.text.items
 text_shown D FirstPlaces text old new (v, meaning, added) order first none = record {
   value = v;

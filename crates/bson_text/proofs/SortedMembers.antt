@@ -19,14 +19,14 @@ use Rattle.bson_text.specs.MemberSpans.{SpanValues, value_at, IsMemberSpan, IsMe
 use Rattle.bson_text.specs.SortedWritten.{next_sorted, SortedBegun, SortedValueAdded, SortedKeyAdded}
 use Rattle.bson_text.specs.Walked.{PairsWritten, keys_of}
 use Rattle.bson_text.specs.declared.spans.MemberSpan.{MemberSpan}
-use Rattle.bson_text.specs.declared.sorted_text.Begun.{Begun}
+use Rattle.bson_text.specs.declared.sorted_text.Mark.{Mark}
 use Rattle.bson_text.specs.declared.sorted_text.SortedWriter.{SortedWriter}
 use Rattle.bson_text.proofs.PartTexts.{printed_members, no_more_members, one_more_member, object_printed}
 use Rattle.bson_text.proofs.SpansInOrder.{HasMembers}
 use Rattle.bson_text.proofs.Standing.{Seen, MemberAdded, MembersAdded, DocumentStands, opened_document}
 
 abbrev pub seen : SortedWriter → Seen
-seen w = record { text = w.text.items; starts = w.starts.items; behind = w.behind }
+seen w = record { text = w.text.items; starts = w.starts.items; needs_comma = w.needs_comma }
 
 module _ (D : Doubles) (f : Form) where
   one_added : (k : List ℕ) (v : Value) (old named new : SortedWriter) → old.doubles ≡ D → old.form ≡ f
@@ -47,7 +47,7 @@ module _ (D : Doubles) (f : Form) where
             ∙ ap (λ s. s ++ text_of t) key ∙ append_assoc (next_sorted old) own (text_of t)
             ∙ ap (λ s. next_sorted old ++ s) (append_assoc (quoted k) (58 ∷ []) (text_of t));
         starts = kept ∙ begins;
-        behind = after;
+        needs_comma = after;
       }
 
   members_added : (ps : Pairs) (old new : SortedWriter) → old.doubles ≡ D → old.form ≡ f
@@ -62,18 +62,18 @@ module _ (D : Doubles) (f : Form) where
       (end_mode, end_form, (seen mid, one_added k v old named mid mode form keyed wrote, rest))
 
 -- the document that is open, in the writer's mode and form
-pub document_stands : (start mid now : SortedWriter) (begun : Begun) (ps : Pairs) (ks : List (Bor (List ℕ)))
-    → SortedBegun start begun mid → PairsWritten (λ a k v b. SortedValueAdded a v b) SortedKeyAdded ps mid now
+pub document_stands : (start mid now : SortedWriter) (mark : Mark) (ps : Pairs) (ks : List (Bor (List ℕ)))
+    → SortedBegun start mark mid → PairsWritten (λ a k v b. SortedValueAdded a v b) SortedKeyAdded ps mid now
     → keys_of ps ≡ map (λ k. k.now) ks
     → (now.doubles ≡ start.doubles) × (now.form ≡ start.form)
-    × DocumentStands (IsMemberText start.doubles start.form) (next_sorted start) start.starts.items (seen now) begun ks ps
-document_stands start mid now begun ps ks (here, held, (mode, form, off, kept, text)) written named =
+    × DocumentStands (IsMemberText start.doubles start.form) (next_sorted start) start.starts.items (seen now) mark ks ps
+document_stands start mid now mark ps ks (here, held, (mode, form, off, kept, text)) written named =
     let (end_mode, end_form, added) = members_added start.doubles start.form ps mid now mode form written in
-    let begins = text ∙ sym (append_assoc start.text.items (comma_if start.behind) (123 ∷ [])) in (
+    let begins = text ∙ sym (append_assoc start.text.items (comma_if start.needs_comma) (123 ∷ [])) in (
       end_mode,
       end_form,
       opened_document (IsMemberText start.doubles start.form) (next_sorted start) start.starts.items (seen mid) (seen now)
-          begun ps ks here held begins kept off added named,
+          mark ps ks here held begins kept off added named,
     )
 
 -- ---- the text of the object
@@ -83,23 +83,23 @@ module _ (D : Doubles) (f : Form) (texts : List ℕ) (values : SpanValues) where
   IsOne = IsMemberSpan (IsMemberText D f) texts values
 
   -- the texts of members by ascending key are the text of their trees, to which one of a lesser key comes first
-  spans_written : (behind : Bool) (last : Option (List ℕ)) (ps : List MemberSpan) → Ascend last ps → All IsOne ps
+  spans_written : (needs_comma : Bool) (last : Option (List ℕ)) (ps : List MemberSpan) → Ascend last ps → All IsOne ps
       → (ms : Members) × (writes_pairs_in D f (pairs_of span_key (value_at values) ps) ≡ Ok ms)
-      × (members_text texts behind ps ≡ printed_members behind ms)
+      × (members_text texts needs_comma ps ≡ printed_members needs_comma ms)
       × ((k : List ℕ) (d : Data) → Ascend (Some k) ps → put k d ms ≡ member k d ms)
-  spans_written behind last [] up h = (no_members, refl, sym (no_more_members behind), λ k d up. refl)
-  spans_written behind last (p ∷ ps) up h =
+  spans_written needs_comma last [] up h = (no_members, refl, sym (no_more_members needs_comma), λ k d up. refl)
+  spans_written needs_comma last (p ∷ ps) up h =
       let here = All-head IsOne p ps h in
       let k = span_key p in
       let t = here.1.0 in
       let more = spans_written true (Some k) ps up.1 (All-tail IsOne p ps h) in
       let one = quoted k ++ 58 ∷ text_of t in
-      let comma = comma_if behind in (
+      let comma = comma_if needs_comma in (
         member k t more.0,
         rw (here.1.1, more.1) (ap Ok (more.3 k t up.1)),
         ap (λ l. comma ++ (l ++ members_text texts true ps)) here.1.2
             ∙ ap (λ l. comma ++ (one ++ l)) more.2
-            ∙ one_more_member behind k t more.0,
+            ∙ one_more_member needs_comma k t more.0,
         λ l d up. rw up.0 refl,
       )
 
@@ -107,11 +107,11 @@ module _ (D : Doubles) (f : Form) (texts : List ℕ) (values : SpanValues) where
 pub document_added : (D : Doubles) (f : Form) (start : SortedWriter) (texts new : List ℕ) (ps : Pairs)
     → HasMembers (IsMemberText D f) (next_sorted start) texts new ps
     → (ms : Members) × (writes_pairs_in D f ps ≡ Ok ms)
-    × (new ≡ start.text.items ++ (comma_if start.behind ++ text_of (object ms)))
+    × (new ≡ start.text.items ++ (comma_if start.needs_comma ++ text_of (object ms)))
 document_added D f start texts new ps h =
     let (ms, written, text, first) = spans_written D f texts h.values false None h.members h.up h.all in (
       ms,
       ap (writes_pairs_in D f) h.pairs ∙ written,
       h.text ∙ ap (λ l. next_sorted start ++ 123 ∷ l) text ∙ ap (λ l. next_sorted start ++ l) (object_printed ms)
-          ∙ append_assoc start.text.items (comma_if start.behind) (text_of (object ms)),
+          ∙ append_assoc start.text.items (comma_if start.needs_comma) (text_of (object ms)),
     )

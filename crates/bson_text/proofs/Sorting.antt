@@ -25,29 +25,29 @@ use Rattle.bson_text.specs.declared.sorted_text.SortedWriter.{SortedWriter}
 use Rattle.bson_text.proofs.PartTexts.{printed_items, no_more_items, one_more_item, array_printed, code_printed}
 
 -- a text and then another
-joined : (a b c : SortedWriter) (s t : List ℕ) (near behind : Bool) → SortedAdded a s near b → SortedAdded b t behind c
-    → SortedAdded a (s ++ t) behind c
-joined a b c s t near behind (d, f, w, starts, is) (e, g, x, kept, more) =
+joined : (a b c : SortedWriter) (s t : List ℕ) (near needs_comma : Bool) → SortedAdded a s near b → SortedAdded b t needs_comma c
+    → SortedAdded a (s ++ t) needs_comma c
+joined a b c s t near needs_comma (d, f, w, starts, is) (e, g, x, kept, more) =
     (e ∙ d, g ∙ f, x, kept ∙ starts, more ∙ ap (λ l. l ++ t) is ∙ append_assoc a.text.items s t)
 
 -- the same text, as it may be written otherwise
-as_text : (a b : SortedWriter) (s t : List ℕ) (behind : Bool) → s ≡ t → SortedAdded a s behind b → SortedAdded a t behind b
-as_text a b s t behind is h = subst (λ l. SortedAdded a l behind b) is h
+as_text : (a b : SortedWriter) (s t : List ℕ) (needs_comma : Bool) → s ≡ t → SortedAdded a s needs_comma b → SortedAdded a t needs_comma b
+as_text a b s t needs_comma is h = subst (λ l. SortedAdded a l needs_comma b) is h
 
 -- what holds in the mode and form of a later state
-at_first : (a b : SortedWriter) (s : List ℕ) (behind : Bool) (Holds : Doubles → Form → Type 0) → SortedAdded a s behind b
+at_first : (a b : SortedWriter) (s : List ℕ) (needs_comma : Bool) (Holds : Doubles → Form → Type 0) → SortedAdded a s needs_comma b
     → Holds b.doubles b.form → Holds a.doubles a.form
-at_first a b s behind Holds (mode, form, w, starts, is) h =
+at_first a b s needs_comma Holds (mode, form, w, starts, is) h =
     subst (λ D. Holds D a.form) mode (subst (Holds b.doubles) form h)
 
 -- ---- a part
 
-pub part_added : (a b c : SortedWriter) (behind : Bool) (old new ts : List Token)
-    → SortedAdded a (comma_if a.behind) a.behind b → SortedAdded b (print new) behind c → old ≡ [] → new ≡ old ++ ts
-    → SortedNext a (print ts) behind c
-part_added a b c behind old new ts comma part none is =
-    as_text a c _ _ behind (ap (λ l. comma_if a.behind ++ print l) (is ∙ ap (λ l. l ++ ts) none))
-    (joined a b c (comma_if a.behind) (print new) a.behind behind comma part)
+pub part_added : (a b c : SortedWriter) (needs_comma : Bool) (old new ts : List Token)
+    → SortedAdded a (comma_if a.needs_comma) a.needs_comma b → SortedAdded b (print new) needs_comma c → old ≡ [] → new ≡ old ++ ts
+    → SortedNext a (print ts) needs_comma c
+part_added a b c needs_comma old new ts comma part none is =
+    as_text a c _ _ needs_comma (ap (λ l. comma_if a.needs_comma ++ print l) (is ∙ ap (λ l. l ++ ts) none))
+    (joined a b c (comma_if a.needs_comma) (print new) a.needs_comma needs_comma comma part)
 
 pub printed : (r : Result Data Refusal) (old new : List Token) → Puts (Ok tt) r old new
     → (t : Data) × (r ≡ Ok t) × (new ≡ old ++ tokens_of t)
@@ -65,39 +65,39 @@ was_ok Q (Err e) q x is now = absurd (subst (λ s. IsErrAnd s (Q e)) now is)
 items_added : (n : ℕ) (vs : Values) (old now new : SortedWriter)
     → ItemsWritten (λ a k v b. SortedValueAdded a v b) (λ i. []) n vs old now → SortedAdded now (93 ∷ []) true new
     → (us : Items) × (writes_items_in old.doubles old.form (sorted_items vs) ≡ Ok us)
-    × SortedAdded old (printed_items old.behind us) true new
+    × SortedAdded old (printed_items old.needs_comma us) true new
 items_added n no_values old now new is ended = (
   no_items,
   refl,
-  as_text old new _ _ true (sym (no_more_items old.behind)) (subst (λ a. SortedAdded a (93 ∷ []) true new) (sym is) ended),
+  as_text old new _ _ true (sym (no_more_items old.needs_comma)) (subst (λ a. SortedAdded a (93 ∷ []) true new) (sym is) ended),
 )
 items_added n (model.value v vs) old now new (mid, (u, w, put), more) ended =
     let (us, ws, rest) = items_added (n + 1) vs mid now new more ended in
-    let comma = comma_if old.behind in
+    let comma = comma_if old.needs_comma in
     let s = comma ++ text_of u in (
       item u us,
       rw (w, at_first old mid s true (λ D f. writes_items_in D f (sorted_items vs) ≡ Ok us) put ws) refl,
       as_text old new _ _ true
-          (append_assoc comma (text_of u) (printed_items mid.behind us)
+          (append_assoc comma (text_of u) (printed_items mid.needs_comma us)
           ∙ ap (λ b. comma ++ (text_of u ++ printed_items b us)) put.2
-          ∙ one_more_item old.behind u us)
-          (joined old mid new s (printed_items mid.behind us) true true put rest),
+          ∙ one_more_item old.needs_comma u us)
+          (joined old mid new s (printed_items mid.needs_comma us) true true put rest),
     )
 
-pub array_added : (vs : Values) (old begun now new : SortedWriter) → SortedNext old (91 ∷ []) false begun
-    → ItemsWritten (λ a k v b. SortedValueAdded a v b) (λ i. []) 0 vs begun now → SortedAdded now (93 ∷ []) true new
+pub array_added : (vs : Values) (old mark now new : SortedWriter) → SortedNext old (91 ∷ []) false mark
+    → ItemsWritten (λ a k v b. SortedValueAdded a v b) (λ i. []) 0 vs mark now → SortedAdded now (93 ∷ []) true new
     → SortedValueAdded old (model.array vs) new
-array_added vs old begun now new begin written ended =
-    let (us, ws, rest) = items_added 0 vs begun now new written ended in
-    let comma = comma_if old.behind in
+array_added vs old mark now new begin written ended =
+    let (us, ws, rest) = items_added 0 vs mark now new written ended in
+    let comma = comma_if old.needs_comma in
     let s = comma ++ 91 ∷ [] in (
       array us,
-      rw (at_first old begun s false (λ D f. writes_items_in D f (sorted_items vs) ≡ Ok us) begin ws) refl,
+      rw (at_first old mark s false (λ D f. writes_items_in D f (sorted_items vs) ≡ Ok us) begin ws) refl,
       as_text old new _ _ true
-          (append_assoc comma (91 ∷ []) (printed_items begun.behind us)
+          (append_assoc comma (91 ∷ []) (printed_items mark.needs_comma us)
           ∙ ap (λ b. comma ++ 91 ∷ printed_items b us) begin.2
           ∙ ap (λ l. comma ++ l) (array_printed us))
-          (joined old begun new s (printed_items begun.behind us) false true begin rest),
+          (joined old mark new s (printed_items mark.needs_comma us) false true begin rest),
     )
 
 -- ---- documents, and code with one
@@ -105,28 +105,28 @@ array_added vs old begun now new begin written ended =
 pub embedded : (ps : Pairs) (old new : SortedWriter) → SortedPairsAdded old ps new → SortedValueAdded old (document ps) new
 embedded ps old new (ms, w, put) = (object ms, rw w refl, put)
 
-pub code_added : (s : List ℕ) (ps : Pairs) (old begun now new : SortedWriter)
-    → SortedNext old (print (code_tokens s)) false begun → SortedPairsAdded begun ps now → SortedAdded now (125 ∷ []) true new
+pub code_added : (s : List ℕ) (ps : Pairs) (old mark now new : SortedWriter)
+    → SortedNext old (print (code_tokens s)) false mark → SortedPairsAdded mark ps now → SortedAdded now (125 ∷ []) true new
     → SortedValueAdded old (code_scope s ps) new
-code_added s ps old begun now new begin (ms, w, put) ended =
-    let comma = comma_if old.behind in
+code_added s ps old mark now new begin (ms, w, put) ended =
+    let comma = comma_if old.needs_comma in
     let front = print (code_tokens s) in
-    let scope = comma_if begun.behind ++ text_of (object ms) in (
+    let scope = comma_if mark.needs_comma ++ text_of (object ms) in (
       with_scope s ms,
-      rw (at_first old begun (comma ++ front) false (λ D f. writes_pairs_in D f (sorted_pairs ps) ≡ Ok ms) begin w) refl,
+      rw (at_first old mark (comma ++ front) false (λ D f. writes_pairs_in D f (sorted_pairs ps) ≡ Ok ms) begin w) refl,
       as_text old new _ _ true
           (append_assoc comma front (scope ++ 125 ∷ [])
           ∙ ap (λ b. comma ++ (front ++ ((comma_if b ++ text_of (object ms)) ++ 125 ∷ []))) begin.2
           ∙ ap (λ l. comma ++ l) (code_printed s ms))
-          (joined old begun new (comma ++ front) (scope ++ 125 ∷ []) false true begin
-          (joined begun now new scope (125 ∷ []) true true put ended)),
+          (joined old mark new (comma ++ front) (scope ++ 125 ∷ []) false true begin
+          (joined mark now new scope (125 ∷ []) true true put ended)),
     )
 
 -- ---- a whole text
 
 pub text_sorted : (D : Doubles) (f : Form) (text : List ℕ) (old new : SortedWriter)
     → (v : Value) × HasMeaningInOrder D text v × SortedValueAdded old v new → old.doubles ≡ D → old.form ≡ f
-    → old.behind ≡ false → old.text.items ≡ [] → IsSortedText D f text new.text.items
+    → old.needs_comma ≡ false → old.text.items ≡ [] → IsSortedText D f text new.text.items
 text_sorted D f text old new (v, meaning, (u, w, put)) mode form first none =
     let (s, whole, meant) = meaning.by_default in
     let writes : writes_in D f (sorted v) ≡ Ok u =
@@ -138,7 +138,7 @@ text_sorted D f text old new (v, meaning, (u, w, put)) mode form first none =
       tree = u;
       is_tree = tree_is_in D f (sorted v) u writes ranged;
       reads_again = λ plain. has_text_in D f (sorted v) u writes plain ranged;
-      compact = put.4 ∙ ap (λ l. l ++ (comma_if old.behind ++ text_of u)) none
+      compact = put.4 ∙ ap (λ l. l ++ (comma_if old.needs_comma ++ text_of u)) none
           ∙ ap (λ b. comma_if b ++ text_of u) first
           ∙ sym (text_is D f u (has_no_float D f (sorted v) u writes));
     }

@@ -35,15 +35,15 @@ ok_more P Q more (Err e) h = h
 -- ---- in order
 
 -- the next piece is joined to those before it
-pub next_joined : (texts : List ℕ) (behind : Bool) (p : MemberSpan) (ps left : List MemberSpan) (old mid new : List ℕ)
-    → left ≡ p ∷ ps → mid ≡ old ++ comma_if behind → new ≡ mid ++ span_text texts p
-    → new ++ members_text texts true ps ≡ old ++ members_text texts behind left
-next_joined texts behind p ps left old mid new is comma text =
+pub next_joined : (texts : List ℕ) (needs_comma : Bool) (p : MemberSpan) (ps left : List MemberSpan) (old mid new : List ℕ)
+    → left ≡ p ∷ ps → mid ≡ old ++ comma_if needs_comma → new ≡ mid ++ span_text texts p
+    → new ++ members_text texts true ps ≡ old ++ members_text texts needs_comma left
+next_joined texts needs_comma p ps left old mid new is comma text =
     let s = span_text texts p in
     let more = members_text texts true ps in
     ap (λ l. l ++ more) (text ∙ ap (λ l. l ++ s) comma)
-    ∙ append_assoc (old ++ comma_if behind) s more ∙ append_assoc old (comma_if behind) (s ++ more)
-    ∙ ap (λ l. old ++ members_text texts behind l) (sym is)
+    ∙ append_assoc (old ++ comma_if needs_comma) s more ∙ append_assoc old (comma_if needs_comma) (s ++ more)
+    ∙ ap (λ l. old ++ members_text texts needs_comma l) (sym is)
 
 pub next_ascends : (last : Option (List ℕ)) (p : MemberSpan) (ps left : List MemberSpan) → left ≡ p ∷ ps
     → Follows last (span_key p) → Ascend (Some (span_key p)) ps → Ascend last left
@@ -120,11 +120,11 @@ all_last P (p ∷ ps) h = all_last_at _ P p ps refl (All-head P p ps h) (all_las
 
 stands_once : (k : List ℕ) (ps : List MemberSpan) → Ascend (Some k) ps → stands_again k ps ≡ false
 stands_once k [] up = refl
-stands_once k (p ∷ ps) up = told _ refl
+stands_once k (p ∷ ps) up = reported _ refl
   where
-    told : (b : Bool) → bytes_eq (span_key p) k ≡ b → bytes_eq (span_key p) k ≡ false
-    told false h = h
-    told true h =
+    reported : (b : Bool) → bytes_eq (span_key p) k ≡ b → bytes_eq (span_key p) k ≡ false
+    reported false h = h
+    reported true h =
         let same = (bytes_eq-Decides (span_key p) k).0 h in
         let tied : slice_cmp nat_cmp k k ≡ Equal = tied_itself nat_list_cmp_total k in
         let less : slice_cmp nat_cmp k k ≡ Less = subst (λ l. slice_cmp nat_cmp k l ≡ Less) same up.0 in
@@ -136,13 +136,13 @@ last_of_ascending last [] up = refl
 last_of_ascending last (p ∷ ps) up =
     rw (stands_once (span_key p) ps up.1) (ap (λ l. p ∷ l) (last_of_ascending (Some (span_key p)) ps up.1))
 
-pub closed : (texts : List ℕ) (behind : Bool) (ps : List MemberSpan)
-    → open_text texts behind ps ++ 125 ∷ [] ≡ members_text texts behind ps
-closed texts behind [] = refl
-closed texts behind (p ∷ ps) =
+pub closed : (texts : List ℕ) (needs_comma : Bool) (ps : List MemberSpan)
+    → open_text texts needs_comma ps ++ 125 ∷ [] ≡ members_text texts needs_comma ps
+closed texts needs_comma [] = refl
+closed texts needs_comma (p ∷ ps) =
     let s = span_text texts p in
-    append_assoc (comma_if behind) (s ++ open_text texts true ps) (125 ∷ [])
-    ∙ ap (λ l. comma_if behind ++ l) (append_assoc s (open_text texts true ps) (125 ∷ [])
+    append_assoc (comma_if needs_comma) (s ++ open_text texts true ps) (125 ∷ [])
+    ∙ ap (λ l. comma_if needs_comma ++ l) (append_assoc s (open_text texts true ps) (125 ∷ [])
     ∙ ap (λ l. s ++ l) (closed texts true ps))
 
 -- an object whose keys ascend is ended by its brace
@@ -176,7 +176,7 @@ pub record HasMembers (IsText : List ℕ → Value → List ℕ → Type 0) (old
 pub object_in_order : (IsText : List ℕ → Value → List ℕ → Type 0) (old texts new : List ℕ) (values : SpanValues)
     (ps : List MemberSpan) → All (IsMemberSpan IsText texts values) ps → IsObjectWritten ps old texts new
     → HasMembers IsText old texts new (put_each span_key (value_at values) ps no_pairs)
-object_in_order IsText old texts new values ps h (written, (qs, stable, same, up, is), behind) =
+object_in_order IsText old texts new values ps h (written, (qs, stable, same, up, is), needs_comma) =
     let ks = last_ones qs in
     record {
       values = values;
@@ -186,5 +186,5 @@ object_in_order IsText old texts new values ps h (written, (qs, stable, same, up
       pairs = turned span_key (value_at values) ps qs no_pairs stable
           ∙ put_last_ones values qs no_pairs
           ∙ put_ascending span_key (value_at values) ks (ascending_pairs values None ks up);
-      text = behind ∙ ap (λ l. old ++ l) is;
+      text = needs_comma ∙ ap (λ l. old ++ l) is;
     }

@@ -14,7 +14,7 @@ use Rattle.bson_text.specs.MemberSpans.{SpanValues, value_at, IsObjectWritten, I
 use Rattle.bson_model.specs.Stable.{put_each}
 use Rattle.bson_text.specs.Walked.{keys_of, once}
 use Rattle.bson_text.specs.declared.spans.MemberSpan.{MemberSpan}
-use Rattle.bson_text.specs.declared.sorted_text.Begun.{Begun}
+use Rattle.bson_text.specs.declared.sorted_text.Mark.{Mark}
 use Rattle.bson_text.proofs.SpansInOrder.{HasMembers, object_in_order}
 use Rattle.bson_text.proofs.SortedPairs.{put_in_turn, once_sorted}
 
@@ -59,11 +59,11 @@ module _ (values : SpanValues) (v : Value) (at : ℕ) where
 pub record Seen : Type 0 where
   pub text : List ℕ
   pub starts : List ℕ
-  pub behind : Bool
+  pub needs_comma : Bool
 
 -- the text up to a member that comes next
 abbrev pub front_of : Seen → List ℕ
-front_of w = w.text ++ comma_if w.behind
+front_of w = w.text ++ comma_if w.needs_comma
 
 -- a text of the key and the sorted value was added as a member
 pub record MemberAdded (IsText : List ℕ → Value → List ℕ → Type 0) (k : List ℕ) (v : Value) (old new : Seen)
@@ -73,7 +73,7 @@ pub record MemberAdded (IsText : List ℕ → Value → List ℕ → Type 0) (k 
   pub some : 0 < length own
   pub text : new.text ≡ front_of old ++ own
   pub starts : new.starts ≡ old.starts ++ length (front_of old) ∷ []
-  pub behind : new.behind ≡ true
+  pub needs_comma : new.needs_comma ≡ true
 
 abbrev pub MembersAdded : (List ℕ → Value → List ℕ → Type 0) → Pairs → Seen → Seen → Type 0
 MembersAdded IsText no_pairs old new = old ≡ new
@@ -99,17 +99,17 @@ module _ (IsText : List ℕ → Value → List ℕ → Type 0) where
   StandsBehind text front values p = (front ≤ p.start) × IsMemberSpan IsText text values p
 
   -- the text behind the front is that of the pieces of pairs, whose values are put sorted
-  pub record Stand (text front : List ℕ) (behind : Bool) (ks : List Key) (starts : List ℕ) (ps : Pairs) : Type 0 where
+  pub record Stand (text front : List ℕ) (needs_comma : Bool) (ks : List Key) (starts : List ℕ) (ps : Pairs) : Type 0 where
     pub values : SpanValues
     pub all : All (StandsBehind text (length front) values) (spans_from ks starts (length text))
     pub put : (qs : Pairs)
         → put_each span_key (value_at values) (spans_from ks starts (length text)) qs ≡ put_in_turn ps qs
-    pub opened : text ≡ front ++ open_text text behind (spans_from ks starts (length text))
+    pub opened : text ≡ front ++ open_text text needs_comma (spans_from ks starts (length text))
     pub paired : length ks ≡ length starts
-    pub ends : behind ≡ true → end_before starts (length text) ≡ length front
+    pub ends : needs_comma ≡ true → end_before starts (length text) ≡ length front
 
-  none_stand : (text : List ℕ) (behind : Bool) → Stand text text behind [] [] no_pairs
-  none_stand text behind = record {
+  none_stand : (text : List ℕ) (needs_comma : Bool) → Stand text text needs_comma [] [] no_pairs
+  none_stand text needs_comma = record {
     values = λ i. document no_pairs;
     all = All-nil _;
     put = λ qs. refl;
@@ -120,10 +120,10 @@ module _ (IsText : List ℕ → Value → List ℕ → Type 0) where
 
   one_stands : (text : List ℕ) (old mid : Seen) (k : Key) (ks : List Key) (starts : List ℕ) (v : Value) (ps : Pairs)
       → MemberAdded IsText k.now v old mid → Stand text mid.text true ks starts ps
-      → Stand text old.text old.behind (k ∷ ks) (length (front_of old) ∷ starts) (pair k.now v ps)
+      → Stand text old.text old.needs_comma (k ∷ ks) (length (front_of old) ∷ starts) (pair k.now v ps)
   one_stands text old mid k ks starts v ps one rest =
       let front = old.text in
-      let comma = comma_if old.behind in
+      let comma = comma_if old.needs_comma in
       let start = length (front ++ comma) in
       let s = one.own in
       let end = end_before starts (length text) in
@@ -164,40 +164,40 @@ module _ (IsText : List ℕ → Value → List ℕ → Type 0) where
         opened = whole ∙ append_assoc front comma (s ++ others)
             ∙ ap (λ l. front ++ (comma ++ (l ++ others))) (sym own);
         paired = ap suc rest.paired;
-        ends = λ is_behind. omega (arith, longer, ap (λ b. length (comma_if b)) is_behind);
+        ends = λ needs_comma_after. omega (arith, longer, ap (λ b. length (comma_if b)) needs_comma_after);
       }
 
   -- the members that were written are pieces
   pairs_stand : (ps : Pairs) (ks : List Key) (old new : Seen) → MembersAdded IsText ps old new
       → keys_of ps ≡ map (λ k. k.now) ks
-      → (starts : List ℕ) × (new.starts ≡ old.starts ++ starts) × Stand new.text old.text old.behind ks starts ps
+      → (starts : List ℕ) × (new.starts ≡ old.starts ++ starts) × Stand new.text old.text old.needs_comma ks starts ps
   pairs_stand no_pairs [] old new is named =
       subst (λ w. (starts : List ℕ) × (w.starts ≡ old.starts ++ starts)
-      × Stand w.text old.text old.behind [] starts no_pairs) is
-      ([], sym (append-nil old.starts), none_stand old.text old.behind)
+      × Stand w.text old.text old.needs_comma [] starts no_pairs) is
+      ([], sym (append-nil old.starts), none_stand old.text old.needs_comma)
   pairs_stand no_pairs (k ∷ ks) old new is named = cc
   pairs_stand (pair k v ps) [] old new written named = cc
   pairs_stand (pair l v ps) (k ∷ ks) old new (mid, one, more) named =
       let first : l ≡ k.now = first_of l k.now (keys_of ps) (map (λ k. k.now) ks) named in
       let at = length (front_of old) in
-      let (starts, begun, rest) = pairs_stand ps ks mid new more
+      let (starts, mark, rest) = pairs_stand ps ks mid new more
       (rest_of l k.now (keys_of ps) (map (λ k. k.now) ks) named) in (
         at ∷ starts,
-        begun ∙ ap (λ s. s ++ starts) one.starts ∙ append_assoc old.starts (at ∷ []) starts,
-        subst (λ j. Stand new.text old.text old.behind (k ∷ ks) (at ∷ starts) (pair j v ps)) (sym first)
+        mark ∙ ap (λ s. s ++ starts) one.starts ∙ append_assoc old.starts (at ∷ []) starts,
+        subst (λ j. Stand new.text old.text old.needs_comma (k ∷ ks) (at ∷ starts) (pair j v ps)) (sym first)
             (one_stands new.text old mid k ks starts v ps (subst (λ j. MemberAdded IsText j v old mid) first one)
-            (subst (λ b. Stand new.text mid.text b ks starts ps) one.behind rest)),
+            (subst (λ b. Stand new.text mid.text b ks starts ps) one.needs_comma rest)),
       )
 
   -- ---- a whole document
 
   -- the open document's text stands behind that before it, and its starts behind those that were held
-  pub record DocumentStands (before held : List ℕ) (now : Seen) (begun : Begun) (ks : List Key) (ps : Pairs)
+  pub record DocumentStands (before held : List ℕ) (now : Seen) (mark : Mark) (ks : List Key) (ps : Pairs)
       : Type 0 where
     pub starts : List ℕ
     pub starts_are : now.starts ≡ held ++ starts
-    pub held_are : begun.held ≡ length held
-    pub stands_before : take begun.start now.text ≡ before
+    pub held_are : mark.held ≡ length held
+    pub stands_before : take mark.start now.text ≡ before
     pub paired : length ks ≡ length starts
     pub opened : IsOpenObject before now.text (spans_from ks starts (length now.text))
     pub values : SpanValues
@@ -205,11 +205,11 @@ module _ (IsText : List ℕ → Value → List ℕ → Type 0) where
     pub put : put_each span_key (value_at values) (spans_from ks starts (length now.text)) no_pairs
         ≡ put_in_turn ps no_pairs
 
-  pub opened_document : (before held : List ℕ) (mid now : Seen) (begun : Begun) (ps : Pairs) (ks : List Key)
-      → begun.start ≡ length before → begun.held ≡ length held → mid.text ≡ before ++ 123 ∷ [] → mid.starts ≡ held
-      → mid.behind ≡ false → MembersAdded IsText ps mid now → keys_of ps ≡ map (λ k. k.now) ks
-      → DocumentStands before held now begun ks ps
-  opened_document before held mid now begun ps ks here many begins kept off written named =
+  pub opened_document : (before held : List ℕ) (mid now : Seen) (mark : Mark) (ps : Pairs) (ks : List Key)
+      → mark.start ≡ length before → mark.held ≡ length held → mid.text ≡ before ++ 123 ∷ [] → mid.starts ≡ held
+      → mid.needs_comma ≡ false → MembersAdded IsText ps mid now → keys_of ps ≡ map (λ k. k.now) ks
+      → DocumentStands before held now mark ks ps
+  opened_document before held mid now mark ps ks here many begins kept off written named =
       let (starts, held_are, stand) = pairs_stand ps ks mid now written named in
       let spans = spans_from ks starts (length now.text) in
       let members = open_text now.text false spans in
@@ -220,7 +220,7 @@ module _ (IsText : List ℕ → Value → List ℕ → Type 0) where
         starts = starts;
         starts_are = held_are ∙ ap (λ l. l ++ starts) kept;
         held_are = many;
-        stands_before = text_before before (123 ∷ members) now.text begun.start whole here;
+        stands_before = text_before before (123 ∷ members) now.text mark.start whole here;
         paired = stand.paired;
         opened = whole;
         values = stand.values;
@@ -229,33 +229,33 @@ module _ (IsText : List ℕ → Value → List ℕ → Type 0) where
         put = stand.put no_pairs;
       }
 
-module _ {IsText : List ℕ → Value → List ℕ → Type 0} {before held : List ℕ} {now : Seen} {begun : Begun}
-    {ks : List Key} {ps : Pairs} (d : DocumentStands IsText before held now begun ks ps) where
+module _ {IsText : List ℕ → Value → List ℕ → Type 0} {before held : List ℕ} {now : Seen} {mark : Mark}
+    {ks : List Key} {ps : Pairs} (d : DocumentStands IsText before held now mark ks ps) where
   -- the document's own starts
-  pub own_starts : (all : List ℕ) → all ≡ now.starts → take (length all - begun.held) (drop begun.held all) ≡ d.starts
+  pub own_starts : (all : List ℕ) → all ≡ now.starts → take (length all - mark.held) (drop mark.held all) ≡ d.starts
   own_starts all is =
       let whole : all ≡ held ++ (d.starts ++ []) =
       is ∙ d.starts_are ∙ ap (λ l. held ++ l) (sym (append-nil d.starts)) in
-      slice_between all held d.starts [] begun.held (length all) whole d.held_are
+      slice_between all held d.starts [] mark.held (length all) whole d.held_are
       (ap length (is ∙ d.starts_are) ∙ length-append held d.starts)
 
-  pub are_held : (all : List ℕ) → all ≡ now.starts → begun.held ≤ length all
+  pub are_held : (all : List ℕ) → all ≡ now.starts → mark.held ≤ length all
   are_held all is = omega (arith, d.held_are, ap length (is ∙ d.starts_are), length-append held d.starts)
 
-  pub others_held : take begun.held now.starts ≡ held
-  others_held = text_before held d.starts now.starts begun.held d.starts_are d.held_are
+  pub others_held : take mark.held now.starts ≡ held
+  others_held = text_before held d.starts now.starts mark.held d.starts_are d.held_are
 
   pub all_within : All (IsSpanWithin now.text) (spans_from ks d.starts (length now.text))
   all_within = All-weaker (IsMemberSpan IsText now.text d.values) (IsSpanWithin now.text) (λ p h. h.0)
       (spans_from ks d.starts (length now.text)) d.all
 
-  pub stands_open : IsOpenObject (take begun.start now.text) now.text (spans_from ks d.starts (length now.text))
+  pub stands_open : IsOpenObject (take mark.start now.text) now.text (spans_from ks d.starts (length now.text))
   stands_open =
       subst (λ old. IsOpenObject old now.text (spans_from ks d.starts (length now.text))) (sym d.stands_before) d.opened
 
   -- the document's members, once they were put in order
   pub has_members : (new : List ℕ)
-      → IsObjectWritten (spans_from ks d.starts (length now.text)) (take begun.start now.text) now.text new
+      → IsObjectWritten (spans_from ks d.starts (length now.text)) (take mark.start now.text) now.text new
       → HasMembers IsText before now.text new (sorted_pairs (once ps))
   has_members new ended =
       let put = d.put ∙ sym (once_sorted ps) in

@@ -46,7 +46,7 @@ cut_at xs ys b low u =
 
 -- ---- the members of an object
 
-comma_utf8 : (behind : Bool) → IsUtf8 (comma_if behind)
+comma_utf8 : (needs_comma : Bool) → IsUtf8 (comma_if needs_comma)
 comma_utf8 true = byte_utf8 44 (omega arith)
 comma_utf8 false = IsUtf8-nil
 
@@ -65,10 +65,10 @@ module _ (texts : List ℕ) where
   spans_utf8 [] u = All-nil IsUtf8Span
   spans_utf8 (p ∷ ps) u = separate p ps u
 
-  open_utf8 : (behind : Bool) (ps : List MemberSpan) → All IsUtf8Span ps → IsUtf8 (open_text texts behind ps)
-  open_utf8 behind [] h = IsUtf8-nil
-  open_utf8 behind (p ∷ ps) h =
-      IsUtf8-append (comma_if behind) (span_text texts p ++ open_text texts true ps) (comma_utf8 behind)
+  open_utf8 : (needs_comma : Bool) (ps : List MemberSpan) → All IsUtf8Span ps → IsUtf8 (open_text texts needs_comma ps)
+  open_utf8 needs_comma [] h = IsUtf8-nil
+  open_utf8 needs_comma (p ∷ ps) h =
+      IsUtf8-append (comma_if needs_comma) (span_text texts p ++ open_text texts true ps) (comma_utf8 needs_comma)
       (IsUtf8-append (span_text texts p) (open_text texts true ps) (All-head IsUtf8Span p ps h)
       (open_utf8 true ps (All-tail IsUtf8Span p ps h)))
 

@@ -29,20 +29,20 @@ module _ {S : Type 0} (D : Doubles) (wrote : S → List ℕ → Value → S → 
 
   module _ (name : ℕ → List ℕ) where
     abbrev pub ItemsToGo : Option (json.Items × List Token) → Option (json.Items × List Token) → ℕ → S → S → Type 0
-    ItemsToGo whole here n begun now =
+    ItemsToGo whole here n mark now =
         (js : json.Items) (r : List Token) (ts : Items) (vs : Values) (end : S) → here ≡ Some (js, r)
         → kept_items js ≡ Some ts → items_in_order D ts ≡ Ok vs → ItemsWritten wrote name n vs now end
         → (all : json.Items) × (read : Items) × (ws : Values) × (whole ≡ Some (all, r)) × (kept_items all ≡ Some read)
-        × (items_in_order D read ≡ Ok ws) × ItemsWritten wrote name 0 ws begun end
+        × (items_in_order D read ≡ Ok ws) × ItemsWritten wrote name 0 ws mark end
 
-    pub items_begun : (whole : Option (json.Items × List Token)) (begun : S) → ItemsToGo whole whole 0 begun begun
-    items_begun whole begun js r ts vs end here is means written = (js, ts, vs, here, is, means, written)
+    pub items_begun : (whole : Option (json.Items × List Token)) (mark : S) → ItemsToGo whole whole 0 mark mark
+    items_begun whole mark js r ts vs end here is means written = (js, ts, vs, here, is, means, written)
 
     pub item_passed : (whole : Option (json.Items × List Token)) (p : Parse json.Json) (n place : ℕ) (ts r : List Token)
-        (begun now later : S) → 0 < n → after_end_array ts ≡ None
+        (mark now later : S) → 0 < n → after_end_array ts ≡ None
         → TreeMeans D (converted kept (p ts)) r (λ v. wrote now (name place) v later)
-        → ItemsToGo whole (items p n ts) place begun now → ItemsToGo whole (items p (n - 1) r) (place + 1) begun later
-    item_passed whole p n place ts r begun now later left going (t, v, read, means, put) go js rest ds vs end here is all
+        → ItemsToGo whole (items p n ts) place mark now → ItemsToGo whole (items p (n - 1) r) (place + 1) mark later
+    item_passed whole p n place ts r mark now later left going (t, v, read, means, put) go js rest ds vs end here is all
         written =
         let j = was_read kept (p ts) t r read in
         let more : items p n ts ≡ Some (json.item j.0 js, rest) =
@@ -51,11 +51,11 @@ module _ {S : Type 0} (D : Doubles) (wrote : S → List ℕ → Value → S → 
         (later, put, written)
 
     pub items_passed : (whole : Option (json.Items × List Token)) (p : Parse json.Json) (n place : ℕ) (ts r : List Token)
-        (begun now : S) (Hold : Values → Type 0) → length ts ≤ n → after_end_array ts ≡ Some r
-        → ItemsToGo whole (items p n ts) place begun now
-        → ((vs : Values) → ItemsWritten wrote name 0 vs begun now → Hold vs)
+        (mark now : S) (Hold : Values → Type 0) → length ts ≤ n → after_end_array ts ≡ Some r
+        → ItemsToGo whole (items p n ts) place mark now
+        → ((vs : Values) → ItemsWritten wrote name 0 vs mark now → Hold vs)
         → ItemsMean D (converted kept_items whole) r Hold
-    items_passed whole p n place ts r begun now Hold enough closed go holds =
+    items_passed whole p n place ts r mark now Hold enough closed go holds =
         let g = go json.no_items r no_items model.no_values now (items_end p n ts r enough closed) refl refl refl in (
           g.1,
           g.2,
@@ -70,27 +70,27 @@ module _ {S : Type 0} (D : Doubles) (wrote : S → List ℕ → Value → S → 
     -- the keys are those that were read
     abbrev pub ToGo : Bool → Option (json.Members × List Token) → Option (json.Members × List Token) → List Key → S → S
         → Type 0
-    ToGo b whole here keys begun now =
+    ToGo b whole here keys mark now =
         (js : json.Members) (r : List Token) (ts : Members) (ps : Pairs) (end : S) → here ≡ Some (js, r)
         → as_they_stand js ≡ Some ts → members_in_order D ts ≡ Ok ps → (b ≡ true → has_wrapper ts ≡ false)
         → PairsWritten wrote keyed ps now end
         → (all : json.Members) × (read : Members) × (qs : Pairs) × (whole ≡ Some (all, r))
         × (as_they_stand all ≡ Some read) × (members_in_order D read ≡ Ok qs) × (b ≡ true → has_wrapper read ≡ false)
         × (keys_of qs ≡ texts keys ++ keys_of ps)
-        × PairsWritten wrote keyed qs begun end
+        × PairsWritten wrote keyed qs mark end
 
-    pub members_begun : (b : Bool) (whole : Option (json.Members × List Token)) (begun : S)
-        → ToGo b whole whole [] begun begun
-    members_begun b whole begun js r ts ps end here is means wrapped written =
+    pub members_begun : (b : Bool) (whole : Option (json.Members × List Token)) (mark : S)
+        → ToGo b whole whole [] mark mark
+    members_begun b whole mark js r ts ps end here is means wrapped written =
         (js, ts, ps, here, is, means, wrapped, refl, written)
 
     pub member_passed : (b : Bool) (whole : Option (json.Members × List Token)) (p : Parse json.Json) (n : ℕ) (k : Key)
-        (ts r s : List Token) (next : Option (List ℕ)) (keys : List Key) (begun now named later : S) → 0 < n
+        (ts r s : List Token) (next : Option (List ℕ)) (keys : List Key) (mark now named later : S) → 0 < n
         → (b ≡ true → wrapper_of k.now ≡ None) → keyed now k.now named
         → TreeMeans D (converted kept (p ts)) r (λ v. wrote named k.now v later) → read_key r ≡ Some (next, s)
-        → ToGo b whole (members_step p (members p n) (Some k.now) ts) keys begun now
-        → ToGo b whole (members_step p (members p (n - 1)) next s) (keys ++ k ∷ []) begun later
-    member_passed b whole p n k ts r s next keys begun now named later left ordinary name (t, v, read, means, put) key go
+        → ToGo b whole (members_step p (members p n) (Some k.now) ts) keys mark now
+        → ToGo b whole (members_step p (members p (n - 1)) next s) (keys ++ k ∷ []) mark later
+    member_passed b whole p n k ts r s next keys mark now named later left ordinary name (t, v, read, means, put) key go
         js rest ds ps end here is all wrapped written =
         let j = was_read kept (p ts) t r read in
         let more : members_step p (members p n) (Some k.now) ts ≡ Some (json.member k.now j.0 js, rest) =
@@ -110,17 +110,17 @@ module _ {S : Type 0} (D : Doubles) (wrote : S → List ℕ → Value → S → 
         )
 
     pub members_written : (b : Bool) (whole : Option (json.Members × List Token)) (s : List Token) (keys : List Key)
-        (begun now : S) → ToGo b whole (Some (json.no_members, s)) keys begun now
-        → (ps : Pairs) × PairsWritten wrote keyed ps begun now × (keys_of ps ≡ texts keys)
-    members_written b whole s keys begun now go =
+        (mark now : S) → ToGo b whole (Some (json.no_members, s)) keys mark now
+        → (ps : Pairs) × PairsWritten wrote keyed ps mark now × (keys_of ps ≡ texts keys)
+    members_written b whole s keys mark now go =
         let g = go json.no_members s no_members model.no_pairs now refl refl refl (λ is. refl) refl in
         (g.2, g.8, g.7 ∙ append_none (texts keys))
 
     pub members_passed : (b : Bool) (whole : Option (json.Members × List Token)) (s : List Token) (keys : List Key)
-        (begun now : S) (Hold : Pairs → Type 0) → ToGo b whole (Some (json.no_members, s)) keys begun now
-        → ((ps : Pairs) → PairsWritten wrote keyed ps begun now → keys_of ps ≡ texts keys → Hold (once ps))
+        (mark now : S) (Hold : Pairs → Type 0) → ToGo b whole (Some (json.no_members, s)) keys mark now
+        → ((ps : Pairs) → PairsWritten wrote keyed ps mark now → keys_of ps ≡ texts keys → Hold (once ps))
         → MembersMean D b (kept_object whole) s Hold
-    members_passed b whole s keys begun now Hold go holds =
+    members_passed b whole s keys mark now Hold go holds =
         let g = go json.no_members s no_members model.no_pairs now refl refl refl (λ is. refl) refl in (
           put_each g.1 no_members,
           once g.2,

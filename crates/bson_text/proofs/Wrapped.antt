@@ -28,7 +28,7 @@ use Rattle.bson_text.proofs.Objects.{begins}
 use Rattle.bson_text.proofs.Denials.{then_parsed, split_kept, mapped}
 use Rattle.bson_text.proofs.Parsed.{same_parse, after_first, none_behind}
 use Rattle.bson_text.specs.Placed.{trees_of, FirstPlain, At, IsOf, IsScalarFault}
-use Rattle.bson_text.specs.Placed.{IsBeside, Keyed, NoFault, ValuePlaced, ItemsPlaced, MembersPlaced, ObjectPlaced}
+use Rattle.bson_text.specs.Placed.{IsShapeFaultPassed, Keyed, NoFault, ValuePlaced, ItemsPlaced, MembersPlaced, ObjectPlaced}
 use Rattle.json.specs.declared.error.Error.{Error}
 use Rattle.json.specs.declared.error.Error.TheVariants as json_error
 use Rattle.bson_text.specs.Stops.{stop_of}
@@ -100,7 +100,7 @@ module _ (D : Doubles) where
   pub misplaced_placed : (e : Stop) (b : Bool) (whole : Option (json.Members × List Token)) (depth n : ℕ) (k : List ℕ)
       (ts rest : List Token) → (b && is_some (wrapper_of k)) ≡ true
       → MembersFrom D b whole (members_step (value depth) (members (value depth) n) (Some k) ts)
-      → IsBeside depth ts e rest → MembersPlaced D e b whole rest
+      → IsShapeFaultPassed depth ts e rest → MembersPlaced D e b whole rest
   misplaced_placed e false whole depth n k ts rest bad from out = cc
   misplaced_placed e true whole depth n k ts rest bad from out = at_map e _ _ (λ q (shape, passed) ms r ds is rise of first.
       let g = from ms r ds is rise of in
@@ -154,7 +154,7 @@ module _ (D : Doubles) where
 
   pub strange_placed : (f : Stop) (depth : ℕ) (k l : List ℕ) (w : Wrapper) (ts r q rest : List Token) (held : Data)
       → wrapper_of k ≡ Some w → IsHeldAs (converted of_json (value depth ts)) held r → read_key r ≡ Some (Some l, q)
-      → (bytes_eq k (codes "$code") && bytes_eq l (codes "$scope")) ≡ false → IsBeside depth q f rest
+      → (bytes_eq k (codes "$code") && bytes_eq l (codes "$scope")) ≡ false → IsShapeFaultPassed depth q f rest
       → ObjectPlaced D f (from_key depth (Some k) ts) rest
   strange_placed f depth k l w ts r q rest held named read key_is are out = at_map f _ _ (λ x (shape, passed) ms end ds parsed rise of.
       let P = value depth in

@@ -80,10 +80,10 @@ module _ (D : Doubles) where
   scope_means depth first ts s r Framed left key (ms, ps, read, means, free, framed) =
       (left, (ms, ps, ap kept_object (begins (depth - 1) first ts s key) ∙ read, means, free, framed))
 
-  pub code_alone : (depth : ℕ) (s : List ℕ) (is_behind : Bool) (ts r rest : List Token) (Wrote : Value → Type 0)
-      → ts ≡ token.null ∷ r → CodeEnds s is_behind r rest → Wrote (scalar (code s))
-      → CodeMeans D depth s is_behind ts rest Wrote
-  code_alone depth s is_behind ts r rest Wrote is ended written =
+  pub code_alone : (depth : ℕ) (s : List ℕ) (needs_comma_after : Bool) (ts r rest : List Token) (Wrote : Value → Type 0)
+      → ts ≡ token.null ∷ r → CodeEnds s needs_comma_after r rest → Wrote (scalar (code s))
+      → CodeMeans D depth s needs_comma_after ts rest Wrote
+  code_alone depth s needs_comma_after ts r rest Wrote is ended written =
       let length_is : length ts ≡ suc (length r) = ap length is in (
         null,
         None,
@@ -95,11 +95,11 @@ module _ (D : Doubles) where
         written,
       )
 
-  pub code_scoped : (depth : ℕ) (s : List ℕ) (is_behind : Bool) (ts q r rest : List Token) (Framed : Pairs → Type 0)
+  pub code_scoped : (depth : ℕ) (s : List ℕ) (needs_comma_after : Bool) (ts q r rest : List Token) (Framed : Pairs → Type 0)
       (Wrote : Value → Type 0) → ts ≡ token.begin_object ∷ q → ScopeMeans D depth q r Framed → length r < length q
-      → CodeEnds s is_behind r rest → ((ps : Pairs) → Framed ps → Wrote (model.code_scope s ps))
-      → CodeMeans D depth s is_behind ts rest Wrote
-  code_scoped depth s is_behind ts q r rest Framed Wrote is (left, (ms, ps, read, means, free, framed)) less ended ends =
+      → CodeEnds s needs_comma_after r rest → ((ps : Pairs) → Framed ps → Wrote (model.code_scope s ps))
+      → CodeMeans D depth s needs_comma_after ts rest Wrote
+  code_scoped depth s needs_comma_after ts q r rest Framed Wrote is (left, (ms, ps, read, means, free, framed)) less ended ends =
       let length_is : length ts ≡ suc (length q) = ap length is in (
         object ms,
         Some ps,
@@ -151,13 +151,13 @@ module _ (D : Doubles) where
       let k = codes "$scope" in
       let l = codes "$code" in
       let j = was_read kept (value depth q) d r found in
-      let begun : inside depth ts ≡ from_key depth (Some k) q =
+      let mark : inside depth ts ≡ from_key depth (Some k) q =
       begins depth (Some k) ts q (key ∙ ap (λ x. Some (x, q)) is) in
-      let behind : value depth (token.string s ∷ end) ≡ Some (json.string s, end) = value_is depth (token.string s ∷ end) in (
+      let needs_comma : value depth (token.string s ∷ end) ≡ Some (json.string s, end) = value_is depth (token.string s ∷ end) in (
         member k d (member l (string s) no_members),
         code_value s scope,
-        ap kept_object (begun
-            ∙ two depth k l q r (token.string s ∷ end) end rest j.0 (json.string s) less j.1 named behind (omega arith) ended)
+        ap kept_object (mark
+            ∙ two depth k l q r (token.string s ∷ end) end rest j.0 (json.string s) less j.1 named needs_comma (omega arith) ended)
             ∙ two_kept k l j.0 (json.string s) d (string s) rest refl j.2 refl,
         behind_is s d scope means,
         written,

@@ -30,7 +30,7 @@ EndsSome true ts = ⊥
 EndsSome false ts = (end : List Token) × (read_key ts ≡ Some (None, end))
 
 abbrev pub EndDenied : Stop → Bool → List Token → Type 0
-EndDenied e is_behind ts = Denied e ⊤ ⊤ (EndsSome is_behind ts) → ⊥
+EndDenied e needs_comma_after ts = Denied e ⊤ ⊤ (EndsSome needs_comma_after ts) → ⊥
 
 -- neither the writer leaves it, nor the walk
 abbrev pub Stays : Type 0 → Type 0 → json.Json → Type 0
@@ -78,7 +78,7 @@ module _ (D : Doubles) (Leaves Sorts : Type 0) where
   MembersClaim e b ms = Denied e (MembersStay Leaves Sorts ms) (HasUniqueKeys (json.object ms)) (MembersMeanSome D b ms)
 
   abbrev pub CodeClaim : Stop → Bool → json.Json → List Token → Type 0
-  CodeClaim e is_behind j r = Denied e (Stays Leaves Sorts j) (HasUniqueKeys j) (ScopeMeansSome D is_behind j r)
+  CodeClaim e needs_comma_after j r = Denied e (Stays Leaves Sorts j) (HasUniqueKeys j) (ScopeMeansSome D needs_comma_after j r)
 
   abbrev pub ValueDenied : Stop → Option (json.Json × List Token) → Type 0
   ValueDenied e parsed = Lacks parsed (λ j r. ValueClaim e j)
@@ -96,7 +96,7 @@ module _ (D : Doubles) (Leaves Sorts : Type 0) where
   ScopeDenied e depth ts = 0 < depth → MembersDenied e false (inside (depth - 1) ts)
 
   abbrev pub CodeDenied : Stop → Bool → Option (json.Json × List Token) → Type 0
-  CodeDenied e is_behind parsed = Lacks parsed (λ j r. CodeClaim e is_behind j r)
+  CodeDenied e needs_comma_after parsed = Lacks parsed (λ j r. CodeClaim e needs_comma_after j r)
 
   -- the text is no JSON text nested so deep of which that is so
   abbrev pub TextDenied : Stop → List ℕ → Type 0

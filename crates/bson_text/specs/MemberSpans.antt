@@ -72,14 +72,14 @@ ArePlacesByKey ks places = IsPermutation (range_with_len 0 (length ks)) places
 
 -- the texts with commas between them
 abbrev pub open_text : List ℕ → Bool → List MemberSpan → List ℕ
-open_text texts behind [] = []
-open_text texts behind (p ∷ ps) = comma_if behind ++ (span_text texts p ++ open_text texts true ps)
+open_text texts needs_comma [] = []
+open_text texts needs_comma (p ∷ ps) = comma_if needs_comma ++ (span_text texts p ++ open_text texts true ps)
 
 -- the same with the brace that ends the object
 abbrev pub members_text : List ℕ → Bool → List MemberSpan → List ℕ
-members_text texts behind [] = 125 ∷ []
-members_text texts behind (p ∷ ps) =
-    comma_if behind ++ (span_text texts p ++ members_text texts true ps)
+members_text texts needs_comma [] = 125 ∷ []
+members_text texts needs_comma (p ∷ ps) =
+    comma_if needs_comma ++ (span_text texts p ++ members_text texts true ps)
 
 abbrev pub object_text : List ℕ → List MemberSpan → List ℕ
 object_text texts ps = 123 ∷ members_text texts false ps

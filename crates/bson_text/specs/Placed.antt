@@ -17,7 +17,7 @@ use Rattle.bson_scalar.specs.declared.form.Doubles.{Doubles}
 use Rattle.bson_tree.specs.Place.{PathSegment, key, element, path_of, IsPlace, IsReason, IsFirstFaultIn}
 use Rattle.bson_tree.specs.declared.place.Place.{Place}
 use Rattle.bson_tokens.specs.FirstFault.{Verdict, found, found_items, found_members, found_scope, of_scalar}
-use Rattle.bson_tokens.specs.FirstFault as tells
+use Rattle.bson_tokens.specs.FirstFault as reports
 use Rattle.bson_text.specs.Exact.{ValueDenied, ItemsDenied, ObjectDenied, MembersDenied, CodeDenied, ScopeDenied}
 use Rattle.bson_text.specs.Refused.{IsShallowJson}
 use Rattle.bson_text.specs.Walked.{inside}
@@ -79,8 +79,8 @@ abbrev pub IsOf : Verdict → Place → Type 0
 IsOf v place = IsPlace (λ f path. v ≡ Some (f, path)) place
 
 -- the shape is wrong, here
-abbrev pub IsShape : Place → Type 0
-IsShape place = (path_of place ≡ []) × IsReason wrong_shape place.reason
+abbrev pub IsShapeFault : Place → Type 0
+IsShapeFault place = (path_of place ≡ []) × IsReason wrong_shape place.reason
 
 -- the same place, seen from one segment further out
 abbrev pub IsPlaceWithin : PathSegment → Place → Place → Type 0
@@ -101,7 +101,7 @@ Elemented depth n old ts new rest = At new (λ q. (p : Box Place Global) × (old
 
 -- A fault of the value at a key, seen from its object. If a document has a wrapper key after it, that is the fault.
 abbrev pub AtKey : Bool → List ℕ → Place → Place → Type 0
-AtKey true k p q = IsShape q
+AtKey true k p q = IsShapeFault q
 AtKey false k p q = IsPlaceWithin (key k) p q
 
 abbrev pub Membered : ℕ → Bool → List ℕ → Stop → List Token → Stop → List Token → Type 0
@@ -122,15 +122,15 @@ MembersTo depth ts rest = (n : ℕ) (ms : json.Members) (r : List Token) → mem
     → rest ≡ r
 
 abbrev pub IsEnded : ℕ → List Token → Stop → List Token → Type 0
-IsEnded depth ts new rest = At new (λ q. IsShape q × MembersTo depth ts rest)
+IsEnded depth ts new rest = At new (λ q. IsShapeFault q × MembersTo depth ts rest)
 
 abbrev pub NoScopeAt : ℕ → List Token → Stop → List Token → Type 0
-NoScopeAt depth ts new rest = At new (λ q. IsShape q × IsNoScope ts × StepPassed depth ts rest)
+NoScopeAt depth ts new rest = At new (λ q. IsShapeFault q × IsNoScope ts × StepPassed depth ts rest)
 
 -- A fault of a scope's members, seen from the object around the scope. If there is a further key, that is the fault.
 abbrev pub ScopeSeen : json.Members → Place → Place → Type 0
 ScopeSeen json.no_members p q = IsPlaceWithin (key (codes "$scope")) p q
-ScopeSeen (json.member k j ms) p q = IsShape q
+ScopeSeen (json.member k j ms) p q = IsShapeFault q
 
 abbrev pub InScope : ℕ → Stop → List Token → Stop → List Token → Type 0
 InScope depth old ts new rest = At new (λ q. (p : Box Place Global) × (old ≡ stop.Fault p)
@@ -139,12 +139,12 @@ InScope depth old ts new rest = At new (λ q. (p : Box Place Global) × (old ≡
 
 -- There is a further key after a scope.
 abbrev pub EndPlaced : ℕ → List Token → Stop → List Token → Type 0
-EndPlaced depth ts new rest = At new (λ q. IsShape q × ((n : ℕ) (ms : json.Members) (r : List Token)
+EndPlaced depth ts new rest = At new (λ q. IsShapeFault q × ((n : ℕ) (ms : json.Members) (r : List Token)
     → members (value depth) n ts ≡ Some (ms, r) → (rest ≡ r) × (ms ≡ json.no_members → ⊥)))
 
 -- the object has the wrong shape, and from a value in it on the rest was passed over
-abbrev pub IsBeside : ℕ → List Token → Stop → List Token → Type 0
-IsBeside depth ts new rest = At new (λ q. IsShape q × StepPassed depth ts rest)
+abbrev pub IsShapeFaultPassed : ℕ → List Token → Stop → List Token → Type 0
+IsShapeFaultPassed depth ts new rest = At new (λ q. IsShapeFault q × StepPassed depth ts rest)
 
 abbrev pub NoFault : Stop → Type 0
 NoFault stop.OutOfMemory = ⊤
@@ -181,12 +181,12 @@ module _ (D : Doubles) where
 
   -- The verdict of what follows code.
   abbrev pub code_verdict : Members → Verdict
-  code_verdict no_members = tells.here
+  code_verdict no_members = reports.here
   code_verdict (member l e no_members) = found_scope D e
-  code_verdict (member l e (member m f us)) = tells.here
+  code_verdict (member l e (member m f us)) = reports.here
 
   abbrev pub CodePlaced : Bool → ℕ → Stop → List Token → List Token → Type 0
-  CodePlaced is_behind depth e ts rest = is_behind ≡ false → At e (λ q. (n : ℕ) (l : List ℕ) (ms : json.Members)
+  CodePlaced needs_comma_after depth e ts rest = needs_comma_after ≡ false → At e (λ q. (n : ℕ) (l : List ℕ) (ms : json.Members)
       (r : List Token) (us : Members) → members_step (value depth) (members (value depth) n) (Some l) ts ≡ Some (ms, r)
       → MembersRise ms → trees_of ms ≡ Some us → (rest ≡ r) × IsOf (code_verdict us) q)
 

@@ -6,7 +6,7 @@ use Rattle.bson_model.specs.Sorted.{sorted_items, sorted_pairs}
 use Rattle.bson_model.specs.Value.{Value, Values, Pairs, scalar, code_scope, array, document}
 use Rattle.bson_tokens.specs.declared.arrangement.Arrangement.{Arrangement}
 use Rattle.bson_tokens.specs.declared.arrangement.Arrangement.TheVariants.{FirstPlaces, Ascending}
-use Rattle.bson_text.specs.declared.sorted_text.Begun.{Begun}
+use Rattle.bson_text.specs.declared.sorted_text.Mark.{Mark}
 use Rattle.bson_text.specs.declared.shown_text.ShownWriter.{ShownWriter}
 
 -- what is shown of a value and of parts of one: with its keys in their order, or ascending
@@ -26,25 +26,25 @@ value_shown a (document ps) = document (pairs_shown a ps)
 
 -- what separates an element from one before it
 abbrev pub separator_if : Bool → List ℕ
-separator_if behind = if behind then codes ", " else []
+separator_if needs_comma = if needs_comma then codes ", " else []
 
 -- the brace that ends a document, behind its members or none
-abbrev pub brace_behind : Bool → List ℕ
-brace_behind behind = if behind then codes " }" else codes "}"
+abbrev pub closing_brace : Bool → List ℕ
+closing_brace needs_comma = if needs_comma then codes " }" else codes "}"
 
 -- the text so far, and the separator that comes before a value that stands next
 abbrev pub next_display : ShownWriter → List ℕ
-next_display w = w.text.items ++ separator_if w.behind
+next_display w = w.text.items ++ separator_if w.needs_comma
 
 -- this text comes after the old one, behind which a value stands or not, and nothing else is another
 abbrev pub DisplayAdded : ShownWriter → List ℕ → Bool → ShownWriter → Type 0
-DisplayAdded old s behind new =
-    (new.behind ≡ behind) × (new.arrangement ≡ old.arrangement) × (new.starts.items ≡ old.starts.items)
+DisplayAdded old s needs_comma new =
+    (new.needs_comma ≡ needs_comma) × (new.arrangement ≡ old.arrangement) × (new.starts.items ≡ old.starts.items)
     × (new.text.items ≡ old.text.items ++ s)
 
 -- the same with a separator where one is due
 abbrev pub DisplayNext : ShownWriter → List ℕ → Bool → ShownWriter → Type 0
-DisplayNext old s behind new = DisplayAdded old (separator_if old.behind ++ s) behind new
+DisplayNext old s needs_comma new = DisplayAdded old (separator_if old.needs_comma ++ s) needs_comma new
 
 abbrev pub DisplayValueAdded : ShownWriter → Value → ShownWriter → Type 0
 DisplayValueAdded old v new = DisplayNext old (display_text (value_shown old.arrangement v)) true new
@@ -53,20 +53,20 @@ abbrev pub DisplayPairsAdded : ShownWriter → Pairs → ShownWriter → Type 0
 DisplayPairsAdded old ps new = DisplayNext old (display_text (document (pairs_shown old.arrangement ps))) true new
 
 -- a document was begun, whose text starts here and whose members' starts come behind those before it
-abbrev pub DisplayBegun : ShownWriter → Begun → ShownWriter → Type 0
-DisplayBegun old begun new = (begun.start ≡ length (next_display old)) × (begun.held ≡ length old.starts.items)
+abbrev pub DisplayBegun : ShownWriter → Mark → ShownWriter → Type 0
+DisplayBegun old mark new = (mark.start ≡ length (next_display old)) × (mark.held ≡ length old.starts.items)
     × DisplayNext old (codes "{") false new
 
 -- the text up to a member that comes next
 abbrev pub member_front : ShownWriter → List ℕ
-member_front w = w.text.items ++ comma_if w.behind
+member_front w = w.text.items ++ comma_if w.needs_comma
 
 -- a key was added, whose member starts here, with the blank in front of it
 abbrev pub DisplayKeyAdded : ShownWriter → List ℕ → ShownWriter → Type 0
-DisplayKeyAdded old k new = (new.behind ≡ false) × (new.arrangement ≡ old.arrangement)
+DisplayKeyAdded old k new = (new.needs_comma ≡ false) × (new.arrangement ≡ old.arrangement)
     × (new.starts.items ≡ old.starts.items ++ length (member_front old) ∷ [])
     × (new.text.items ≡ member_front old ++ (codes " \"" ++ (k ++ codes "\": ")))
 
 -- code was added, and the text of its scope starts here
-abbrev pub IsCodeBegun : ShownWriter → List ℕ → Begun → ShownWriter → Type 0
-IsCodeBegun old s begun new = (begun.start ≡ length new.text.items) × DisplayNext old s false new
+abbrev pub IsCodeBegun : ShownWriter → List ℕ → Mark → ShownWriter → Type 0
+IsCodeBegun old s mark new = (mark.start ≡ length new.text.items) × DisplayNext old s false new

@@ -7,21 +7,21 @@ use Rattle.bson_scalar.specs.TreeText.{text_of}
 use Rattle.bson_model.specs.Sorted.{sorted, sorted_pairs}
 use Rattle.bson_model.specs.Value.{Value, Pairs}
 use Rattle.bson_model.specs.Writing.{writes_in, writes_pairs_in}
-use Rattle.bson_text.specs.declared.sorted_text.Begun.{Begun}
+use Rattle.bson_text.specs.declared.sorted_text.Mark.{Mark}
 use Rattle.bson_text.specs.declared.sorted_text.SortedWriter.{SortedWriter}
 
 -- the text so far, and the comma that comes before a value that stands next
 abbrev pub next_sorted : SortedWriter → List ℕ
-next_sorted w = w.text.items ++ comma_if w.behind
+next_sorted w = w.text.items ++ comma_if w.needs_comma
 
 -- this text comes after the old one, behind which a value stands or not, and nothing else is another
 abbrev pub SortedAdded : SortedWriter → List ℕ → Bool → SortedWriter → Type 0
-SortedAdded old s behind new = (new.doubles ≡ old.doubles) × (new.form ≡ old.form) × (new.behind ≡ behind)
+SortedAdded old s needs_comma new = (new.doubles ≡ old.doubles) × (new.form ≡ old.form) × (new.needs_comma ≡ needs_comma)
     × (new.starts.items ≡ old.starts.items) × (new.text.items ≡ old.text.items ++ s)
 
 -- the same with a comma where one is due
 abbrev pub SortedNext : SortedWriter → List ℕ → Bool → SortedWriter → Type 0
-SortedNext old s behind new = SortedAdded old (comma_if old.behind ++ s) behind new
+SortedNext old s needs_comma new = SortedAdded old (comma_if old.needs_comma ++ s) needs_comma new
 
 abbrev pub SortedValueAdded : SortedWriter → Value → SortedWriter → Type 0
 SortedValueAdded old v new = (t : Data) × (writes_in old.doubles old.form (sorted v) ≡ Ok t) × SortedNext old (text_of t) true new
@@ -31,12 +31,12 @@ SortedPairsAdded old ps new = (ms : Members) × (writes_pairs_in old.doubles old
     × SortedNext old (text_of (object ms)) true new
 
 -- an object was begun, whose text starts here and whose members' starts come behind those before it
-abbrev pub SortedBegun : SortedWriter → Begun → SortedWriter → Type 0
-SortedBegun old begun new = (begun.start ≡ length (next_sorted old)) × (begun.held ≡ length old.starts.items)
+abbrev pub SortedBegun : SortedWriter → Mark → SortedWriter → Type 0
+SortedBegun old mark new = (mark.start ≡ length (next_sorted old)) × (mark.held ≡ length old.starts.items)
     × SortedNext old (123 ∷ []) false new
 
 -- a key was added, whose member starts here
 abbrev pub SortedKeyAdded : SortedWriter → List ℕ → SortedWriter → Type 0
-SortedKeyAdded old k new = (new.doubles ≡ old.doubles) × (new.form ≡ old.form) × (new.behind ≡ false)
+SortedKeyAdded old k new = (new.doubles ≡ old.doubles) × (new.form ≡ old.form) × (new.needs_comma ≡ false)
     × (new.starts.items ≡ old.starts.items ++ length (next_sorted old) ∷ [])
     × (new.text.items ≡ next_sorted old ++ (quoted k ++ 58 ∷ []))

@@ -90,7 +90,7 @@ module _ (D : Doubles) where
 
   -- code from the scope's value on, to the end of their object
   abbrev pub CodeMeans : ℕ → List ℕ → Bool → List Token → List Token → (Value → Type 0) → Type 0
-  CodeMeans depth s is_behind ts rest Holds =
+  CodeMeans depth s needs_comma_after ts rest Holds =
       (d : Data) × (scope : Option Pairs) × (r : List Token) × (converted kept (value depth ts) ≡ Some (d, r))
-      × (length r < length ts) × CodeEnds s is_behind r rest × (scope_in_order D d ≡ Ok scope)
+      × (length r < length ts) × CodeEnds s needs_comma_after r rest × (scope_in_order D d ≡ Ok scope)
       × Holds (code_value s scope)

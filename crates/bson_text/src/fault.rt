@@ -4,7 +4,7 @@ ghost use Rattle.serde_json.specs.Read.{read};
 ghost use Rattle.bson_tokens.specs.Normalized.{IsNormalizedText};
 ghost use Rattle.bson_tokens.specs.declared.arrangement.Arrangement.TheVariants.{Ascending};
 ghost use Rattle.bson_tokens.specs.Parts.{IsBroken};
-ghost use Rattle.bson_tokens.specs.Told.{IsTextPlaceIn};
+ghost use Rattle.bson_tokens.specs.TextPlaces.{IsTextPlaceIn};
 
 use crate::nothing::check_text;
 use crate::stop::Stop;

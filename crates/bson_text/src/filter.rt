@@ -82,7 +82,7 @@ pub fn sort_text(
         text: Vec::with_capacity(alloc, first_room(text))?,
         part: Vec::with_capacity(alloc, FIRST_PART)?,
         starts: Vec::with_capacity(alloc, FIRST_STARTS)?,
-        behind: false,
+        needs_comma: false,
         most: memory_allowed(text.len()),
     };
     let written = write_text(alloc, doubles, text, scratch, writer)?;
@@ -144,7 +144,7 @@ fn show_by(
         text: Vec::with_capacity(alloc, first_room(text))?,
         part: String::new(alloc),
         starts: Vec::new(alloc),
-        behind: false,
+        needs_comma: false,
         most: memory_allowed(text.len()),
     };
     let written = write_text(alloc, doubles, text, scratch, writer)?;

@@ -62,13 +62,13 @@ impl ValueWriter for Nothing {
 
     ghost framed = { λ old ps new. Unit {0} };
 
-    ghost listed = { λ old k begun new. Unit {0} };
+    ghost listed = { λ old k mark new. Unit {0} };
 
-    ghost opened = { λ old begun new. Unit {0} };
+    ghost opened = { λ old mark new. Unit {0} };
 
     ghost keyed = { λ old k new. Unit {0} };
 
-    ghost coded = { λ old k s begun new. Unit {0} };
+    ghost coded = { λ old k s mark new. Unit {0} };
 
     fn string(&mut self, _name: &str, _text: &str) -> Result<(), Stop> {
         Ok(())

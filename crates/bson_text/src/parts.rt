@@ -25,7 +25,7 @@ use bson_scalar::form::Doubles;
 use bson_scalar::scalar::Scalar;
 use bson_scalar::wrapper::{Wrapper, wrapper_named};
 use bson_tokens::number::number;
-use bson_tree::shape::{SCOPE, beside_others};
+use bson_tree::shape::{SCOPE, other_keys_reason};
 use json::{Reader, Token};
 use serde_json::Value;
 use std::alloc::Global;
@@ -121,7 +121,7 @@ pub(crate) fn end_object(
     let other = reader.next_key()?;
     match other {
         None => Ok(()),
-        Some(_) => Err(shape_at_value(level, reader, beside_others(Wrapper::Code))),
+        Some(_) => Err(shape_at_value(level, reader, other_keys_reason(Wrapper::Code))),
     }
 }
 

@@ -8,8 +8,8 @@ ghost use Rattle.serde_json.specs.View.{view};
 ghost use Rattle.bson_text.specs.declared.stop.Stop.{Stop as Stopped};
 ghost use Rattle.bson_scalar.specs.Table.{wrapper_of};
 ghost use Rattle.bson_tree.specs.Place.{path_of, segment_of, key as key_segment};
-ghost use Rattle.bson_text.specs.Placed.{Elemented, Membered, IsScalarFault, ItemsPassed, MembersPassed, Keyed, IsBeside};
-ghost use Rattle.bson_text.specs.Placed.{At, IsShape, NoFault, IsEnded, InScope};
+ghost use Rattle.bson_text.specs.Placed.{Elemented, Membered, IsScalarFault, ItemsPassed, MembersPassed, Keyed, IsShapeFaultPassed};
+ghost use Rattle.bson_text.specs.Placed.{At, IsShapeFault, NoFault, IsEnded, InScope};
 ghost use Rattle.bson_text.specs.Stops.{read_stop, IsStopAfter, Becomes, IsOfReading};
 ghost use Rattle.bson_text.specs.declared.stop.Stop.TheVariants.{Syntax};
 
@@ -20,7 +20,7 @@ use bson_scalar::read::read_wrapper;
 use bson_scalar::scalar::Scalar;
 use bson_scalar::wrapper::{Wrapper, wrapper_named};
 use bson_tree::place::{Place, Reason, Segment};
-use bson_tree::shape::beside_others;
+use bson_tree::shape::other_keys_reason;
 use json::{Invalid, Reader};
 use serde_json::Value;
 use std::alloc::{AllocError, Global};
@@ -38,7 +38,7 @@ fn fault_at(alloc: Global, place: Place) -> Stop
 
 // The value itself has the wrong shape.
 fn shape_here(alloc: Global, message: &'static str) -> Stop
-    ensures placed { At result IsShape }
+    ensures placed { At result IsShapeFault }
     ensures kind { Becomes Syntax result }
 {
     fault_at(
@@ -152,7 +152,7 @@ pub(crate) fn in_member(
             };
             if is_document {
                 if let Some(wrapper) = later {
-                    return shape_here(level.alloc, beside_others(wrapper));
+                    return shape_here(level.alloc, other_keys_reason(wrapper));
                 }
             }
             match at_key(level.alloc, key, place) {
@@ -204,7 +204,7 @@ pub(crate) fn shape_at_key(level: Level, reader: &mut Reader<'_>, message: &'sta
 
 // The same if the next value is skipped too.
 pub(crate) fn shape_at_value(level: Level, reader: &mut Reader<'_>, message: &'static str) -> Stop
-    ensures placed { IsBeside level.depth reader.old result reader.new }
+    ensures placed { IsShapeFaultPassed level.depth reader.old result reader.new }
     ensures kind { Becomes Syntax result }
 {
     let Ok(()) = reader.skip_value(level.depth) else {
@@ -224,7 +224,7 @@ pub(crate) fn in_scope(level: Level, reader: &mut Reader<'_>, stop: Stop) -> Sto
                 Ok(place) => Stop::Fault(place),
                 Err(_) => Stop::OutOfMemory,
             },
-            Ok(Some(_)) => shape_at_value(level, reader, beside_others(Wrapper::Code)),
+            Ok(Some(_)) => shape_at_value(level, reader, other_keys_reason(Wrapper::Code)),
             Err(_) => Stop::Syntax,
         },
         Stop::OutOfMemory => Stop::OutOfMemory,

@@ -12,7 +12,7 @@ ghost use Rattle.bson_text.specs.Stops.{MayStopAtEnd};
 ghost use Rattle.bson_text.specs.Walked.{PairsWritten, keys_of, once};
 
 use crate::distinct::are_distinct;
-use crate::sorted_text::Begun;
+use crate::sorted_text::Mark;
 use crate::spans::{end_object, put_comma};
 use crate::stop::Stop;
 use crate::writer::ValueWriter;
@@ -35,32 +35,32 @@ pub(crate) struct ShownWriter {
     // Those of the documents that are open, each document's behind those around it.
     pub(crate) starts: Vec<usize>,
     // A value stands before what comes next.
-    pub(crate) behind: bool,
+    pub(crate) needs_comma: bool,
     // So many bytes may be taken to put members in order.
     pub(crate) most: usize,
     ghost utf8: { is_utf8 text.items ≡ true },
 }
 
 impl ShownWriter {
-    ghost use Rattle.bson_text.specs.ShownWritten.{DisplayAdded, DisplayBegun, DisplayKeyAdded, DisplayNext, DisplayPairsAdded, DisplayValueAdded, brace_behind};
+    ghost use Rattle.bson_text.specs.ShownWritten.{DisplayAdded, DisplayBegun, DisplayKeyAdded, DisplayNext, DisplayPairsAdded, DisplayValueAdded, closing_brace};
     ghost use Rattle.bson_text.specs.ShownWritten.{separator_if};
 
     // Adds the separator of elements that is due.
     fn add_separator(&mut self) -> Result<(), AllocError>
-        ensures { OnOk result (DisplayAdded self.old (separator_if self.old.behind) self.old.behind self.new) }
+        ensures { OnOk result (DisplayAdded self.old (separator_if self.old.needs_comma) self.old.needs_comma self.new) }
     {
-        if self.behind {
+        if self.needs_comma {
             self.text.extend_from_slice(b", ")?;
         }
         Ok(())
     }
 
     // Adds the text, behind which a value stands or not.
-    fn add(&mut self, text: &str, behind: bool) -> Result<(), AllocError>
-        ensures { OnOk result (DisplayAdded self.old text.now behind self.new) }
+    fn add(&mut self, text: &str, needs_comma: bool) -> Result<(), AllocError>
+        ensures { OnOk result (DisplayAdded self.old text.now needs_comma self.new) }
     {
         self.text.extend_from_slice(text.as_bytes())?;
-        self.behind = behind;
+        self.needs_comma = needs_comma;
         Ok(())
     }
 
@@ -72,73 +72,73 @@ impl ShownWriter {
         self.part.clear();
         write!(self.part, "{}", scalar_ref(&value))?;
         self.text.extend_from_slice(self.part.as_bytes())?;
-        self.behind = true;
+        self.needs_comma = true;
         Ok(())
     }
 
-    fn position(&self) -> Begun
+    fn position(&self) -> Mark
         ensures start { result.start ≡ length self.now.text.items }
         ensures held { result.held ≡ length self.now.starts.items }
     {
-        Begun {
+        Mark {
             start: self.text.len(),
             held: self.starts.len(),
         }
     }
 
     // Ends a document, whose members are put by ascending key.
-    fn end_sorted(&mut self, begun: Begun, keys: &[&str]) -> Result<(), Stop>
-        requires stands { (start : ShownWriter) × (mid : ShownWriter) × (ps : Pairs) × DisplayBegun start begun mid
+    fn end_sorted(&mut self, mark: Mark, keys: &[&str]) -> Result<(), Stop>
+        requires stands { (start : ShownWriter) × (mid : ShownWriter) × (ps : Pairs) × DisplayBegun start mark mid
             × PairsWritten (λ a k v b. DisplayValueAdded a v b) DisplayKeyAdded ps mid self.old
             × (keys_of ps ≡ map (λ k. k.now) keys.now) }
         requires ascending { self.old.arrangement ≡ arrangement.Ascending }
-        ensures written { OnOk result ((start : ShownWriter) (mid : ShownWriter) (ps : Pairs) → DisplayBegun start begun mid
+        ensures written { OnOk result ((start : ShownWriter) (mid : ShownWriter) (ps : Pairs) → DisplayBegun start mark mid
             → PairsWritten (λ a k v b. DisplayValueAdded a v b) DisplayKeyAdded ps mid self.old
             → keys_of ps ≡ map (λ k. k.now) keys.now → DisplayPairsAdded start (once ps) self.new) }
         ensures stops { IfErr result (MayStopAtEnd (λ D. ⊥) ⊤ (map (λ k. k.now) keys.now)) }
     {
-        let starts = &self.starts[begun.held..];
+        let starts = &self.starts[mark.held..];
         end_object(
             self.alloc,
             keys,
             starts,
-            begun.start,
+            mark.start,
             self.most,
             &mut self.text,
         )?;
         put_blank(keys.is_empty(), &mut self.text)?;
-        self.starts.truncate(begun.held);
-        self.behind = true;
+        self.starts.truncate(mark.held);
+        self.needs_comma = true;
         Ok(())
     }
 
     // Ends a document, whose members stay as they came. It is refused where a key came twice.
-    fn end_in_order(&mut self, begun: Begun, keys: &mut [&str]) -> Result<(), Stop>
+    fn end_in_order(&mut self, mark: Mark, keys: &mut [&str]) -> Result<(), Stop>
         requires first_places { self.old.arrangement ≡ arrangement.FirstPlaces }
-        ensures written { OnOk result ((start : ShownWriter) (mid : ShownWriter) (ps : Pairs) → DisplayBegun start begun mid
+        ensures written { OnOk result ((start : ShownWriter) (mid : ShownWriter) (ps : Pairs) → DisplayBegun start mark mid
             → PairsWritten (λ a k v b. DisplayValueAdded a v b) DisplayKeyAdded ps mid self.old
             → keys_of ps ≡ map (λ k. k.now) keys.old → DisplayPairsAdded start (once ps) self.new) }
         ensures stops { IfErr result (MayStopAtEnd (λ D. ⊥) ⊤ (map (λ k. k.now) keys.old)) }
     {
-        let brace = ShownWriter::brace_behind(self.behind);
+        let brace = ShownWriter::closing_brace(self.needs_comma);
         if !are_distinct(self.alloc, keys) {
             return Err(Stop::DuplicateKey);
         }
-        self.starts.truncate(begun.held);
+        self.starts.truncate(mark.held);
         Ok(self.add(brace, true)?)
     }
 
     // The brace that ends a document, with a blank behind its members.
-    fn brace_behind(behind: bool) -> &'static str
-        ensures { result.now ≡ brace_behind behind }
+    fn closing_brace(needs_comma: bool) -> &'static str
+        ensures { result.now ≡ closing_brace needs_comma }
     {
-        if behind { " }" } else { "}" }
+        if needs_comma { " }" } else { "}" }
     }
 }
 
 // The members begin with a blank, so that a comma alone stands between them.
 impl ValueWriter for ShownWriter {
-    type Open = Begun;
+    type Open = Mark;
 
     ghost use Rattle.bson_text.specs.ShownWritten.{DisplayBegun, IsCodeBegun, DisplayKeyAdded, DisplayNext, DisplayPairsAdded, DisplayValueAdded};
 
@@ -152,13 +152,13 @@ impl ValueWriter for ShownWriter {
 
     ghost framed = { λ old ps new. DisplayPairsAdded old ps new };
 
-    ghost listed = { λ old k begun new. DisplayNext old (codes "[") false new };
+    ghost listed = { λ old k mark new. DisplayNext old (codes "[") false new };
 
-    ghost opened = { λ old begun new. DisplayBegun old begun new };
+    ghost opened = { λ old mark new. DisplayBegun old mark new };
 
     ghost keyed = { λ old k new. DisplayKeyAdded old k new };
 
-    ghost coded = { λ old k s begun new. IsCodeBegun old s begun new };
+    ghost coded = { λ old k s mark new. IsCodeBegun old s mark new };
 
     fn string(&mut self, _name: &str, text: &str) -> Result<(), Stop> {
         self.add_separator()?;
@@ -183,14 +183,14 @@ impl ValueWriter for ShownWriter {
         ""
     }
 
-    fn begin_array(&mut self, _name: &str) -> Result<Begun, Stop> {
+    fn begin_array(&mut self, _name: &str) -> Result<Mark, Stop> {
         self.add_separator()?;
-        let begun = self.position();
+        let mark = self.position();
         self.add("[", false)?;
-        Ok(begun)
+        Ok(mark)
     }
 
-    fn end_array(&mut self, _begun: Begun) -> Result<(), Stop> {
+    fn end_array(&mut self, _mark: Mark) -> Result<(), Stop> {
         Ok(self.add("]", true)?)
     }
 
@@ -198,15 +198,15 @@ impl ValueWriter for ShownWriter {
         Ok(())
     }
 
-    fn begin(&mut self) -> Result<Begun, Stop> {
+    fn begin(&mut self) -> Result<Mark, Stop> {
         self.add_separator()?;
-        let begun = self.position();
+        let mark = self.position();
         self.add("{", false)?;
-        Ok(begun)
+        Ok(mark)
     }
 
     fn key(&mut self, name: &str) -> Result<(), Stop> {
-        put_comma(self.behind, &mut self.text)?;
+        put_comma(self.needs_comma, &mut self.text)?;
         let Ok(()) = self.starts.push(self.text.len()) else {
             return Err(Stop::OutOfMemory);
         };
@@ -215,23 +215,23 @@ impl ValueWriter for ShownWriter {
         Ok(self.add("\": ", false)?)
     }
 
-    fn end(&mut self, begun: Begun, keys: &mut [&str]) -> Result<(), Stop> {
+    fn end(&mut self, mark: Mark, keys: &mut [&str]) -> Result<(), Stop> {
         match self.arrangement {
-            Arrangement::FirstPlaces => self.end_in_order(begun, keys),
-            Arrangement::Ascending => self.end_sorted(begun, keys),
+            Arrangement::FirstPlaces => self.end_in_order(mark, keys),
+            Arrangement::Ascending => self.end_sorted(mark, keys),
         }
     }
 
     // What is begun is the scope, which is not shown.
-    fn begin_code(&mut self, _name: &str, code: &str) -> Result<Begun, Stop> {
+    fn begin_code(&mut self, _name: &str, code: &str) -> Result<Mark, Stop> {
         self.add_separator()?;
         self.add(code, false)?;
         Ok(self.position())
     }
 
-    fn end_code(&mut self, scope: Begun) -> Result<(), Stop> {
+    fn end_code(&mut self, scope: Mark) -> Result<(), Stop> {
         self.text.truncate(scope.start);
-        self.behind = true;
+        self.needs_comma = true;
         Ok(())
     }
 }

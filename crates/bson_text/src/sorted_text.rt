@@ -29,7 +29,7 @@ pub(crate) struct SortedWriter {
     // Those of the documents that are open, each document's behind those around it.
     pub(crate) starts: Vec<usize>,
     // A value stands before what comes next.
-    pub(crate) behind: bool,
+    pub(crate) needs_comma: bool,
     // So many bytes may be taken to put members in order.
     pub(crate) most: usize,
     ghost utf8: { is_utf8 text.items ≡ true },
@@ -37,7 +37,7 @@ pub(crate) struct SortedWriter {
 
 /// Where the text of what was begun starts, and how many starts there were.
 #[derive(Clone, Copy, Drop)]
-pub(crate) struct Begun {
+pub(crate) struct Mark {
     pub(crate) start: usize,
     pub(crate) held: usize,
 }
@@ -47,25 +47,25 @@ impl SortedWriter {
 
     // Adds the comma that is due.
     fn add_comma(&mut self) -> Result<(), AllocError>
-        ensures { OnOk result (SortedAdded self.old (comma_if self.old.behind) self.old.behind self.new) }
+        ensures { OnOk result (SortedAdded self.old (comma_if self.old.needs_comma) self.old.needs_comma self.new) }
     {
-        put_comma(self.behind, &mut self.text)
+        put_comma(self.needs_comma, &mut self.text)
     }
 
     // Adds a byte of ASCII, behind which a value stands or not.
-    fn add_byte(&mut self, byte: u8, behind: bool) -> Result<(), AllocError>
+    fn add_byte(&mut self, byte: u8, needs_comma: bool) -> Result<(), AllocError>
         requires { byte < 128 }
-        ensures { OnOk result (SortedAdded self.old (byte ∷ []) behind self.new) }
+        ensures { OnOk result (SortedAdded self.old (byte ∷ []) needs_comma self.new) }
     {
         self.text.push(byte)?;
-        self.behind = behind;
+        self.needs_comma = needs_comma;
         Ok(())
     }
 
     // Adds the comma that is due, and begins what stands behind it.
     fn begin_part(&mut self) -> Result<Writer, AllocError>
         ensures empty { IfOk result (λ part. (part.before ≡ []) × (part.tokens ≡ [])) }
-        ensures comma { OnOk result (SortedAdded self.old (comma_if self.old.behind) self.old.behind self.new) }
+        ensures comma { OnOk result (SortedAdded self.old (comma_if self.old.needs_comma) self.old.needs_comma self.new) }
     {
         self.add_comma()?;
         let mut part = replace(&mut self.part, Vec::new(self.alloc));
@@ -74,21 +74,21 @@ impl SortedWriter {
     }
 
     // Adds what was begun, behind which a value stands or not.
-    fn add_part(&mut self, part: Writer, behind: bool) -> Result<(), AllocError>
+    fn add_part(&mut self, part: Writer, needs_comma: bool) -> Result<(), AllocError>
         requires { part.before ≡ [] }
-        ensures { OnOk result (SortedAdded self.old (print part.tokens) behind self.new) }
+        ensures { OnOk result (SortedAdded self.old (print part.tokens) needs_comma self.new) }
     {
         self.part = part.into_inner();
         self.text.extend_from_slice(&self.part)?;
-        self.behind = behind;
+        self.needs_comma = needs_comma;
         Ok(())
     }
 
-    fn position(&self) -> Begun
+    fn position(&self) -> Mark
         ensures start { result.start ≡ length self.now.text.items }
         ensures held { result.held ≡ length self.now.starts.items }
     {
-        Begun {
+        Mark {
             start: self.text.len(),
             held: self.starts.len(),
         }
@@ -96,7 +96,7 @@ impl SortedWriter {
 }
 
 impl ValueWriter for SortedWriter {
-    type Open = Begun;
+    type Open = Mark;
 
     ghost use Rattle.bson_scalar.specs.Tokens.{code_tokens};
     ghost use Rattle.bson_scalar.specs.declared.form.Doubles.TheVariants.{Finite};
@@ -112,13 +112,13 @@ impl ValueWriter for SortedWriter {
 
     ghost framed = { λ old ps new. SortedPairsAdded old ps new };
 
-    ghost listed = { λ old k begun new. SortedNext old (91 ∷ []) false new };
+    ghost listed = { λ old k mark new. SortedNext old (91 ∷ []) false new };
 
-    ghost opened = { λ old begun new. SortedBegun old begun new };
+    ghost opened = { λ old mark new. SortedBegun old mark new };
 
     ghost keyed = { λ old k new. SortedKeyAdded old k new };
 
-    ghost coded = { λ old k s begun new. SortedNext old (print (code_tokens s)) false new };
+    ghost coded = { λ old k s mark new. SortedNext old (print (code_tokens s)) false new };
 
     fn string(&mut self, _name: &str, text: &str) -> Result<(), Stop> {
         let mut part = self.begin_part()?;
@@ -150,14 +150,14 @@ impl ValueWriter for SortedWriter {
         ""
     }
 
-    fn begin_array(&mut self, _name: &str) -> Result<Begun, Stop> {
+    fn begin_array(&mut self, _name: &str) -> Result<Mark, Stop> {
         self.add_comma()?;
-        let begun = self.position();
+        let mark = self.position();
         self.add_byte(b'[', false)?;
-        Ok(begun)
+        Ok(mark)
     }
 
-    fn end_array(&mut self, _begun: Begun) -> Result<(), Stop> {
+    fn end_array(&mut self, _mark: Mark) -> Result<(), Stop> {
         Ok(self.add_byte(b']', true)?)
     }
 
@@ -165,11 +165,11 @@ impl ValueWriter for SortedWriter {
         Ok(())
     }
 
-    fn begin(&mut self) -> Result<Begun, Stop> {
+    fn begin(&mut self) -> Result<Mark, Stop> {
         self.add_comma()?;
-        let begun = self.position();
+        let mark = self.position();
         self.add_byte(b'{', false)?;
-        Ok(begun)
+        Ok(mark)
     }
 
     fn key(&mut self, name: &str) -> Result<(), Stop> {
@@ -181,30 +181,30 @@ impl ValueWriter for SortedWriter {
         Ok(self.add_part(part, false)?)
     }
 
-    fn end(&mut self, begun: Begun, keys: &mut [&str]) -> Result<(), Stop> {
-        let starts = &self.starts[begun.held..];
+    fn end(&mut self, mark: Mark, keys: &mut [&str]) -> Result<(), Stop> {
+        let starts = &self.starts[mark.held..];
         end_object(
             self.alloc,
             keys,
             starts,
-            begun.start,
+            mark.start,
             self.most,
             &mut self.text,
         )?;
-        self.starts.truncate(begun.held);
-        self.behind = true;
+        self.starts.truncate(mark.held);
+        self.needs_comma = true;
         Ok(())
     }
 
-    fn begin_code(&mut self, _name: &str, code: &str) -> Result<Begun, Stop> {
+    fn begin_code(&mut self, _name: &str, code: &str) -> Result<Mark, Stop> {
         let mut part = self.begin_part()?;
-        let begun = self.position();
+        let mark = self.position();
         put_code(code, &mut part)?;
         self.add_part(part, false)?;
-        Ok(begun)
+        Ok(mark)
     }
 
-    fn end_code(&mut self, _begun: Begun) -> Result<(), Stop> {
+    fn end_code(&mut self, _mark: Mark) -> Result<(), Stop> {
         Ok(self.add_byte(b'}', true)?)
     }
 }

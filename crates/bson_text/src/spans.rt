@@ -326,11 +326,11 @@ fn has_next(keys: &[&str], places: &Vec<usize>, at: usize, key: &str) -> bool
 }
 
 // Adds a comma behind another part.
-pub(crate) fn put_comma(behind: bool, text: &mut Vec<u8>) -> Result<(), AllocError>
-    ensures text { OnOk result (text.new.items ≡ text.old.items ++ comma_if behind) }
+pub(crate) fn put_comma(needs_comma: bool, text: &mut Vec<u8>) -> Result<(), AllocError>
+    ensures text { OnOk result (text.new.items ≡ text.old.items ++ comma_if needs_comma) }
     ensures utf8 { is_utf8 text.old.items ≡ true → is_utf8 text.new.items ≡ true }
 {
-    if behind {
+    if needs_comma {
         text.push(b',')?;
     }
     Ok(())

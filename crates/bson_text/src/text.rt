@@ -40,13 +40,13 @@ impl ValueWriter for TextWriter {
 
     ghost framed = { λ old ps new. PairTokensWritten old ps new };
 
-    ghost listed = { λ old k begun new. TokensWritten old (token.begin_array ∷ []) new };
+    ghost listed = { λ old k mark new. TokensWritten old (token.begin_array ∷ []) new };
 
-    ghost opened = { λ old begun new. TokensWritten old (token.begin_object ∷ []) new };
+    ghost opened = { λ old mark new. TokensWritten old (token.begin_object ∷ []) new };
 
     ghost keyed = { λ old k new. TokensWritten old (token.key k ∷ []) new };
 
-    ghost coded = { λ old k s begun new. TokensWritten old (code_tokens s) new };
+    ghost coded = { λ old k s mark new. TokensWritten old (code_tokens s) new };
 
     fn string(&mut self, _name: &str, text: &str) -> Result<(), Stop> {
         Ok(self.out.string(text)?)

@@ -17,7 +17,7 @@ use bson_scalar::scalar::Scalar;
 use bson_scalar::wrapper::{Wrapper, wrapper_named};
 use bson_tokens::MAX_DEPTH;
 use bson_tokens::held::read_held;
-use bson_tree::shape::{CODE, beside_others};
+use bson_tree::shape::{CODE, other_keys_reason};
 use itoa::Buffer;
 use json::{Reader, Scratch, Token};
 use std::alloc::Global;
@@ -219,7 +219,7 @@ impl<'a, W: ValueWriter> Traversal<'a, W> {
         ensures fails { IfErr result (λ e. ItemsStop level.doubles (W.leaves level.doubles) W.sorts e
             (items (value level.depth) (length self.old.reader) self.old.reader) self.new.reader) }
     {
-        let begun = self.out.begin_array(name)?;
+        let mark = self.out.begin_array(name)?;
         let mut place: usize = 0;
         'items: while !self.reader.take_end_array() {
             let mut buffer = Buffer::new();
@@ -230,7 +230,7 @@ impl<'a, W: ValueWriter> Traversal<'a, W> {
             }
             place = place.checked_add(1).ok_or(Stop::OutOfMemory)?;
         }
-        self.out.end_array(begun)
+        self.out.end_array(mark)
     }
 
     // Writes the object whose brace was read.
@@ -281,11 +281,11 @@ impl<'a, W: ValueWriter> Traversal<'a, W> {
             (from_key level.depth (option_map (λ k. k.now) first.entry) self.old.reader) self.new.reader) }
     {
         let held = self.keys.len();
-        let begun = self.out.begin()?;
+        let mark = self.out.begin()?;
         let mut next = first;
         'members: while let Some(key) = next {
             if let Some(wrapper) = misplaced(is_document, key) {
-                return Err(shape_at_value(level, &mut self.reader, beside_others(wrapper)));
+                return Err(shape_at_value(level, &mut self.reader, other_keys_reason(wrapper)));
             }
             let Ok(()) = self.keys.push(key) else {
                 return Err(Stop::OutOfMemory);
@@ -299,7 +299,7 @@ impl<'a, W: ValueWriter> Traversal<'a, W> {
             }
             next = self.reader.next_key()?;
         }
-        self.out.end(begun, &mut self.keys.as_mut_slice()[held..])?;
+        self.out.end(mark, &mut self.keys.as_mut_slice()[held..])?;
         self.keys.truncate(held);
         Ok(())
     }
@@ -328,7 +328,7 @@ impl<'a, W: ValueWriter> Traversal<'a, W> {
             return self.out.scalar(name, value);
         };
         if !is_code_with_scope(key, other) {
-            return Err(shape_at_value(level, &mut self.reader, beside_others(wrapper)));
+            return Err(shape_at_value(level, &mut self.reader, other_keys_reason(wrapper)));
         }
         let Ok(code) = text_of(held) else {
             return Err(shape_at_value(level, &mut self.reader, CODE));
@@ -362,13 +362,13 @@ impl<'a, W: ValueWriter> Traversal<'a, W> {
                 self.out.scalar(name, Scalar::JavaScriptCode(code))
             }
             Scope::Object => {
-                let begun = self.out.begin_code(name, code)?;
+                let mark = self.out.begin_code(name, code)?;
                 match self.write_scope(level) {
                     Ok(()) => {}
                     Err(stop) => return Err(in_scope(level, &mut self.reader, stop)),
                 }
                 end_object(level, &mut self.reader, code, is_reversed)?;
-                self.out.end_code(begun)
+                self.out.end_code(mark)
             }
         }
     }

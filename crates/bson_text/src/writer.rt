@@ -70,14 +70,14 @@ pub trait ValueWriter {
 
     /// Begins an array.
     fn begin_array(&mut self, name: &str) -> Result<Self::Open, Stop>
-        ensures written { IfOk result (λ begun. listed self.old name.now begun self.new) }
+        ensures written { IfOk result (λ mark. listed self.old name.now mark self.new) }
         ensures stops { IfErr result (MayStop leaves) };
 
     /// Ends the array that was begun.
-    fn end_array(&mut self, begun: Self::Open) -> Result<(), Stop>
-        requires { (start : Self) × (mid : Self) × (k : List ℕ) × (vs : Values) × listed start k begun mid
+    fn end_array(&mut self, mark: Self::Open) -> Result<(), Stop>
+        requires { (start : Self) × (mid : Self) × (k : List ℕ) × (vs : Values) × listed start k mark mid
             × ItemsWritten wrote name_of 0 vs mid self.old }
-        ensures written { OnOk result ((start : Self) (mid : Self) (k : List ℕ) (vs : Values) → listed start k begun mid
+        ensures written { OnOk result ((start : Self) (mid : Self) (k : List ℕ) (vs : Values) → listed start k mark mid
             → ItemsWritten wrote name_of 0 vs mid self.old → wrote start k (array vs) self.new) }
         ensures stops { IfErr result (MayStop leaves) };
 
@@ -89,7 +89,7 @@ pub trait ValueWriter {
 
     /// Begins a document.
     fn begin(&mut self) -> Result<Self::Open, Stop>
-        ensures written { IfOk result (λ begun. opened self.old begun self.new) }
+        ensures written { IfOk result (λ mark. opened self.old mark self.new) }
         ensures stops { IfErr result (MayStop leaves) };
 
     /// Writes the next key of a document.
@@ -100,24 +100,24 @@ pub trait ValueWriter {
     /// Ends the document that was begun, with these keys in their order. If a key is duplicated, its
     /// last value wins, at its first position. The keys may be put in another order. A writer may
     /// give up a document whose keys are not in order.
-    fn end(&mut self, begun: Self::Open, keys: &mut [&str]) -> Result<(), Stop>
-        requires { (start : Self) × (mid : Self) × (ps : Pairs) × opened start begun mid
+    fn end(&mut self, mark: Self::Open, keys: &mut [&str]) -> Result<(), Stop>
+        requires { (start : Self) × (mid : Self) × (ps : Pairs) × opened start mark mid
             × PairsWritten wrote keyed ps mid self.old × (keys_of ps ≡ map (λ k. k.now) keys.old) }
-        ensures written { OnOk result ((start : Self) (mid : Self) (ps : Pairs) → opened start begun mid
+        ensures written { OnOk result ((start : Self) (mid : Self) (ps : Pairs) → opened start mark mid
             → PairsWritten wrote keyed ps mid self.old → keys_of ps ≡ map (λ k. k.now) keys.old
             → framed start (once ps) self.new) }
         ensures stops { IfErr result (MayStopAtEnd leaves sorts (map (λ k. k.now) keys.old)) };
 
     /// Begins code with its scope.
     fn begin_code(&mut self, name: &str, code: &str) -> Result<Self::Open, Stop>
-        ensures written { IfOk result (λ begun. coded self.old name.now code.now begun self.new) }
+        ensures written { IfOk result (λ mark. coded self.old name.now code.now mark self.new) }
         ensures stops { IfErr result (MayStop leaves) };
 
     /// Ends the code that was begun.
-    fn end_code(&mut self, begun: Self::Open) -> Result<(), Stop>
-        requires { (start : Self) × (mid : Self) × (k : List ℕ) × (s : List ℕ) × (ps : Pairs) × coded start k s begun mid
+    fn end_code(&mut self, mark: Self::Open) -> Result<(), Stop>
+        requires { (start : Self) × (mid : Self) × (k : List ℕ) × (s : List ℕ) × (ps : Pairs) × coded start k s mark mid
             × framed mid ps self.old }
-        ensures written { OnOk result ((start : Self) (mid : Self) (k : List ℕ) (s : List ℕ) (ps : Pairs) → coded start k s begun mid
+        ensures written { OnOk result ((start : Self) (mid : Self) (k : List ℕ) (s : List ℕ) (ps : Pairs) → coded start k s mark mid
             → framed mid ps self.old → wrote start k (code_scope s ps) self.new) }
         ensures stops { IfErr result (MayStop leaves) };
 }

@@ -11,11 +11,11 @@ use Rattle.serde_json.specs.View.{members_view}
 use Rattle.serde_json.specs.declared.value.Value.{Value}
 use Rattle.serde_json.specs.Find.{as_i64, as_str, as_number}
 use Rattle.bson_scalar.specs.Faults.{Fault, wrong_shape, ◌>>=◌, or_wrong_shape}
-use Rattle.bson_scalar.specs.Reading.{single_in, single_at_in, lone_member, two_members, on_text, on_lone, on_two}
+use Rattle.bson_scalar.specs.Reading.{single_in, single_at_in, single_key_member, two_members, on_text, on_single_key, on_two}
 use Rattle.bson_scalar.specs.Reading.{millis_of, is_one}
 use Rattle.bson_scalar.specs.Reading.{one_read, undefined_read}
 use Rattle.bson_scalar.specs.Scalar.{Scalar, date, min_key, max_key}
-use Rattle.bson_scalar.specs.Shapes.{whole, u32_at, small_number}
+use Rattle.bson_scalar.specs.TreeParts.{whole, u32_at, small_number}
 use Rattle.bson_scalar.specs.declared.wrapper.Wrapper.{Wrapper}
 use Rattle.bson_scalar.specs.declared.wrapper.Wrapper.TheVariants.{Oid, Symbol, RegularExpression, NumberInt}
 use Rattle.bson_scalar.specs.declared.wrapper.Wrapper.TheVariants.{NumberLong, NumberDouble, NumberDecimal, Binary}
@@ -144,7 +144,7 @@ if_some : {A B : Type 0} (f : A → B) (b : Bool) (a : A)
 if_some f true a = refl
 if_some f false a = refl
 
-lone : (a : List ℕ) (n : ℕ) (d : Data) → lone_member a (pruned (suc n) d) ≡ option_map (pruned n) (lone_member a d)
+lone : (a : List ℕ) (n : ℕ) (d : Data) → single_key_member a (pruned (suc n) d) ≡ option_map (pruned n) (single_key_member a d)
 lone a n tree.null = refl
 lone a n (tree.boolean b) = refl
 lone a n (tree.number m) = refl
@@ -188,9 +188,9 @@ text_same : {X : Type 0} (n : ℕ) (d : Data) (f : List ℕ → Result X Fault) 
 text_same n d f = ap (λ o. or_wrong_shape o >>= f) (same_text n d)
 
 lone_then : {X : Type 0} (a : List ℕ) (n : ℕ) (d : Data) (f : List ℕ → Result X Fault)
-    → on_lone a (pruned (suc n) d) (λ t. on_text t f) ≡ on_lone a d (λ t. on_text t f)
+    → on_single_key a (pruned (suc n) d) (λ t. on_text t f) ≡ on_single_key a d (λ t. on_text t f)
 lone_then a n d f = ap (λ o. or_wrong_shape o >>= (λ t. on_text t f)) (lone a n d)
-    ∙ map_then (pruned n) (λ t. on_text t f) (λ t. on_text t f) (lone_member a d) (λ t. text_same n t f)
+    ∙ map_then (pruned n) (λ t. on_text t f) (λ t. on_text t f) (single_key_member a d) (λ t. text_same n t f)
 
 two_then : {X : Type 0} (a b : List ℕ) (n : ℕ) (d : Data) (f : Data → Data → Result X Fault)
     → ((x y : Data) → f (pruned n x) (pruned n y) ≡ f x y) → on_two a b (pruned (suc n) d) f ≡ on_two a b d f

@@ -13,7 +13,7 @@ use Rattle.bson_tree.specs.declared.place.Segment.{Segment}
 use Rattle.bson_tokens.specs.Double.{DuplicateAt, DoubleAmong, DoubleWithin, IsFirstDouble, json_of, segments_of}
 use Rattle.bson_tokens.specs.Double as place
 use Rattle.bson_tokens.specs.Found.{FoundPath, double, double_items, double_members, path_within, or_path, at_key, stands_among}
-use Rattle.bson_tokens.specs.Found.{told}
+use Rattle.bson_tokens.specs.Found.{reported}
 use Rattle.bson_tokens.proofs.Keys.{apart, stands, stands_not}
 
 pub or_or : (u v w : FoundPath) → or_path (or_path u v) w ≡ or_path u (or_path v w)
@@ -133,6 +133,6 @@ mutual
 
 -- what an answer tells
 pub answered : (j : Json) (text : List ℕ) (path : Option (Vec Segment Global)) → json_of text ≡ Some j
-    → told path ≡ double j → IsFirstDouble text path
+    → reported path ≡ double j → IsFirstDouble text path
 answered j text None is e = (j, is, unique j (sym e))
 answered j text (Some path) is e = (j, is, at j (segments_of path) (sym e))

@@ -52,10 +52,10 @@ abbrev mutual
       or_path (at_key (not (stands_among before k)) k (double j)) (double_members (k ∷ before) ms)
 
 -- what an answer tells
-abbrev pub told : Option (Vec Segment Global) → FoundPath
-told path = option_map segments_of path
+abbrev pub reported : Option (Vec Segment Global) → FoundPath
+reported path = option_map segments_of path
 
 -- a value or some were read, of which these tokens are left, and the answer tells their verdict
 abbrev pub Finds : {D : Type 0} → (D → FoundPath) → Option (D × List Token) → Option (Vec Segment Global) → List Token
     → Type 0
-Finds {D} f values path rest = (d : D) × (values ≡ Some (d, rest)) × (told path ≡ f d)
+Finds {D} f values path rest = (d : D) × (values ≡ Some (d, rest)) × (reported path ≡ f d)

@@ -19,19 +19,20 @@ use json::{Error, Reader, Scratch, Token};
 use std::alloc::Global;
 
 /// Returns the compact text of the text's tree with each key once in its object, with its last
-/// value. Keys are in the order of their first places, or in ascending order of bytes.
+/// value. Keys are at their first positions, or in ascending order of bytes.
 ///
-/// Keys are compared after their escapes are read. No tree is made: memory is that of the written
-/// text, and of the keys and places of the members of the open objects.
+/// Keys are compared after their escapes are read. No tree is made: memory is that of the output,
+/// and of the keys and positions of the members of the open objects.
 ///
 /// # Errors
 ///
 /// - `Invalid`: the text is not JSON of at most 127 levels, or has a number out of range.
-/// - `OutOfMemory`: a request for memory was refused.
+/// - `OutOfMemory`: an allocation failed.
 ///
 /// ```
-/// let text = normalize_text(alloc, Arrangement::FirstPlaces, r#"{"b": 1, "a": 2, "b": 3}"#)?;
-/// println!(rt; "{text}")?; // {"b":3,"a":2}
+/// let text = r#"{"b": 1, "a": 2, "b": 3}"#;
+/// let normalized = normalize_text(alloc, Arrangement::FirstPlaces, text)?;
+/// println!(rt; "{normalized}")?; // {"b":3,"a":2}
 /// ```
 pub fn normalize_text(alloc: Global, arrangement: Arrangement, text: &str) -> Result<String, Error>
     ensures ok { IfOk result (λ written. IsNormalizedText arrangement text.now (string_bytes written)) }

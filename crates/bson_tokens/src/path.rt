@@ -1,7 +1,7 @@
 //! The path to a key, as it is found.
 ghost use Rattle.std.specs.Prelude.{◌≡◌, IfOk};
 ghost use Rattle.bson_tree.specs.Place.{segment_of};
-ghost use Rattle.bson_tokens.specs.Found.{told, or_path, path_within, at_key};
+ghost use Rattle.bson_tokens.specs.Found.{reported, or_path, path_within, at_key};
 
 use bson_tree::place::Segment;
 use std::alloc::{AllocError, Global};
@@ -15,7 +15,7 @@ pub(crate) fn or_at(
     found: Option<KeyPath>,
     at: usize,
 ) -> Result<Option<KeyPath>, AllocError>
-    ensures { IfOk result (λ path. told path ≡ or_path (told first) (path_within (segment_of (Segment.Element at)) (told found))) }
+    ensures { IfOk result (λ path. reported path ≡ or_path (reported first) (path_within (segment_of (Segment.Element at)) (reported found))) }
 {
     if first.is_some() {
         return Ok(first);
@@ -32,7 +32,7 @@ pub(crate) fn or_member(
     key: &str,
     found: Option<KeyPath>,
 ) -> Result<Option<KeyPath>, AllocError>
-    ensures { IfOk result (λ path. told path ≡ or_path (told first) (at_key is_new key.now (told found))) }
+    ensures { IfOk result (λ path. reported path ≡ or_path (reported first) (at_key is_new key.now (reported found))) }
 {
     if first.is_some() {
         return Ok(first);
@@ -48,7 +48,7 @@ pub(crate) fn or_member(
 
 // The path behind one more segment.
 fn with_segment(found: Option<KeyPath>, segment: Segment) -> Result<Option<KeyPath>, AllocError>
-    ensures { IfOk result (λ path. told path ≡ path_within (segment_of segment) (told found)) }
+    ensures { IfOk result (λ path. reported path ≡ path_within (segment_of segment) (reported found)) }
 {
     let Some(mut path) = found else {
         return Ok(None);

@@ -23,7 +23,7 @@ use std::collections::BTreeSet;
 /// - `OutOfMemory`: a request for memory was refused.
 ///
 /// ```
-/// if let Some(path) = first_double_key(alloc, r#"{"a": [{"b": 1, "\u0062": 2}]}"#)? {
+/// if let Some(path) = first_duplicate_key(alloc, r#"{"a": [{"b": 1, "\u0062": 2}]}"#)? {
 ///     println!(rt; "{path:?}")?; // [Key("b"), Element(0), Key("a")]
 /// }
 /// ```

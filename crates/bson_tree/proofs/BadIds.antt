@@ -16,11 +16,11 @@ use Rattle.bson_scalar.specs.Faults.{Fault, wrong_shape, wrong_id, ◌>>=◌, or
 use Rattle.bson_scalar.specs.Means.{MeansScalar, IsOidText}
 use Rattle.bson_scalar.specs.Means as means
 use Rattle.bson_scalar.specs.Reading.{single_in, single_at_in, on_text}
-use Rattle.bson_scalar.specs.Reading.{parsed_object_id, id_or, oid_read, pointer_read, two_members, lone_member, on_lone, int_of}
+use Rattle.bson_scalar.specs.Reading.{parsed_object_id, id_or, oid_read, pointer_read, two_members, single_key_member, on_single_key, int_of}
 use Rattle.bson_scalar.specs.Reading.{millis_of, undefined_read, decimal_pattern, bytes_of, byte_of}
 use Rattle.bson_scalar.specs.Scalar.{Scalar}
 use Rattle.bson_scalar.specs.Scalar as kind
-use Rattle.bson_scalar.specs.Shapes.{object_of_one, object_of_two, u32_at}
+use Rattle.bson_scalar.specs.TreeParts.{object_of_one, object_of_two, u32_at}
 use Rattle.bson_scalar.specs.Table.{wrapper_of}
 use Rattle.bson_scalar.specs.declared.wrapper.Wrapper.{Wrapper}
 use Rattle.bson_scalar.specs.declared.wrapper.Wrapper.TheVariants.{Oid, Symbol, RegularExpression, NumberInt}
@@ -60,9 +60,9 @@ bind_no_id (Ok x) g h = λ s e. cc
 bind_no_id (Err wrong_shape) g h = λ s e. cc
 bind_no_id (Err (wrong_id t)) g h = λ s e. h t refl
 
-lone_no_id : (d : Data) → NoId (on_lone (codes "$numberLong") d (λ t. on_text t (λ s. or_wrong_shape (int_of 63 s))))
+lone_no_id : (d : Data) → NoId (on_single_key (codes "$numberLong") d (λ t. on_text t (λ s. or_wrong_shape (int_of 63 s))))
 lone_no_id d =
-    then_no_id (lone_member (codes "$numberLong") d) _ (λ t. then_no_id (as_str t) _ (λ s. some_no_id (int_of 63 s)))
+    then_no_id (single_key_member (codes "$numberLong") d) _ (λ t. then_no_id (as_str t) _ (λ s. some_no_id (int_of 63 s)))
 
 millis_no_id : (d : Data) → NoId (millis_of d)
 millis_no_id tree.null = lone_no_id tree.null
@@ -103,7 +103,7 @@ if_some false x y h = cc
 pub key_is : (k a : List ℕ) → bytes_eq k a ≡ true → k ≡ a
 key_is k a h = (bytes_eq-Decides k a).0 h
 
-lone_is : (a : List ℕ) (d e : Data) → lone_member a d ≡ Some e → d ≡ object_of_one a e
+lone_is : (a : List ℕ) (d e : Data) → single_key_member a d ≡ Some e → d ≡ object_of_one a e
 lone_is a tree.null e h = cc
 lone_is a (tree.boolean b) e h = cc
 lone_is a (tree.number n) e h = cc
@@ -188,7 +188,7 @@ pointer_bad : (d : Data) (s : List ℕ) → pointer_read d ≡ Err (wrong_id s)
 pointer_bad d s h =
     let two = some_bad (two_members (codes "$id") (codes "$ref") d) _ s h in
     let name = some_bad (as_str two.0.1) _ s two.2 in
-    let id = some_bad (lone_member (codes "$oid") two.0.0) _ s name.2 in
+    let id = some_bad (single_key_member (codes "$oid") two.0.0) _ s name.2 in
     let t = some_bad (as_str id.0) _ s id.2 in
     let bad = id_bad t.0 s (kind.db_pointer name.0) _ refl t.2 in
     pointer_at d two.0.0 two.0.1 id.0 name.0 t.0 s (two_are _ _ d two.0 two.1) (lone_is _ two.0.0 id.0 id.1)

@@ -16,7 +16,7 @@ pub const SCOPE: &str = "`$scope` must be an object";
 
 /// Returns the reason for an object that has the wrapper's key, and other keys than the wrapper's
 /// object.
-pub fn beside_others(wrapper: Wrapper) -> &'static str
+pub fn other_keys_reason(wrapper: Wrapper) -> &'static str
     ensures names { result.now ≡ alone_text wrapper }
 {
     match wrapper {

@@ -4,7 +4,7 @@ ghost use Rattle.std.specs.Prelude.{MatchOption, Result, Ok, Err, codes, string_
 ghost use Rattle.serde_json.specs.View.{view, number_view, items_view, members_view};
 ghost use Rattle.serde_json.specs.Data.{number, string, array, object, member, no_members};
 ghost use Rattle.bson_scalar.specs.Table.{has_wrapper};
-ghost use Rattle.bson_scalar.specs.Shapes.{object_of_two};
+ghost use Rattle.bson_scalar.specs.TreeParts.{object_of_two};
 ghost use Rattle.bson_scalar.specs.Faults.{Fault, Fails, wrong_shape};
 ghost use Rattle.bson_scalar.specs.Scalar as kind;
 ghost use Rattle.bson_model.specs.Reading.{reads_in, reads_items_in, reads_members_in};
@@ -15,7 +15,7 @@ ghost use Rattle.bson_tree.specs.Place.{segment_of, path_of};
 
 use crate::builder::{Nothing, ValueBuilder};
 use crate::place::{Place, Reason, Segment};
-use crate::shape::{CODE, SCOPE, beside_others, first_wrapper};
+use crate::shape::{CODE, SCOPE, other_keys_reason, first_wrapper};
 use bson_scalar::code::is_code_with_scope;
 use bson_scalar::doubles::read_number;
 use bson_scalar::error::Error;
@@ -253,19 +253,19 @@ fn read_wrapped<B: ValueBuilder>(
         unreachable!();
     };
     let Some((other, scope)) = members.pop_first() else {
-        return of_lone::<B>(alloc, doubles, key, value);
+        return of_single_key::<B>(alloc, doubles, key, value);
     };
     if !members.is_empty() {
-        return Ok(Err(place_here(alloc, beside_others(wrapper))));
+        return Ok(Err(place_here(alloc, other_keys_reason(wrapper))));
     }
     if !is_code_with_scope(key.as_str(), other.as_str()) {
-        return Ok(Err(place_here(alloc, beside_others(wrapper))));
+        return Ok(Err(place_here(alloc, other_keys_reason(wrapper))));
     }
     read_code::<B>(alloc, doubles, scope, value)
 }
 
 // An object of one wrapper key.
-fn of_lone<B: ValueBuilder>(
+fn of_single_key<B: ValueBuilder>(
     alloc: Global,
     doubles: Doubles,
     key: String,

@@ -26,7 +26,7 @@ pub(crate) fn write_older(
             out.begin_object()?;
             out.end_object()
         }
-        Texts::One(key, text) => write_lone(alloc, key, text, out),
+        Texts::One(key, text) => write_single_key(alloc, key, text, out),
         Texts::Two(key, text, other, more) => write_pair(key, text, other, more, out),
     }
 }
@@ -67,7 +67,7 @@ pub(crate) fn write_held(texts: Texts<'_>, out: &mut Writer) -> Result<(), Alloc
 }
 
 // Writes what the object of this member alone stands for: a date, or itself.
-fn write_lone(alloc: Global, key: &str, text: &str, out: &mut Writer) -> Result<(), AllocError>
+fn write_single_key(alloc: Global, key: &str, text: &str, out: &mut Writer) -> Result<(), AllocError>
     ensures ok { OnOk result (out.new.tokens ≡ out.old.tokens ++ of_value (of_one key.now (string text.now))) }
     ensures before { out.new.before ≡ out.old.before }
 {

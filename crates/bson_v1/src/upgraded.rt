@@ -22,12 +22,12 @@ use bson_tokens::normalize::normalize_text;
 use json::{Error, Reader, Scratch, Token, Writer};
 use std::alloc::Global;
 
-/// Returns the compact JSON text of Extended JSON v2 for which a text of v1 stands.
+/// Returns the compact JSON text of Extended JSON v2 that a text of v1 denotes.
 ///
 /// A text of v2 is its own, with each key once. An object has a shape of v1 if it has exactly the
 /// keys `$binary` and `$type`, or `$regex` and `$options`, in either order, each with a string; or
 /// the key `$date` alone, with a string that ends in an offset of four digits (`+0100`), which gets
-/// its colon. Of a duplicate key the last value counts, at the first position of the key, before
+/// its colon. The last value of a duplicate key wins, at the first position of the key, before
 /// the shape is tested. The object at `$scope` has no shape of v1 in an object that begins with
 /// `$code`, a string, and `$scope`, in either order: a scope's own keys are free. What a scope
 /// contains is rewritten like any value. A binary and a regular expression nest one level deeper
@@ -42,7 +42,7 @@ use std::alloc::Global;
 /// - The other errors: an allocation fails.
 ///
 /// ```
-/// let text = modern_text(alloc, r#"{"$binary": "AQI=", "$type": "00"}"#)?;
+/// let text = upgraded_text(alloc, r#"{"$binary": "AQI=", "$type": "00"}"#)?;
 /// println!(rt; "{text}")?; // {"$binary":{"base64":"AQI=","subType":"00"}}
 /// ```
 pub fn upgraded_text(alloc: Global, text: &str) -> Result<String, Error>

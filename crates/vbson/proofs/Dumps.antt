@@ -3,9 +3,9 @@ use Rattle.std.proofs.Common.{◌≡◌, ◌-◌, inl, inr, ℕ, IsUtf8, List, [
 use Rattle.std.proofs.Common.{take, sym, ap, subst, ◌∙◌}
 use Rattle.std.proofs.lemmas.List.{take_at}
 use Rattle.std.proofs.lemmas.Str.{IsUtf8-append}
-use Rattle.bson_codec.proofs.Offered.{dump_utf8, ends_inside, told_utf8}
+use Rattle.bson_codec.proofs.Offered.{dump_utf8, ends_inside, diagnostic_utf8}
 use Rattle.bson_codec.specs.Documents.{EndsAt, EndsInside, IsOfBytes}
-use Rattle.bson_codec.specs.Told.{told_of}
+use Rattle.bson_codec.specs.Diagnostics.{diagnostic_of}
 use Rattle.bson_codec.specs.declared.documents.Run.{Run}
 use Rattle.bson_codec.specs.declared.run_end.RunFault.{RunFault}
 use Rattle.bson_convert.specs.Convert.{newline}
@@ -21,17 +21,17 @@ wrote had holds output is none = sym (is ∙ ap (λ x. x ++ output) none)
 pub cut_block : (run : Run) (block had output held diagnostics all : List ℕ) (after : Option (List ℕ)) (fault : RunFault)
     (number refused start : ℕ)
     → EndsAt run (Some block) after (Some had) (Some output) (Some held) (Some diagnostics) fault number refused start
-    → had ≡ [] → held ≡ [] → IsOfBytes fault → all ≡ diagnostics ++ told_of number start fault
+    → had ≡ [] → held ≡ [] → IsOfBytes fault → all ≡ diagnostics ++ diagnostic_of number start fault
     → GivesDocuments run block output all number start
 cut_block run block had output held diagnostics all after fault number refused start h none also is said =
-    let (out, tells, inside, written, reported) =
+    let (out, reports, inside, written, reports_appended) =
     ends_inside run block after (Some had) (Some output) (Some held) (Some diagnostics) fault number refused start h is in
     inr (record {
       diagnostics = diagnostics;
       refused = refused;
       fault = fault;
       cut = subst (λ x. EndsInside run block x diagnostics fault number refused start) (wrote had output out written none)
-          (subst (λ x. EndsInside run block out x fault number refused start) (wrote held diagnostics tells reported also) inside);
+          (subst (λ x. EndsInside run block out x fault number refused start) (wrote held diagnostics reports reports_appended also) inside);
       said = said;
     })
 
@@ -41,8 +41,8 @@ pub gives_utf8 : (run : Run) (block output verdicts : List ℕ) (count consumed 
 gives_utf8 run block output verdicts count consumed (inl all) = dump_utf8 all.documents
 gives_utf8 run block output verdicts count consumed (inr it) =
     let before = dump_utf8 it.cut.documents in
-    let told = told_utf8 count consumed it.fault in
-    (before.0, subst IsUtf8 (sym it.said) (IsUtf8-append it.diagnostics _ before.1 told))
+    let reported = diagnostic_utf8 count consumed it.fault in
+    (before.0, subst IsUtf8 (sym it.said) (IsUtf8-append it.diagnostics _ before.1 reported))
 
 -- the text of a line
 pub of_line : (text line : List ℕ) (out : Text) → line ≡ text ++ newline → IsOwnedText (take (length line - 1) line) out

@@ -19,7 +19,7 @@ use Rattle.bson_tree.specs.declared.place.Reason.TheVariants.{BadObjectId, Wrong
 use Rattle.bson_run.specs.Place.{IsExplanation, IsOfNoText}
 use Rattle.bson_run.specs.declared.explain.Explanation.{Explanation}
 use Rattle.bson_run.specs.declared.explain.Explanation.TheVariants as explained
-use Rattle.bson_run.specs.declared.order.Taking.{Taking}
+use Rattle.bson_run.specs.declared.order.Preprocessing.{Preprocessing}
 use Rattle.vbson.proofs.Preprocessed.{meant, not_read, rejected_key}
 use Rattle.vbson.specs.Convert.{options_of_flags, status_for}
 use Rattle.vbson.specs.Explain.{Explains, ExplainsRead, IsError, IsLongPath, IsRejectedFor, IsTooLong, IsUnexplained, ExplainsRejection, code_in}
@@ -33,50 +33,50 @@ pub of_read : (options : CallOptions) (text read : List ℕ) (out : Rejection) �
     → ExplainsRead (options_of_flags options) read out → Explains options text out
 of_read options text read out is (inl h) = inl ((h.0.0, record { read = read; read_as = is; meaning = h.0.1 }), h.1)
 of_read options text read out is (inr h) =
-    inr (record { fault = h.0; read = read; refused = inl (is, h.1); told = h.2; error = h.3 })
+    inr (record { fault = h.0; read = read; refused = inl (is, h.1); reported = h.2; error = h.3 })
 
 pub long_of_read : (options : CallOptions) (text read : List ℕ) (e : PathError) → IsReadAs (preprocessing_of options) text read
     → IsUnexplained e (λ fault. IsRefusedIn (options_of_flags options) fault read) → e ≢ sizes.OutOfMemory → IsTooLong options text
-long_of_read options text read e is h told =
-    let it = h told in record { fault = it.0; read = read; refused = inl (is, it.1); long = it.2 }
+long_of_read options text read e is h reported =
+    let it = h reported in record { fault = it.0; read = read; refused = inl (is, it.1); long = it.2 }
 
 pub refused_first : (options : CallOptions) (fault : Error) (text : List ℕ) (out : Rejection) → IsPreprocessingFault (preprocessing_of options) fault text
     → fault ≢ errors.OutOfMemory → IsError text fault out → Explains options text out
-refused_first options fault text out h told is =
-    inr (record { fault = fault; read = text; refused = inr (refl, h); told = told; error = is })
+refused_first options fault text out h reported is =
+    inr (record { fault = fault; read = text; refused = inr (refl, h); reported = reported; error = is })
 
 pub long_first : (options : CallOptions) (fault : Error) (text : List ℕ) (e : PathError) → IsPreprocessingFault (preprocessing_of options) fault text
     → (e ≢ sizes.OutOfMemory → IsLongPath fault) → e ≢ sizes.OutOfMemory → IsTooLong options text
-long_first options fault text e h long told =
-    record { fault = fault; read = text; refused = inr (refl, h); long = long told }
+long_first options fault text e h long reported =
+    record { fault = fault; read = text; refused = inr (refl, h); long = long reported }
 
 -- ---- the code
 
 of_text : (o : Options) (fault : Error) (bytes : List ℕ) → IsRefusedIn o fault bytes → fault ≢ errors.OutOfMemory
     → IsOfNoText fault → ⊥
-of_text o errors.CannotRead bytes h told none = h
-of_text o errors.NotJson bytes h told none = none
-of_text o (errors.NotExtendedJson place) bytes h told none = none
-of_text o (errors.NoBytes why) bytes h told none = h
-of_text o (errors.NotCanonical column) bytes h told none = h
-of_text o errors.OutOfMemory bytes h told none = told refl
-of_text o errors.CannotWrite bytes h told none = h
+of_text o errors.CannotRead bytes h reported none = h
+of_text o errors.NotJson bytes h reported none = none
+of_text o (errors.NotExtendedJson place) bytes h reported none = none
+of_text o (errors.NoBytes why) bytes h reported none = h
+of_text o (errors.NotCanonical column) bytes h reported none = h
+of_text o errors.OutOfMemory bytes h reported none = reported refl
+of_text o errors.CannotWrite bytes h reported none = h
 
-of_unread : (preprocessing : Option Taking) (fault : Error) (text : List ℕ) → IsPreprocessingFault preprocessing fault text
+of_unread : (preprocessing : Option Preprocessing) (fault : Error) (text : List ℕ) → IsPreprocessingFault preprocessing fault text
     → fault ≢ errors.OutOfMemory → IsOfNoText fault → ⊥
-of_unread None fault text h told none = h
-of_unread (Some taking) errors.CannotRead text h told none = h
-of_unread (Some taking) errors.NotJson text h told none = none
-of_unread (Some taking) (errors.NotExtendedJson place) text h told none = none
-of_unread (Some taking) (errors.NoBytes why) text h told none = h
-of_unread (Some taking) (errors.NotCanonical column) text h told none = h
-of_unread (Some taking) errors.OutOfMemory text h told none = told refl
-of_unread (Some taking) errors.CannotWrite text h told none = h
+of_unread None fault text h reported none = h
+of_unread (Some selected) errors.CannotRead text h reported none = h
+of_unread (Some selected) errors.NotJson text h reported none = none
+of_unread (Some selected) (errors.NotExtendedJson place) text h reported none = none
+of_unread (Some selected) (errors.NoBytes why) text h reported none = h
+of_unread (Some selected) (errors.NotCanonical column) text h reported none = h
+of_unread (Some selected) errors.OutOfMemory text h reported none = reported refl
+of_unread (Some selected) errors.CannotWrite text h reported none = h
 
 of_rejected : (options : CallOptions) (text read : List ℕ) (fault : Error) → IsRejectedFor options text read fault → fault ≢ errors.OutOfMemory
     → IsOfNoText fault → ⊥
-of_rejected options text read fault (inl h) told none = of_text (options_of_flags options) fault read h.1 told none
-of_rejected options text read fault (inr h) told none = of_unread (preprocessing_of options) fault text h.1 told none
+of_rejected options text read fault (inl h) reported none = of_text (options_of_flags options) fault read h.1 reported none
+of_rejected options text read fault (inr h) reported none = of_unread (preprocessing_of options) fault text h.1 reported none
 
 reason_code : (reason : Reason) (n : ℕ) → n ≡ status_for reason → n ≡ 0 → ⊥
 reason_code (BadObjectId e) n is zero = absurd (omega (arith, is, zero))
@@ -84,16 +84,16 @@ reason_code (WrongShape message) n is zero = absurd (omega (arith, is, zero))
 
 some_code : (text : List ℕ) (fault : Error) (it : Explanation) (n : ℕ) → IsExplanation text fault it → (IsOfNoText fault → ⊥)
     → n ≡ code_in it → n ≡ 0 → ⊥
-some_code text fault (explained.Syntax stop) n h told is zero = absurd (omega (arith, is, zero))
-some_code text fault (explained.Value place reason) n h told is zero = reason_code place.now.reason n is zero
-some_code text fault (explained.Difference column) n h told is zero = absurd (omega (arith, is, zero))
-some_code text fault explained.Other n h told is zero = told h
+some_code text fault (explained.Syntax stop) n h reported is zero = absurd (omega (arith, is, zero))
+some_code text fault (explained.Value place reason) n h reported is zero = reason_code place.now.reason n is zero
+some_code text fault (explained.Difference column) n h reported is zero = absurd (omega (arith, is, zero))
+some_code text fault explained.Other n h reported is zero = reported h
 
 -- a text that is refused has a code
 refuses_code : (options : CallOptions) (text : List ℕ) (out : Rejection) → ExplainsRejection options text out → out.code ≡ 0 → ⊥
 refuses_code options text out h zero =
     some_code h.read h.fault h.error.explanation out.code h.error.lies
-    (of_rejected options text h.read h.fault h.refused h.told) h.error.said.code zero
+    (of_rejected options text h.read h.fault h.refused h.reported) h.error.said.code zero
 
 pub accepted_from : (options : CallOptions) (text : List ℕ) (out : Rejection) → Explains options text out → out.code ≡ 0
     → (value : Value) × MeansUnder options text value
@@ -104,32 +104,32 @@ accepted_from options text out (inr h) zero = absurd (refuses_code options text 
 
 not_refused : (o : Options) (fault : Error) (bytes : List ℕ) (value : Value) → HasTextMeaningIn o.doubles bytes value
     → IsRefusedIn o fault bytes → fault ≢ errors.OutOfMemory → ⊥
-not_refused o errors.CannotRead bytes value means h told = h
-not_refused o errors.NotJson bytes value means h told =
+not_refused o errors.CannotRead bytes value means h reported = h
+not_refused o errors.NotJson bytes value means h reported =
     let some : read bytes ≡ Some means.tree = means.text.tree_read in
     let none : read bytes ≡ None = h means.text.utf8 in
     absurd cc
-not_refused o (errors.NotExtendedJson place) bytes value means h told =
+not_refused o (errors.NotExtendedJson place) bytes value means h reported =
     let x : read bytes ≡ Some means.tree = means.text.tree_read in
     let y : read bytes ≡ Some h.0 = h.1.tree_read in
     let trees : means.tree ≡ h.0 = cc in
     h.2.nothing value (subst (λ t. MeansIn o.doubles t value) trees means.meaning.means)
-not_refused o (errors.NoBytes why) bytes value means h told = h
-not_refused o (errors.NotCanonical column) bytes value means h told = h
-not_refused o errors.OutOfMemory bytes value means h told = told refl
-not_refused o errors.CannotWrite bytes value means h told = h
+not_refused o (errors.NoBytes why) bytes value means h reported = h
+not_refused o (errors.NotCanonical column) bytes value means h reported = h
+not_refused o errors.OutOfMemory bytes value means h reported = reported refl
+not_refused o errors.CannotWrite bytes value means h reported = h
 
 not_rejected : ((j : Json) (path : List PathSegment) → DuplicateAt j path → ¬ HasUniqueKeys j) → (options : CallOptions)
     (text read : List ℕ) (fault : Error) (value : Value) → MeansUnder options text value → IsRejectedFor options text read fault
     → fault ≢ errors.OutOfMemory → ⊥
-not_rejected twice options text read fault value means (inl h) told =
-    not_refused (options_of_flags options) fault read value (meant options text read value h.0 means) h.1 told
-not_rejected twice options text read fault value means (inr h) told =
-    not_read twice (preprocessing_of options) text means.read (rejected_key (preprocessing_of options) fault text h.1 told)
+not_rejected twice options text read fault value means (inl h) reported =
+    not_refused (options_of_flags options) fault read value (meant options text read value h.0 means) h.1 reported
+not_rejected twice options text read fault value means (inr h) reported =
+    not_read twice (preprocessing_of options) text means.read (rejected_key (preprocessing_of options) fault text h.1 reported)
     means.read_as
 
 pub accepts_from : ((j : Json) (path : List PathSegment) → DuplicateAt j path → ¬ HasUniqueKeys j) → (options : CallOptions)
     (text : List ℕ) (out : Rejection) (value : Value) → MeansUnder options text value → Explains options text out → out.code ≡ 0
 accepts_from twice options text out value means (inl h) = h.1.code
 accepts_from twice options text out value means (inr h) =
-    absurd (not_rejected twice options text h.read h.fault value means h.refused h.told)
+    absurd (not_rejected twice options text h.read h.fault value means h.refused h.reported)

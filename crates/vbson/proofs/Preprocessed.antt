@@ -17,7 +17,7 @@ use Rattle.bson_convert.specs.declared.error.Error.{Error}
 use Rattle.bson_convert.specs.declared.error.Error.TheVariants.{CannotRead, NotJson, NotExtendedJson, NoBytes, OutOfMemory}
 use Rattle.bson_convert.specs.declared.error.Error.TheVariants.{CannotWrite, NotCanonical}
 use Rattle.bson_run.proofs.Offered.{not_taken, one_taken}
-use Rattle.bson_run.specs.declared.order.Taking.{Taking}
+use Rattle.bson_run.specs.declared.order.Preprocessing.{Preprocessing}
 use Rattle.vbson.proofs.Causes.{causes, reason_status}
 use Rattle.vbson.specs.Convert.{IsTextError, options_of_flags, status_of}
 use Rattle.vbson.specs.Documents.{depth}
@@ -37,10 +37,10 @@ one_meaning D bytes v w a b =
     b.meaning.one v (subst (λ t. MeansIn D t v) trees a.meaning.means)
 
 -- one text is read in the place of a text
-pub one_read : (preprocessing : Option Taking) (text a b : List ℕ) → IsReadAs preprocessing text a
+pub one_read : (preprocessing : Option Preprocessing) (text a b : List ℕ) → IsReadAs preprocessing text a
     → IsReadAs preprocessing text b → a ≡ b
 one_read None text a b x y = x ∙ sym y
-one_read (Some taking) text a b x y = one_taken taking text a b x y
+one_read (Some selected) text a b x y = one_taken selected text a b x y
 
 -- which means one value
 pub meant : (options : CallOptions) (text read : List ℕ) (value : Value) → IsReadAs (preprocessing_of options) text read
@@ -92,21 +92,21 @@ no_memory options text = record {
 }
 
 -- a text that preprocessing rejects is not read
-pub not_read : ((j : Json) (path : List PathSegment) → DuplicateAt j path → ¬ HasUniqueKeys j) → (preprocessing : Option Taking)
+pub not_read : ((j : Json) (path : List PathSegment) → DuplicateAt j path → ¬ HasUniqueKeys j) → (preprocessing : Option Preprocessing)
     (text read : List ℕ) → HasRejectedKey preprocessing text → IsReadAs preprocessing text read → ⊥
 not_read twice None text read h is = h
-not_read twice (Some taking) text read h is = not_taken twice taking h.0 text read h.1 is
+not_read twice (Some selected) text read h is = not_taken twice selected h.0 text read h.1 is
 
-pub rejected_key : (preprocessing : Option Taking) (fault : Error) (text : List ℕ) → IsPreprocessingFault preprocessing fault text
+pub rejected_key : (preprocessing : Option Preprocessing) (fault : Error) (text : List ℕ) → IsPreprocessingFault preprocessing fault text
     → fault ≢ OutOfMemory → HasRejectedKey preprocessing text
 rejected_key None fault text h some = h
-rejected_key (Some taking) CannotRead text h some = absurd h
-rejected_key (Some taking) NotJson text h some = absurd h
-rejected_key (Some taking) (NotExtendedJson place) text h some = (place, h)
-rejected_key (Some taking) (NoBytes why) text h some = absurd h
-rejected_key (Some taking) (NotCanonical column) text h some = absurd h
-rejected_key (Some taking) OutOfMemory text h some = absurd (some refl)
-rejected_key (Some taking) CannotWrite text h some = absurd h
+rejected_key (Some selected) CannotRead text h some = absurd h
+rejected_key (Some selected) NotJson text h some = absurd h
+rejected_key (Some selected) (NotExtendedJson place) text h some = (place, h)
+rejected_key (Some selected) (NoBytes why) text h some = absurd h
+rejected_key (Some selected) (NotCanonical column) text h some = absurd h
+rejected_key (Some selected) OutOfMemory text h some = absurd (some refl)
+rejected_key (Some selected) CannotWrite text h some = absurd h
 
 pub turned_away : ((j : Json) (path : List PathSegment) → DuplicateAt j path → ¬ HasUniqueKeys j) → (options : CallOptions)
     (fault : Error) (text : List ℕ) → IsPreprocessingFault (preprocessing_of options) fault text → fault ≢ OutOfMemory

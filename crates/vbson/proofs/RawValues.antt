@@ -12,7 +12,7 @@ use Rattle.bson_bytes.specs.Raw.{BeginsWithElements}
 use Rattle.bson_bytes.specs.declared.element.RawElement.{RawElement}
 use Rattle.bson_types.specs.Tags.{tag_of}
 use Rattle.bson_types.specs.declared.spec.ElementType.{ElementType}
-use Rattle.vbson.specs.Raw.{IsGot, IsNextElement, IsTyped, IsValueAt, IsValueOf, bit, subtype_and_bytes}
+use Rattle.vbson.specs.Raw.{IsGot, IsNextElement, IsTypedResult, IsValueAt, IsValueOf, bit, subtype_and_bytes}
 use Rattle.vbson.specs.declared.raw.RawValue.{RawValue}
 use Rattle.vbson.specs.declared.raw.Slice.{Slice}
 
@@ -124,14 +124,14 @@ never_binary (code_scope s ps) h = refl
 never_binary (array vs) h = refl
 never_binary (document ps) h = refl
 
-pub typed_none : {A : Type 0} (f : Value → Option A) → IsNever f → (v : Value) → IsNested v → (x : A) → IsTyped (f v) 15 x
-typed_none {A} f never v nested x = subst (λ (o : Option A). IsTyped o 15 x) (sym (never v nested)) refl
+pub typed_none : {A : Type 0} (f : Value → Option A) → IsNever f → (v : Value) → IsNested v → (x : A) → IsTypedResult (f v) 15 x
+typed_none {A} f never v nested x = subst (λ (o : Option A). IsTypedResult o 15 x) (sym (never v nested)) refl
 
-pub typed_other : {A : Type 0} (f : Value → Option A) (w v : Value) → w ≡ v → None ≡ f w → (x : A) → IsTyped (f v) 15 x
-typed_other {A} f w v same is x = subst (λ (o : Option A). IsTyped o 15 x) (is ∙ ap f same) refl
+pub typed_other : {A : Type 0} (f : Value → Option A) (w v : Value) → w ≡ v → None ≡ f w → (x : A) → IsTypedResult (f v) 15 x
+typed_other {A} f w v same is x = subst (λ (o : Option A). IsTypedResult o 15 x) (is ∙ ap f same) refl
 
-pub typed_some : {A : Type 0} (f : Value → Option A) (w v : Value) → w ≡ v → (x y : A) → Some x ≡ f w → y ≡ x → IsTyped (f v) 0 y
-typed_some {A} f w v same x y is e = subst (λ (o : Option A). IsTyped o 0 y) (is ∙ ap f same) (refl, e)
+pub typed_some : {A : Type 0} (f : Value → Option A) (w v : Value) → w ≡ v → (x y : A) → Some x ≡ f w → y ≡ x → IsTypedResult (f v) 0 y
+typed_some {A} f w v same x y is e = subst (λ (o : Option A). IsTypedResult o 0 y) (is ∙ ap f same) (refl, e)
 
 -- a boolean as a number, and the number of a subtype with the bytes
 abbrev pub boolean_bit : Value → Option ℕ

@@ -37,11 +37,11 @@ rejected_next o task (NotCanonical column) held before (line ∷ rest) is h =
     (line, rest, refl, subst (IsBadLineIn o task (NotCanonical column)) h.0 h.1.1)
 
 -- a run that stopped at a rejected line
-stopped : (o : Options) (task : Task) (block : List ℕ) (after had holds told tells : Option (List ℕ)) (fault : Error)
+stopped : (o : Options) (task : Task) (block : List ℕ) (after had holds reported reports : Option (List ℕ)) (fault : Error)
     (number : ℕ) (held : List ℕ) → is_rejection fault ≡ true
-    → EndsAtIn o WritesBoth (IsStoppedAtIn o task Stop fault held) task Stop (Some block) after had holds told tells number
+    → EndsAtIn o WritesBoth (IsStoppedAtIn o task Stop fault held) task Stop (Some block) after had holds reported reports number
     → IsFirstRejected o task block number
-stopped o task block after had holds told tells fault number held is h =
+stopped o task block after had holds reported reports fault number held is h =
     let next = rejected_next o task fault held (length h.done) h.others is h.reason in
     record {
       before = h.done;
@@ -61,18 +61,18 @@ stopped o task block after had holds told tells fault number held is h =
     }
 
 -- a run that fails for a rejected line stopped at it
-pub first : (o : Options) (task : Task) (block : List ℕ) (after had holds told tells : Option (List ℕ)) (fault : Error)
+pub first : (o : Options) (task : Task) (block : List ℕ) (after had holds reported reports : Option (List ℕ)) (fault : Error)
     (number : ℕ) (held : List ℕ) → is_rejection fault ≡ true
-    → FailsAtIn o fault task Stop (Some block) after had holds told tells number held
+    → FailsAtIn o fault task Stop (Some block) after had holds reported reports number held
     → IsFirstRejected o task block number
-first o task block after had holds told tells CannotRead number held is h = absurd cc
-first o task block after had holds told tells CannotWrite number held is h = absurd cc
-first o task block after had holds told tells OutOfMemory number held is h = absurd cc
-first o task block after had holds told tells NotJson number held is h =
-    stopped o task block after had holds told tells NotJson number held is h
-first o task block after had holds told tells (NotExtendedJson place) number held is h =
-    stopped o task block after had holds told tells (NotExtendedJson place) number held is h
-first o task block after had holds told tells (NoBytes why) number held is h =
-    stopped o task block after had holds told tells (NoBytes why) number held is h
-first o task block after had holds told tells (NotCanonical column) number held is h =
-    stopped o task block after had holds told tells (NotCanonical column) number held is h
+first o task block after had holds reported reports CannotRead number held is h = absurd cc
+first o task block after had holds reported reports CannotWrite number held is h = absurd cc
+first o task block after had holds reported reports OutOfMemory number held is h = absurd cc
+first o task block after had holds reported reports NotJson number held is h =
+    stopped o task block after had holds reported reports NotJson number held is h
+first o task block after had holds reported reports (NotExtendedJson place) number held is h =
+    stopped o task block after had holds reported reports (NotExtendedJson place) number held is h
+first o task block after had holds reported reports (NoBytes why) number held is h =
+    stopped o task block after had holds reported reports (NoBytes why) number held is h
+first o task block after had holds reported reports (NotCanonical column) number held is h =
+    stopped o task block after had holds reported reports (NotCanonical column) number held is h

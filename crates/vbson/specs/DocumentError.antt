@@ -7,7 +7,7 @@ use Rattle.bson_bytes.specs.Writing.{document_bytes}
 use Rattle.bson_bytes.specs.declared.fault.FaultKind.{FaultKind}
 use Rattle.bson_codec.specs.Bytes.{reads_bytes_in}
 use Rattle.bson_codec.specs.Errors.{IsPlacedFault}
-use Rattle.bson_codec.specs.Told.{fault_kind_message}
+use Rattle.bson_codec.specs.Diagnostics.{fault_kind_message}
 use Rattle.bson_convert.specs.Convert.{newline}
 use Rattle.bson_model.specs.Normal.{writable_in}
 use Rattle.bson_model.specs.Value.{Pairs, document}

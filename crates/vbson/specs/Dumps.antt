@@ -2,7 +2,7 @@
 use Rattle.std.specs.Prelude.{◌≡◌, ◌⊎◌, ℕ, IsUtf8, List, ◌++◌, Some, length, true}
 use Rattle.bson.specs.declared.extjson.options.Options.{Options}
 use Rattle.bson_codec.specs.Documents.{Dump, EndsInside, IsOfBytes}
-use Rattle.bson_codec.specs.Told.{told_of}
+use Rattle.bson_codec.specs.Diagnostics.{diagnostic_of}
 use Rattle.bson_codec.specs.declared.documents.Line.{Line}
 use Rattle.bson_codec.specs.declared.documents.Line.TheVariants.{Text, TextInOrder, Shown}
 use Rattle.bson_codec.specs.declared.documents.Run.{Run}
@@ -44,7 +44,7 @@ pub record AreCut (run : Run) (block output verdicts : List ℕ) (count consumed
   pub refused : ℕ
   pub fault : RunFault
   pub cut : EndsInside run block output diagnostics fault count refused consumed
-  pub said : verdicts ≡ diagnostics ++ told_of count consumed fault
+  pub said : verdicts ≡ diagnostics ++ diagnostic_of count consumed fault
 
 abbrev pub GivesDocuments : Run → (block output verdicts : List ℕ) → (count consumed : ℕ) → Type 0
 GivesDocuments run block output verdicts count consumed =
@@ -59,7 +59,7 @@ pub record AreDecoded (k : KeyOrder) (o : Options) (number : ℕ) (block : List 
   pub diagnostics : List ℕ
   pub gives : GivesDocuments (run_of k o mode) block text diagnostics out.documents out.consumed
   pub utf8 : IsUtf8 text
-  pub told_utf8 : IsUtf8 diagnostics
+  pub diagnostic_utf8 : IsUtf8 diagnostics
   pub is_text : IsOwnedText text out.text
   pub are_diagnostics : IsOwnedText diagnostics out.diagnostics
 
@@ -67,4 +67,4 @@ pub record AreDecoded (k : KeyOrder) (o : Options) (number : ℕ) (block : List 
 
 -- the verdicts, and that on the last document
 abbrev pub EndsAs : RunEnd → (diagnostics all : List ℕ) → Type 0
-EndsAs end diagnostics all = IsOfBytes end.fault × (all ≡ diagnostics ++ told_of end.number end.start end.fault)
+EndsAs end diagnostics all = IsOfBytes end.fault × (all ≡ diagnostics ++ diagnostic_of end.number end.start end.fault)

@@ -96,7 +96,7 @@ pub record ExplainsRejection (options : CallOptions) (text : List ℕ) (out : Re
   pub fault : Error
   pub read : List ℕ
   pub refused : IsRejectedFor options text read fault
-  pub told : fault ≢ OutOfMemory
+  pub reported : fault ≢ OutOfMemory
   pub error : IsError read fault out
 
 -- the text means a value, and the struct has the code 0 and no words; or it is rejected

@@ -32,9 +32,9 @@ IsNextElement d (pair k v ps) status cursor key value =
     (status ≡ 0) × (key.bytes.now ≡ k) × IsValueAt d v value × BeginsWithElements d cursor.bytes.now ps
 
 -- the value has another type, or this is what it contains
-abbrev pub IsTyped : {A : Type 0} → Option A → ℕ → A → Type 0
-IsTyped None status out = status ≡ 15
-IsTyped (Some x) status out = (status ≡ 0) × (out ≡ x)
+abbrev pub IsTypedResult : {A : Type 0} → Option A → ℕ → A → Type 0
+IsTypedResult None status out = status ≡ 15
+IsTypedResult (Some x) status out = (status ≡ 0) × (out ≡ x)
 
 abbrev pub bit : Bool → ℕ
 bit true = 1

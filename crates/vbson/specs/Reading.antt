@@ -8,9 +8,9 @@ use Rattle.bson_model.specs.Value.{Value, Pairs, document}
 use Rattle.bson_tree.specs.declared.place.Place.{Place}
 use Rattle.bson.specs.declared.extjson.options.Options.{Options}
 use Rattle.bson_convert.specs.declared.error.Error.{Error}
-use Rattle.bson_run.specs.Taken.{IsTakenAs, IsTurnedAway, IsUntaken}
-use Rattle.bson_run.specs.declared.order.Taking.{Taking}
-use Rattle.bson_run.specs.declared.order.Taking.TheVariants.{Distinct, Legacy, DistinctLegacy}
+use Rattle.bson_run.specs.Preprocessed.{IsPreprocessedAs, IsRejectedBefore, IsNotPreprocessed}
+use Rattle.bson_run.specs.declared.order.Preprocessing.{Preprocessing}
+use Rattle.bson_run.specs.declared.order.Preprocessing.TheVariants.{Distinct, Legacy, DistinctLegacy}
 use Rattle.vbson.specs.Convert.{HasNoMeaningIn, IsBad, IsBadId, IsCauseIn, options_of_flags}
 use Rattle.vbson.specs.Documents.{depth}
 use Rattle.vbson.specs.declared.options.CallOptions.{CallOptions}
@@ -18,21 +18,21 @@ use Rattle.vbson.specs.declared.options.CallOptions.{CallOptions}
 -- ---- texts
 
 -- what the options request: that a duplicate key is rejected, and that Extended JSON v1 is read too
-abbrev pub preprocessing_of : CallOptions → Option Taking
+abbrev pub preprocessing_of : CallOptions → Option Preprocessing
 preprocessing_of options =
     if options.duplicate_keys == 1
     then (if options.v1 == 1 then Some DistinctLegacy else Some Distinct)
     else (if options.v1 == 1 then Some Legacy else None)
 
 -- preprocessing accepts the text, and these bytes are read in its place
-abbrev pub IsReadAs : Option Taking → (text read : List ℕ) → Type 0
+abbrev pub IsReadAs : Option Preprocessing → (text read : List ℕ) → Type 0
 IsReadAs None text read = read ≡ text
-IsReadAs (Some preprocessing) text read = IsTakenAs preprocessing text read
+IsReadAs (Some preprocessing) text read = IsPreprocessedAs preprocessing text read
 
 -- preprocessing rejects the text
-abbrev pub HasRejectedKey : Option Taking → List ℕ → Type 0
+abbrev pub HasRejectedKey : Option Preprocessing → List ℕ → Type 0
 HasRejectedKey None text = ⊥
-HasRejectedKey (Some preprocessing) text = (place : Place) × IsTurnedAway preprocessing place text
+HasRejectedKey (Some preprocessing) text = (place : Place) × IsRejectedBefore preprocessing place text
 
 -- under the options the text means the value
 pub record MeansUnder (options : CallOptions) (text : List ℕ) (value : Value) : Type 0 where
@@ -75,9 +75,9 @@ IsNoDocumentUnder options bytes = (value : Value) → IsDocumentUnder options by
 -- ---- for private clauses
 
 -- what a fault says of a text that preprocessing does not accept
-abbrev pub IsPreprocessingFault : Option Taking → Error → List ℕ → Type 0
+abbrev pub IsPreprocessingFault : Option Preprocessing → Error → List ℕ → Type 0
 IsPreprocessingFault None fault text = ⊥
-IsPreprocessingFault (Some preprocessing) fault text = IsUntaken preprocessing fault text
+IsPreprocessingFault (Some preprocessing) fault text = IsNotPreprocessed preprocessing fault text
 
 -- what a status says of bytes that mean nothing, with no preprocessing
 pub record IsRejectedWith (o : Options) (status : ℕ) (bytes : List ℕ) : Type 0 where

@@ -6,7 +6,7 @@ ghost use Rattle.vbson.specs.Reading.{duplicate_keys_of, preprocessing_of};
 
 use bson::extjson::{Doubles, KeyOrder, Options};
 use bson_codec::de::DuplicateKeys;
-use bson_run::order::Taking;
+use bson_run::order::Preprocessing;
 
 /// Finite doubles are read and written.
 pub const DOUBLES_FINITE: u32 = 1;
@@ -95,15 +95,15 @@ pub fn order_of(options: CallOptions) -> KeyOrder
 }
 
 /// Returns the preprocessing that the options request for a text, if any.
-pub fn preprocessing_of(options: CallOptions) -> Option<Taking>
+pub fn preprocessing_of(options: CallOptions) -> Option<Preprocessing>
     ensures { result ≡ preprocessing_of options }
 {
     let is_distinct = options.duplicate_keys == DUPLICATE_KEYS_REJECT;
     let is_legacy = options.v1 == V1_ACCEPT;
     match (is_distinct, is_legacy) {
-        (true, true) => Some(Taking::DistinctLegacy),
-        (true, false) => Some(Taking::Distinct),
-        (false, true) => Some(Taking::Legacy),
+        (true, true) => Some(Preprocessing::DistinctLegacy),
+        (true, false) => Some(Preprocessing::Distinct),
+        (false, true) => Some(Preprocessing::Legacy),
         (false, false) => None,
     }
 }

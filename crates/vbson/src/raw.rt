@@ -6,7 +6,7 @@ ghost use Rattle.bson_bytes.specs.Held.{binary_of, boolean_value, date_value, do
 ghost use Rattle.bson_bytes.specs.Nested.{IsNested};
 ghost use Rattle.bson_bytes.specs.Raw.{BeginsWithDocument, BeginsWithElements};
 ghost use Rattle.bson_bytes.specs.View.{raw_view};
-ghost use Rattle.vbson.specs.Raw.{IsGot, IsNextElement, IsTyped, IsValueAt, IsValueOf, bit, subtype_and_bytes};
+ghost use Rattle.vbson.specs.Raw.{IsGot, IsNextElement, IsTypedResult, IsValueAt, IsValueOf, bit, subtype_and_bytes};
 
 use crate::status;
 use bson_bytes::RawBsonRef;
@@ -95,7 +95,7 @@ pub extern "C" fn vbson_raw_next<'a>(
 /// Reads the integer of an Int32.
 #[unsafe(no_mangle)]
 pub extern "C" fn vbson_raw_int32(value: &RawValue<'_>, out: &mut i32) -> u32
-    ensures typed { (d : ℕ) (v : Value) → IsValueAt d v value.now → IsTyped (int32_value v) result out.new }
+    ensures typed { (d : ℕ) (v : Value) → IsValueAt d v value.now → IsTypedResult (int32_value v) result out.new }
     ensures listed { (result ≡ 0) ⊎ (result ≡ 15) }
     ensures kept { 0 < result → out.new ≡ out.old }
 {
@@ -114,7 +114,7 @@ pub extern "C" fn vbson_raw_int32(value: &RawValue<'_>, out: &mut i32) -> u32
 /// Reads the integer of an Int64.
 #[unsafe(no_mangle)]
 pub extern "C" fn vbson_raw_int64(value: &RawValue<'_>, out: &mut i64) -> u32
-    ensures typed { (d : ℕ) (v : Value) → IsValueAt d v value.now → IsTyped (int64_value v) result out.new }
+    ensures typed { (d : ℕ) (v : Value) → IsValueAt d v value.now → IsTypedResult (int64_value v) result out.new }
     ensures listed { (result ≡ 0) ⊎ (result ≡ 15) }
     ensures kept { 0 < result → out.new ≡ out.old }
 {
@@ -133,7 +133,7 @@ pub extern "C" fn vbson_raw_int64(value: &RawValue<'_>, out: &mut i64) -> u32
 /// Reads the bit pattern of a double.
 #[unsafe(no_mangle)]
 pub extern "C" fn vbson_raw_double(value: &RawValue<'_>, out: &mut u64) -> u32
-    ensures typed { (d : ℕ) (v : Value) → IsValueAt d v value.now → IsTyped (double_value v) result out.new }
+    ensures typed { (d : ℕ) (v : Value) → IsValueAt d v value.now → IsTypedResult (double_value v) result out.new }
     ensures listed { (result ≡ 0) ⊎ (result ≡ 15) }
     ensures kept { 0 < result → out.new ≡ out.old }
 {
@@ -152,7 +152,7 @@ pub extern "C" fn vbson_raw_double(value: &RawValue<'_>, out: &mut u64) -> u32
 /// Reads a boolean, as 0 or 1.
 #[unsafe(no_mangle)]
 pub extern "C" fn vbson_raw_boolean(value: &RawValue<'_>, out: &mut u32) -> u32
-    ensures typed { (d : ℕ) (v : Value) → IsValueAt d v value.now → IsTyped (option_map bit (boolean_value v)) result out.new }
+    ensures typed { (d : ℕ) (v : Value) → IsValueAt d v value.now → IsTypedResult (option_map bit (boolean_value v)) result out.new }
     ensures listed { (result ≡ 0) ⊎ (result ≡ 15) }
     ensures kept { 0 < result → out.new ≡ out.old }
 {
@@ -171,7 +171,7 @@ pub extern "C" fn vbson_raw_boolean(value: &RawValue<'_>, out: &mut u32) -> u32
 /// Reads the bytes of a string.
 #[unsafe(no_mangle)]
 pub extern "C" fn vbson_raw_string<'a>(value: &RawValue<'a>, out: &mut Slice<'a>) -> u32
-    ensures typed { (d : ℕ) (v : Value) → IsValueAt d v value.now → IsTyped (string_value v) result out.new.bytes.now }
+    ensures typed { (d : ℕ) (v : Value) → IsValueAt d v value.now → IsTypedResult (string_value v) result out.new.bytes.now }
     ensures listed { (result ≡ 0) ⊎ (result ≡ 15) }
     ensures kept { 0 < result → out.new ≡ out.old }
 {
@@ -192,7 +192,7 @@ pub extern "C" fn vbson_raw_string<'a>(value: &RawValue<'a>, out: &mut Slice<'a>
 /// Reads the 12 bytes of an object id.
 #[unsafe(no_mangle)]
 pub extern "C" fn vbson_raw_object_id(value: &RawValue<'_>, out: &mut [u8; 12]) -> u32
-    ensures typed { (d : ℕ) (v : Value) → IsValueAt d v value.now → IsTyped (object_id_value v) result out.new }
+    ensures typed { (d : ℕ) (v : Value) → IsValueAt d v value.now → IsTypedResult (object_id_value v) result out.new }
     ensures listed { (result ≡ 0) ⊎ (result ≡ 15) }
     ensures kept { 0 < result → out.new ≡ out.old }
 {
@@ -211,7 +211,7 @@ pub extern "C" fn vbson_raw_object_id(value: &RawValue<'_>, out: &mut [u8; 12]) 
 /// Reads a date-time, in milliseconds since 1970-01-01T00:00:00Z.
 #[unsafe(no_mangle)]
 pub extern "C" fn vbson_raw_date_time(value: &RawValue<'_>, out: &mut i64) -> u32
-    ensures typed { (d : ℕ) (v : Value) → IsValueAt d v value.now → IsTyped (date_value v) result out.new }
+    ensures typed { (d : ℕ) (v : Value) → IsValueAt d v value.now → IsTypedResult (date_value v) result out.new }
     ensures listed { (result ≡ 0) ⊎ (result ≡ 15) }
     ensures kept { 0 < result → out.new ≡ out.old }
 {
@@ -235,7 +235,7 @@ pub extern "C" fn vbson_raw_binary<'a>(
     out: &mut Slice<'a>,
 ) -> u32
     ensures typed { (d : ℕ) (v : Value) → IsValueAt d v value.now
-        → IsTyped (option_map subtype_and_bytes (binary_of v)) result (subtype.new, out.new.bytes.now) }
+        → IsTypedResult (option_map subtype_and_bytes (binary_of v)) result (subtype.new, out.new.bytes.now) }
     ensures listed { (result ≡ 0) ⊎ (result ≡ 15) }
     ensures kept { 0 < result → (subtype.new ≡ subtype.old) × (out.new ≡ out.old) }
 {

@@ -3,7 +3,7 @@ ghost use Rattle.std.specs.Prelude.{◌≡◌, ◌⊎◌, IfOk, IfErr};
 ghost use Rattle.bson.specs.TextMeaning.{HasTextMeaningIn};
 ghost use Rattle.bson.specs.View.{bson_view};
 ghost use Rattle.bson_model.specs.Value.{Value};
-ghost use Rattle.bson_run.specs.Taken.{taken_of};
+ghost use Rattle.bson_run.specs.Preprocessed.{preprocessed_of};
 ghost use Rattle.vbson.specs.Reading.{IsDocumentUnder, IsReadAs, IsPreprocessingFault, IsWithoutValue, IsRejectedWith};
 ghost use Rattle.vbson.specs.Reading.{IsWithoutDocument, MeansUnder};
 
@@ -16,8 +16,8 @@ use bson_codec::de;
 use bson_codec::de::{DEPTH, ReadOptions, from_bytes};
 use bson_convert::convert::error_of;
 use bson_convert::error::Error;
-use bson_run::order::Taking;
-use bson_run::taken::take_as;
+use bson_run::order::Preprocessing;
+use bson_run::preprocessed::preprocess_text;
 use bson_tokens::laws::one_double;
 use std::alloc::Global;
 
@@ -54,14 +54,14 @@ pub fn value_of_text(alloc: Global, options: CallOptions, text: &[u8]) -> Result
 /// - `OutOfMemory`: an allocation failed.
 pub fn preprocess(
     alloc: Global,
-    preprocessing: Option<Taking>,
+    preprocessing: Option<Preprocessing>,
     text: &[u8],
 ) -> Result<Option<String>, Error>
-    ensures ok { IfOk result (λ newer. IsReadAs preprocessing text.now (taken_of text.now newer)) }
+    ensures ok { IfOk result (λ newer. IsReadAs preprocessing text.now (preprocessed_of text.now newer)) }
     ensures rejected { IfErr result (λ fault. IsPreprocessingFault preprocessing fault text.now) }
 {
     match preprocessing {
-        Some(taking) => take_as(alloc, taking, text),
+        Some(selected) => preprocess_text(alloc, selected, text),
         None => Ok(None),
     }
 }

@@ -45,7 +45,7 @@ pub(crate) enum Container {
 
 /// The container around an array, a document or code, and its key there.
 #[derive(Drop)]
-pub(crate) struct Begun {
+pub(crate) struct Enclosing {
     pub(crate) outer: Container,
     pub(crate) key: String,
 }
@@ -91,7 +91,7 @@ fn push_to<T: Drop>(list: &mut Vec<T>, value: T) -> Result<(), Stop>
 }
 
 impl ValueWriter for BsonWriter {
-    type Open = Begun;
+    type Open = Enclosing;
 
     ghost use Rattle.bson.specs.Pushed.{ValuePushed, DocumentPushed, ArrayOpened, DocumentOpened, CodeBegun};
 
@@ -105,13 +105,13 @@ impl ValueWriter for BsonWriter {
 
     ghost framed = { λ old ps new. DocumentPushed old ps new };
 
-    ghost listed = { λ old k begun new. ArrayOpened old k begun new };
+    ghost listed = { λ old k enclosing new. ArrayOpened old k enclosing new };
 
-    ghost opened = { λ old begun new. DocumentOpened old begun new };
+    ghost opened = { λ old enclosing new. DocumentOpened old enclosing new };
 
     ghost keyed = { λ old k new. new ≡ old };
 
-    ghost coded = { λ old k s begun new. CodeBegun old k s begun new };
+    ghost coded = { λ old k s enclosing new. CodeBegun old k s enclosing new };
 
     fn string(&mut self, name: &str, text: &str) -> Result<(), Stop> {
         let text = String::from_str(self.alloc, text)?;
@@ -134,15 +134,15 @@ impl ValueWriter for BsonWriter {
         ""
     }
 
-    fn begin_array(&mut self, name: &str) -> Result<Begun, Stop> {
+    fn begin_array(&mut self, name: &str) -> Result<Enclosing, Stop> {
         let key = self.key_of(name)?;
         let items = Container::Array(Vec::new(self.alloc));
         let outer = replace(&mut self.container, items);
-        Ok(Begun { outer, key })
+        Ok(Enclosing { outer, key })
     }
 
-    fn end_array(&mut self, begun: Begun) -> Result<(), Stop> {
-        let Begun { outer, key } = begun;
+    fn end_array(&mut self, enclosing: Enclosing) -> Result<(), Stop> {
+        let Enclosing { outer, key } = enclosing;
         let Container::Array(mut items) = replace(&mut self.container, outer) else {
             unreachable!()
         };
@@ -155,19 +155,19 @@ impl ValueWriter for BsonWriter {
         Ok(())
     }
 
-    fn begin(&mut self) -> Result<Begun, Stop> {
+    fn begin(&mut self) -> Result<Enclosing, Stop> {
         let key = replace(&mut self.key, String::new(self.alloc));
         let entries = Container::Document(Vec::new(self.alloc));
         let outer = replace(&mut self.container, entries);
-        Ok(Begun { outer, key })
+        Ok(Enclosing { outer, key })
     }
 
     fn key(&mut self, _name: &str) -> Result<(), Stop> {
         Ok(())
     }
 
-    fn end(&mut self, begun: Begun, _keys: &mut [&str]) -> Result<(), Stop> {
-        let Begun { outer, key } = begun;
+    fn end(&mut self, enclosing: Enclosing, _keys: &mut [&str]) -> Result<(), Stop> {
+        let Enclosing { outer, key } = enclosing;
         let Container::Document(entries) = replace(&mut self.container, outer) else {
             unreachable!()
         };
@@ -175,17 +175,17 @@ impl ValueWriter for BsonWriter {
         self.push(key, Bson::Document(document))
     }
 
-    fn begin_code(&mut self, name: &str, code: &str) -> Result<Begun, Stop> {
+    fn begin_code(&mut self, name: &str, code: &str) -> Result<Enclosing, Stop> {
         let key = self.key_of(name)?;
         let items = Container::Array(Vec::new(self.alloc));
         let outer = replace(&mut self.container, items);
         let code = String::from_str(self.alloc, code)?;
         self.push_under("", Bson::JavaScriptCode(code))?;
-        Ok(Begun { outer, key })
+        Ok(Enclosing { outer, key })
     }
 
-    fn end_code(&mut self, begun: Begun) -> Result<(), Stop> {
-        let Begun { outer, key } = begun;
+    fn end_code(&mut self, enclosing: Enclosing) -> Result<(), Stop> {
+        let Enclosing { outer, key } = enclosing;
         let Container::Array(mut items) = replace(&mut self.container, outer) else {
             unreachable!()
         };

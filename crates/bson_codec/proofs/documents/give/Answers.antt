@@ -17,17 +17,17 @@ returns-in_default-clause-fault g c =
 pub returns-then-may_pass-clause-fault : goal.returns-then-may_pass-clause-fault
 returns-then-may_pass-clause-fault g c =
     let had = g.W.Write.contents c.args.writer.now in
-    let told = g.T.Write.contents c.args.report.now in
-    let tells = g.T.Write.contents c.tell.new.report in
+    let reported = g.T.Write.contents c.args.report.now in
+    let reports = g.T.Write.contents c.tell.new.report in
     let bytes = c.args.bytes.now in
     elim c.match-tell.branch [
       | in-Ok-tell w ↦ subst
-          (λ (r : Result ℕ RunFault). IfErr r (λ e. IsUnhandled e c.args.run c.args.number c.args.start bytes had had told tells))
+          (λ (r : Result ℕ RunFault). IfErr r (λ e. IsUnhandled e c.args.run c.args.number c.args.start bytes had had reported reports))
           (sym w.result-is) tt
       | in-Err-tell w ↦ subst
-          (λ (r : Result ℕ RunFault). IfErr r (λ e. IsUnhandled e c.args.run c.args.number c.args.start bytes had had told tells))
+          (λ (r : Result ℕ RunFault). IfErr r (λ e. IsUnhandled e c.args.run c.args.number c.args.start bytes had had reported reports))
           (sym w.result-is)
-          (untold w.in-Err-tell.error c.args.run c.args.number c.args.start bytes c.in-Err.fault had told tells
+          (untold w.in-Err-tell.error c.args.run c.args.number c.args.start bytes c.in-Err.fault had reported reports
           (bad_bytes c.in-Err.fault c.args.run bytes (c.if-may_pass.ensures.0 refl).0 c.in-Err.ensures.fault)
           (c.if-run.true, (c.if-may_pass.ensures.0 refl).1) w.in-Err-tell.ensures.fault)
     ]

@@ -18,16 +18,16 @@ loop-documents-preserved g c =
     let number = c.loop-documents.documents + 1 in
     let before = g.W.Write.contents c.loop-documents.writer in
     let after = g.W.Write.contents c.give.new.writer in
-    let tells = g.T.Write.contents c.loop-documents.report in
+    let reports = g.T.Write.contents c.loop-documents.report in
     let after_tells = g.T.Write.contents c.give.new.report in
-    let given = subst (λ (b : List ℕ). IsHandled c.in-Ok.passed c.args.run number c.loop-documents.start b before after tells after_tells)
+    let given = subst (λ (b : List ℕ). IsHandled c.in-Ok.passed c.args.run number c.loop-documents.start b before after reports after_tells)
     c.as_slice-bytes.ensures.value c.in-Ok.ensures.ok in (
-      omega (arith, c.loop-documents.invariant.0, one_at_most c.in-Ok.passed c.args.run number c.loop-documents.start bytes before after tells after_tells given),
+      omega (arith, c.loop-documents.invariant.0, one_at_most c.in-Ok.passed c.args.run number c.loop-documents.start bytes before after reports after_tells given),
       run_goes_on c.args.run (g.R.Read.remaining c.args.reader.now)
           (g.R.Read.remaining c.loop-documents.reader) (g.R.Read.remaining c.take_document.new.reader)
-          (g.W.Write.contents c.args.writer.now) before after (g.T.Write.contents c.args.report.now) tells after_tells
+          (g.W.Write.contents c.args.writer.now) before after (g.T.Write.contents c.args.report.now) reports after_tells
           c.loop-documents.documents c.loop-documents.refused
-          c.loop-documents.start c.in-Ok.passed c.in-Some.behind bytes c.loop-documents.invariant.1
+          c.loop-documents.start c.in-Ok.passed c.in-Some.following bytes c.loop-documents.invariant.1
           c.in_default.ensures.taken given
           (omega (arith, c.in-Some.ensures, c.len.ensures, c.take_document.new.bytes.ok)),
     )
@@ -51,14 +51,14 @@ returns-in-Err-give-clause-fails g c =
     let number = c.loop-documents.documents + 1 in
     let before = g.W.Write.contents c.loop-documents.writer in
     let after = g.W.Write.contents c.give.new.writer in
-    let tells = g.T.Write.contents c.loop-documents.report in
+    let reports = g.T.Write.contents c.loop-documents.report in
     let after_tells = g.T.Write.contents c.give.new.report in
     run_ends_at c.args.run (g.R.Read.remaining c.args.reader.now) (g.R.Read.remaining c.loop-documents.reader)
     (g.R.Read.remaining c.take_document.new.reader) (g.W.Write.contents c.args.writer.now) before after
-    (g.T.Write.contents c.args.report.now) tells after_tells c.loop-documents.documents c.loop-documents.refused
+    (g.T.Write.contents c.args.report.now) reports after_tells c.loop-documents.documents c.loop-documents.refused
     c.loop-documents.start number c.in-Err-give.fault c.take_document.new.bytes.items c.loop-documents.invariant.1
     c.in_default.ensures.taken refl (some_taken c.take_document.new.bytes.items _ (omega (arith, c.take_document.new.bytes.ok)) c.if-is_empty.ensures) c.in_default.ensures.front
-    (subst (λ (b : List ℕ). IsUnhandled c.in-Err-give.fault c.args.run number c.loop-documents.start b before after tells after_tells)
+    (subst (λ (b : List ℕ). IsUnhandled c.in-Err-give.fault c.args.run number c.loop-documents.start b before after reports after_tells)
     c.as_slice-bytes.ensures.value c.in-Err-give.ensures.fault)
 
 pub returns-in-Err-give-clause-justified : goal.returns-in-Err-give-clause-justified
@@ -66,14 +66,14 @@ returns-in-Err-give-clause-justified g c =
     let number = c.loop-documents.documents + 1 in
     let before = g.W.Write.contents c.loop-documents.writer in
     let after = g.W.Write.contents c.give.new.writer in
-    let tells = g.T.Write.contents c.loop-documents.report in
+    let reports = g.T.Write.contents c.loop-documents.report in
     let after_tells = g.T.Write.contents c.give.new.report in
     justified (run_ends_at c.args.run (g.R.Read.remaining c.args.reader.now) (g.R.Read.remaining c.loop-documents.reader)
     (g.R.Read.remaining c.take_document.new.reader) (g.W.Write.contents c.args.writer.now) before after
-    (g.T.Write.contents c.args.report.now) tells after_tells c.loop-documents.documents c.loop-documents.refused
+    (g.T.Write.contents c.args.report.now) reports after_tells c.loop-documents.documents c.loop-documents.refused
     c.loop-documents.start number c.in-Err-give.fault c.take_document.new.bytes.items c.loop-documents.invariant.1
     c.in_default.ensures.taken refl (some_taken c.take_document.new.bytes.items _ (omega (arith, c.take_document.new.bytes.ok)) c.if-is_empty.ensures) c.in_default.ensures.front
-    (subst (λ (b : List ℕ). IsUnhandled c.in-Err-give.fault c.args.run number c.loop-documents.start b before after tells after_tells)
+    (subst (λ (b : List ℕ). IsUnhandled c.in-Err-give.fault c.args.run number c.loop-documents.start b before after reports after_tells)
     c.as_slice-bytes.ensures.value c.in-Err-give.ensures.fault))
 
 pub returns-clause-fails : goal.returns-clause-fails

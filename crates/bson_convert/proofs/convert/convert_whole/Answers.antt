@@ -15,7 +15,7 @@ returns-clause-ok c =
     let bytes = c.args.bytes.items in
     let text = c.in_ok-text.text.items in
     let is = subst (λ b. IsConvertedText o mode b text) c.deref.ensures.value
-    (c.in_ok-text.ensures.ok c.deref.result.now c.in_ok-tried.ensures.ok) in
+    (c.in_ok-text.ensures.ok c.deref.result.now c.in_ok-attempt.ensures.ok) in
     if_ok c.end_line.result c.end_line.ensures.ok (λ output line. text_converts o mode bytes text output.items is line)
 
 pub returns-clause-again : goal.returns-clause-again
@@ -23,8 +23,8 @@ returns-clause-again c =
     let o = c.args.options in
     let mode = c.args.mode in
     let text = c.in_ok-text.text.items in
-    kept_ok o mode c.deref.result.now text c.end_line.result (c.in_ok-text.ensures.ok c.deref.result.now c.in_ok-tried.ensures.ok)
-    (c.in_ok-text.ensures.utf8 c.in_ok-tried.ensures.utf8) c.end_line.ensures.ok c.end_line.ensures.utf8
+    kept_ok o mode c.deref.result.now text c.end_line.result (c.in_ok-text.ensures.ok c.deref.result.now c.in_ok-attempt.ensures.ok)
+    (c.in_ok-text.ensures.utf8 c.in_ok-attempt.ensures.utf8) c.end_line.ensures.ok c.end_line.ensures.utf8
 
 pub returns-in_err-text-clause-accepts : goal.returns-in_err-text-clause-accepts
 returns-in_err-text-clause-accepts c = λ t v is means.
@@ -33,6 +33,6 @@ returns-in_err-text-clause-accepts c = λ t v is means.
     let bytes = c.args.bytes.items in
     let fault = c.in_err-text.field-0.0 in
     let refused = subst (IsRefusedIn o fault) c.deref.ensures.value
-    (c.in_err-text.ensures.fault c.deref.result.now c.in_ok-tried.ensures.ok) in
+    (c.in_err-text.ensures.fault c.deref.result.now c.in_ok-attempt.ensures.ok) in
     let result : Result (Unit {0}) Error = Err fault in
     rw (p.1, p.2) (accepted o bytes t v is means result refused)

@@ -17,13 +17,13 @@ returns-in-Normalized c =
     let o = c.args.options in
     let normalized = c.as_str.result.now in
     let whole : normalized ≡ string_bytes c.in-Normalized.normalized = grind arith in
-    let tried : (bytes : List ℕ) → IsTried o c.args.mode bytes c.args.tried
+    let attempt : (bytes : List ℕ) → IsTried o c.args.mode bytes c.args.attempt
     → IsUtf8 bytes × (read normalized ≡ read bytes) = λ bytes is.
     let it = subst (IsTried o c.args.mode bytes) c.in-Normalized.is is in
     (it.0, subst (λ s. read s ≡ read bytes) (sym whole) it.1) in
     record {
       ok = λ bytes is. if_ok c.read_normalized.result c.read_normalized.ensures.ok
-          (λ text x. (x.0, meant_alike o bytes normalized (tried bytes is).0 (tried bytes is).1 x.0 x.1, x.2));
+          (λ text x. (x.0, meant_alike o bytes normalized (attempt bytes is).0 (attempt bytes is).1 x.0 x.1, x.2));
       utf8 = λ _. c.read_normalized.ensures.utf8;
       fault = λ bytes is. if_err c.read_normalized.result c.read_normalized.ensures.fault
           (λ f memory. subst (λ e. IsRefusedIn o e bytes) (sym memory) tt);

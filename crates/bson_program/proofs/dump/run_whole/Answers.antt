@@ -15,4 +15,4 @@ returns-in-Err-clause-done g c =
     (writer_buffer c.args.writer.now) (writer_buffer c.flush.new.self) end.fault end.number end.refused end.start
     counts.documents counts.refused c.in-Err.ensures.fails c.requires c.in-Ok.ensures.ok c.in-Ok.ensures.bytes
     c.if-run.true is.0 is.1 is.2 is.3)
-    c.report_end.ensures.reported
+    c.report_end.ensures.reports_appended

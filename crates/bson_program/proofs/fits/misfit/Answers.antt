@@ -1,5 +1,5 @@
 use Rattle.std.proofs.Common.{◌≡◌, rules}
-use Rattle.bson_program.specs.declared.order.Purpose.TheVariants.{Comparison}
+use Rattle.bson_program.specs.declared.invocation.Purpose.TheVariants.{Comparison}
 use Rattle.bson_program.proofs.fits.misfit.Goals as goal
 
 pub returns-then-eq-clause-some : goal.returns-then-eq-clause-some

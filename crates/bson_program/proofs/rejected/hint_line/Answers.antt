@@ -4,8 +4,8 @@ use Rattle.bson_program.proofs.rejected.hint_line.Goals as goal
 
 pub returns : goal.returns
 returns c =
-    subst (λ told. IfOk c.format.result (λ line. string_bytes line
-    ≡ codes "bson: " ++ shown_name c.args.name.now (codes "input") ++ codes " " ++ told)) c.in_ok-told.ensures
+    subst (λ reported. IfOk c.format.result (λ line. string_bytes line
+    ≡ codes "bson: " ++ shown_name c.args.name.now (codes "input") ++ codes " " ++ reported)) c.in_ok-reported.ensures
     (subst (λ name. IfOk c.format.result (λ line. string_bytes line
-    ≡ codes "bson: " ++ name ++ codes " " ++ string_bytes c.in_ok-told.told)) c.in_ok-name.ensures
+    ≡ codes "bson: " ++ name ++ codes " " ++ string_bytes c.in_ok-reported.reported)) c.in_ok-name.ensures
     (simp append_assoc c.format.ensures.ok))

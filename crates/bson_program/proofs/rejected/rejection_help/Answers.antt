@@ -5,7 +5,7 @@ use Rattle.bson_program.proofs.rejected.rejection_help.Goals as goal
 pub returns-in-Ok-hint_line : goal.returns-in-Ok-hint_line
 returns-in-Ok-hint_line c = (
   record {
-    input = c.args.order.now.input;
+    input = c.args.invocation.now.input;
     encodes = c.writes_bytes.result;
     is_standard = c.eq.result;
     has_double = c.args.has_double;

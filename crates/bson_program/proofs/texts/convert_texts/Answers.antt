@@ -6,44 +6,44 @@ use Rattle.bson_program.proofs.texts.convert_texts.Goals as goal
 
 pub returns-in-Err-accept-clause-stops : goal.returns-in-Err-accept-clause-stops
 returns-in-Err-accept-clause-stops g c =
-    let order = c.args.order.now in
+    let invocation = c.args.invocation.now in
     let name = c.args.name.now in
     let content = c.content_of-content.result.now in
     let had = g.W.Write.contents c.args.writer.now in
     let stop = c.stop_at.result in
     let found = c.whole.result in
-    reads_and_stops order stop name content c.in-Ok.bytes.items (g.R.Read.remaining c.args.reader.now)
+    reads_and_stops invocation stop name content c.in-Ok.bytes.items (g.R.Read.remaining c.args.reader.now)
     (g.R.Read.remaining c.read_whole.new.reader) had had c.in-Ok.ensures.all
-    (content_read order name c.content_of-content.result.now c.deref.result.now c.in-Ok.bytes.items
+    (content_read invocation name c.content_of-content.result.now c.deref.result.now c.in-Ok.bytes.items
     c.content_of-content.ensures c.deref.ensures.value)
-    (stops_whole order stop name content had had (λ is. c.has_several.ensures.one c.if-has_several.false (c.stop_at.ensures.same is))
-    (subst (λ t. TextStops order stop name content 0 t had had) c.whole.ensures.text
-    (subst (λ n. TextStops order stop name content n found.text.now had had) c.whole.ensures.start
-    (subst (λ t. TextStops order stop name t found.start found.text.now had had) c.whole.ensures.content
-    (c.stop_at.ensures.stops had (subst (IsUngiven order.options order.task c.in-Err-accept.fault) (sym c.whole.ensures.text)
+    (stops_whole invocation stop name content had had (λ is. c.has_several.ensures.one c.if-has_several.false (c.stop_at.ensures.same is))
+    (subst (λ t. TextStops invocation stop name content 0 t had had) c.whole.ensures.text
+    (subst (λ n. TextStops invocation stop name content n found.text.now had had) c.whole.ensures.start
+    (subst (λ t. TextStops invocation stop name t found.start found.text.now had had) c.whole.ensures.content
+    (c.stop_at.ensures.stops had (subst (IsUngiven invocation.options invocation.task c.in-Err-accept.fault) (sym c.whole.ensures.text)
     c.in-Err-accept.ensures.fault))))))
 
 pub returns-clause-done : goal.returns-clause-done
 returns-clause-done g c =
-    let order = c.args.order.now in
+    let invocation = c.args.invocation.now in
     let name = c.args.name.now in
-    on_ok c.write_accepted.result _ _ (one_text_done order name c.content_of-content.result.now c.in-Ok-accept.accepted
+    on_ok c.write_accepted.result _ _ (one_text_done invocation name c.content_of-content.result.now c.in-Ok-accept.accepted
     (g.W.Write.contents c.args.writer.now) (g.W.Write.contents c.write_accepted.new.writer) c.in-Ok-accept.ensures.ok
     c.in-Ok-accept.ensures.utf8 (g.R.Read.remaining c.args.reader.now) (g.R.Read.remaining c.read_whole.new.reader)
-    c.in-Ok.bytes.items c.in-Ok.ensures.all (content_read order name c.content_of-content.result.now c.deref.result.now c.in-Ok.bytes.items
+    c.in-Ok.bytes.items c.in-Ok.ensures.all (content_read invocation name c.content_of-content.result.now c.deref.result.now c.in-Ok.bytes.items
     c.content_of-content.ensures c.deref.ensures.value))
     c.write_accepted.ensures.done
 
 pub returns-clause-stops : goal.returns-clause-stops
 returns-clause-stops g c =
-    let order = c.args.order.now in
+    let invocation = c.args.invocation.now in
     let name = c.args.name.now in
     let content = c.content_of-content.result.now in
     let had = g.W.Write.contents c.args.writer.now in
     let holds = g.W.Write.contents c.write_accepted.new.writer in
-    if_err c.write_accepted.result _ _ (λ stop h. reads_and_stops order stop name content c.in-Ok.bytes.items
+    if_err c.write_accepted.result _ _ (λ stop h. reads_and_stops invocation stop name content c.in-Ok.bytes.items
     (g.R.Read.remaining c.args.reader.now) (g.R.Read.remaining c.read_whole.new.reader) had holds c.in-Ok.ensures.all
-    (content_read order name c.content_of-content.result.now c.deref.result.now c.in-Ok.bytes.items
+    (content_read invocation name c.content_of-content.result.now c.deref.result.now c.in-Ok.bytes.items
     c.content_of-content.ensures c.deref.ensures.value)
-    (accepted_stops order name content c.in-Ok-accept.accepted had holds c.in-Ok-accept.ensures.ok c.in-Ok-accept.ensures.utf8
+    (accepted_stops invocation name content c.in-Ok-accept.accepted had holds c.in-Ok-accept.ensures.ok c.in-Ok-accept.ensures.utf8
     stop h)) c.write_accepted.ensures.stops

@@ -5,6 +5,6 @@ use Rattle.bson_run.proofs.collected.verdict.Goals as goal
 
 pub returns : goal.returns
 returns c =
-    subst (λ words. IfOk c.format.result (λ told. string_bytes told ≡ codes "bson: line " ++ decimal c.args.number
+    subst (λ words. IfOk c.format.result (λ reported. string_bytes reported ≡ codes "bson: line " ++ decimal c.args.number
     ++ codes ": " ++ words ++ c.args.place.now ++ newline)) c.message-words.ensures.words
     (simp append_assoc c.format.ensures.ok)

@@ -4,7 +4,7 @@ use Rattle.bson_run.proofs.lines.run_on.Given as goal
 abbrev pub invariant-loop : goal.invariant-loop
 invariant-loop g l = record {
   room : CountsFit l.collected;
-  running : Running l.asked.options l.asked.task l.asked.on_refusal (g.R.Read.remaining l.initial.reader)
+  running : Running l.settings.options l.settings.task l.settings.on_refusal (g.R.Read.remaining l.initial.reader)
       (g.R.Read.remaining l.reader) (g.W.Write.contents l.initial.writer) (g.W.Write.contents l.writer)
       (g.T.Write.contents l.initial.report) (g.T.Write.contents l.report) l.collected;
 }

@@ -1,6 +1,6 @@
 use Rattle.std.proofs.Common.{codes, string_bytes}
 use Rattle.serde_json.specs.Data.{string}
-use Rattle.bson_scalar.specs.Shapes.{object_of_two}
+use Rattle.bson_scalar.specs.TreeParts.{object_of_two}
 use Rattle.bson_scalar.proofs.Appending.{if_ok}
 use Rattle.bson_scalar.proofs.binaries.write_texts.Goals as goal
 

@@ -2,7 +2,7 @@ use Rattle.std.proofs.Common.{codes}
 use Rattle.serde_json.specs.Data.{string}
 use Rattle.bson_types.specs.DbPointer.{namespace_of, id_of}
 use Rattle.bson_scalar.specs.Ids.{oid_tree}
-use Rattle.bson_scalar.specs.Shapes.{object_of_two}
+use Rattle.bson_scalar.specs.TreeParts.{object_of_two}
 use Rattle.bson_scalar.proofs.Appending.{if_ok}
 use Rattle.bson_scalar.proofs.ids.write_pointer.Goals as goal
 

@@ -1,7 +1,7 @@
 use Rattle.std.proofs.Common.{rules, ◌≡◌, codes, refl, string_bytes}
 use Rattle.serde_json.specs.Data.{string}
 use Rattle.bson_types.specs.Regex.{sorted_text}
-use Rattle.bson_scalar.specs.Shapes.{object_of_two}
+use Rattle.bson_scalar.specs.TreeParts.{object_of_two}
 use Rattle.bson_scalar.proofs.Appending.{if_ok}
 use Rattle.bson_scalar.proofs.regexes.write_regex.Goals as goal
 

@@ -19,7 +19,7 @@ returns c =
       text = c.in_ok-with_capacity.field-0;
       part = c.new.result;
       starts = c.new-2.result;
-      behind = false;
+      needs_comma = false;
       most = c.memory_allowed.result;
       utf8 = nothing_utf8 _ c.in_ok-with_capacity.ensures.items;
     } in

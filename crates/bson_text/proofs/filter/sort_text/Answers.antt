@@ -23,7 +23,7 @@ returns c =
       text = c.in_ok-with_capacity.field-0;
       part = c.in_ok-with_capacity-2.field-0;
       starts = c.in_ok-with_capacity-3.field-0;
-      behind = false;
+      needs_comma = false;
       most = c.memory_allowed.result;
       utf8 = nothing_utf8 _ c.in_ok-with_capacity.ensures.items;
     } in

@@ -24,7 +24,7 @@ loop-at-preserved c =
     let p = c.span_at-start.result in
     let rest = picked ps (drop (suc at) places) in
     let last = option_map (λ s. s.now) c.loop-at.last in
-    let behind = is_some c.loop-at.last in
+    let needs_comma = is_some c.loop-at.last in
     let within : at < length places = grind arith in
     let long : c.len-in-loop-at.result ≡ length texts = grind arith in
     let span = c.span_at-start.ensures ∙ ap (λ l. span_or (spans_from ks starts l) c.index.result.now) long in
@@ -40,7 +40,7 @@ loop-at-preserved c =
     let text : new ≡ mid ++ span_text texts p = grind arith in
     rw (add-one at)
     record {
-      text = next_joined texts behind p (last_ones rest) (last_ones (picked ps (drop at places))) old mid new kept comma text
+      text = next_joined texts needs_comma p (last_ones rest) (last_ones (picked ps (drop at places))) old mid new kept comma text
           ∙ c.loop-at.invariant.text;
       ascend = λ up. c.loop-at.invariant.ascend
           (next_ascends last p (last_ones rest) (last_ones (picked ps (drop at places))) kept

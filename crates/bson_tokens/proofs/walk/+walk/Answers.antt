@@ -5,7 +5,7 @@ use Rattle.json.specs.Json.{value}
 use Rattle.json.specs.Reads.{token_of}
 use Rattle.json.proofs.Grammar.{after_end_array-shorter, read_key-shorter, value_is}
 use Rattle.bson_tree.specs.Place.{element}
-use Rattle.bson_tokens.specs.Found.{at_key, double, double_items, double_members, or_path, stands_among, told, path_within}
+use Rattle.bson_tokens.specs.Found.{at_key, double, double_items, double_members, or_path, stands_among, reported, path_within}
 use Rattle.bson_tokens.proofs.Keys.{holds_more, holds_none, is_new}
 use Rattle.bson_tokens.proofs.Relations.{or_or, or_none}
 use Rattle.bson_tokens.proofs.Reading.{array_opened, begun, item_passed, items_broken, items_ended, member_broken}
@@ -47,10 +47,10 @@ walk_items-items-preserved t c =
     let front = l.invariant.0 in
     let r = c.walk_value.new.reader in
     let j = c.in_ok-item.ensures.ok in
-    let v = told l.first in
+    let v = reported l.first in
     let w = path_within (element l.at) (double j.0) in
     let going : (after_end_array l.reader ≡ None) × (c.take_end_array.new.self ≡ l.reader) = grind arith in
-    let now : told c.in_ok-first.first ≡ or_path v w =
+    let now : reported c.in_ok-first.first ≡ or_path v w =
     c.in_ok-first.ensures ∙ ap (λ x. or_path v (path_within (element l.at) x)) j.2 in
     let next : l.at + 1 ≡ c.in_ok-at.at = grind arith in (
       λ js. front (item j.0 js),
@@ -58,7 +58,7 @@ walk_items-items-preserved t c =
           going.0 going.1 j.1 c.in_ok-item.ensures.shorter,
       λ js. l.invariant.2 (item j.0 js) ∙ sym (or_or v w (double_items (l.at + 1) js))
           ∙ ap (λ x. or_path x (double_items (l.at + 1) js)) (sym now)
-          ∙ ap (λ n. or_path (told c.in_ok-first.first) (double_items n js)) next,
+          ∙ ap (λ n. or_path (reported c.in_ok-first.first) (double_items n js)) next,
     )
 
 pub walk_items-returns-clause-ok : goal.walk_items-returns-clause-ok
@@ -68,7 +68,7 @@ walk_items-returns-clause-ok t c =
       front no_items,
       items_ended (value c.args.depth) c.args.reader.now front l.reader l.invariant.1 c.take_end_array.new.self
           (grind arith),
-      sym (l.invariant.2 no_items ∙ or_none (told l.first)),
+      sym (l.invariant.2 no_items ∙ or_none (reported l.first)),
     )
 
 pub walk_items-returns-clause-shorter : goal.walk_items-returns-clause-shorter
@@ -91,11 +91,11 @@ walk_members-members-preserved t c =
     let s = c.next_key.new.self in
     let r = c.walk_value.new.reader in
     let j = c.in_ok-member.ensures.ok in
-    let v = told l.first in
+    let v = reported l.first in
     let w = at_key (not (stands_among before k)) k (double j.0) in
     let named : read_key l.reader ≡ Some (Some k, s) = grind arith in
     let new = is_new l.keys key before c.in-Ok.is_new l.invariant.3 c.in-Ok.ensures.added in
-    let now : told c.in_ok-first.first ≡ or_path v w =
+    let now : reported c.in_ok-first.first ≡ or_path v w =
     c.in_ok-first.ensures ∙ ap (λ x. or_path v (at_key c.in-Ok.is_new k x)) j.2
     ∙ ap (λ b. or_path v (at_key b k (double j.0))) new in (
       λ ms. front (member k j.0 ms),
@@ -114,7 +114,7 @@ walk_members-returns-clause-ok t c =
       front no_members,
       members_ended (value c.args.depth) c.args.reader.now front l.reader l.invariant.1 c.next_key.new.self
           (grind arith),
-      sym (l.invariant.4 no_members ∙ or_none (told l.first)),
+      sym (l.invariant.4 no_members ∙ or_none (reported l.first)),
     )
 
 pub walk_members-returns-clause-shorter : goal.walk_members-returns-clause-shorter

@@ -1,7 +1,7 @@
 use Rattle.std.proofs.Common.{◌≡◌, ◌++◌, ◌∙◌, IsUtf8, List, [], ap, codes, subst, sym, ℕ}
 use Rattle.std.proofs.lemmas.Result.{IfOk-weaker}
 use Rattle.std.proofs.lemmas.Str.{IsUtf8-nil}
-use Rattle.bson_codec.specs.Told.{fault_kind_message}
+use Rattle.bson_codec.specs.Diagnostics.{fault_kind_message}
 use Rattle.bson_convert.specs.Convert.{newline}
 use Rattle.vbson.specs.DocumentError.{message_for, reason_for, unwritten, document_error_message}
 use Rattle.vbson.proofs.document_error.message_of.Goals as goal

@@ -8,7 +8,7 @@ use Rattle.vbson.proofs.document_error.unwritten_line.Goals as goal
 pub returns : goal.returns
 returns c =
     let words = unwritten c.args.words.now in
-    let told : string_bytes c.in_ok-line.line ≡ words ++ newline = simp append_assoc c.in_ok-line.ensures.ok in (
-      before_newline words (subst IsUtf8 told (IsUtf8-string_bytes c.in_ok-line.line)),
-      ap (λ v. v.items) c.into_bytes.ensures.value ∙ told,
+    let reported : string_bytes c.in_ok-line.line ≡ words ++ newline = simp append_assoc c.in_ok-line.ensures.ok in (
+      before_newline words (subst IsUtf8 reported (IsUtf8-string_bytes c.in_ok-line.line)),
+      ap (λ v. v.items) c.into_bytes.ensures.value ∙ reported,
     )

@@ -4,7 +4,7 @@ use Rattle.std.specs.Prelude.{string_bytes}
 use Rattle.bson_bytes.specs.declared.error.Error.{Error as PathError}
 use Rattle.bson_bytes.specs.declared.error.Error.TheVariants as sizes
 use Rattle.bson_convert.specs.Convert.{IsRefusedIn}
-use Rattle.bson_run.specs.Taken.{taken_of}
+use Rattle.bson_run.specs.Preprocessed.{preprocessed_of}
 use Rattle.vbson.proofs.Explained.{long_first, long_of_read, of_read, refused_first}
 use Rattle.vbson.specs.Explain.{Explains, ExplainsRead, IsError, IsLongPath, IsTooLong, IsUnexplained}
 use Rattle.vbson.specs.Reading.{IsReadAs, IsPreprocessingFault, preprocessing_of}
@@ -19,10 +19,10 @@ returns-in-Ok-Some-clause-said c =
     let p = c.preprocessing_of.result in
     let field = c.in-Ok-Some.field-0-is in
     let is : c.in-Ok-Some.field-0 ≡ Some c.in-Ok-Some.newer = cc in
-    let given : IsReadAs p text (taken_of text c.in-Ok-Some.field-0) =
-    subst (λ r. IfOk r (λ newer. IsReadAs p text (taken_of text newer))) c.in-Ok-Some.is c.preprocess.ensures.ok in
+    let given : IsReadAs p text (preprocessed_of text c.in-Ok-Some.field-0) =
+    subst (λ r. IfOk r (λ newer. IsReadAs p text (preprocessed_of text newer))) c.in-Ok-Some.is c.preprocess.ensures.ok in
     let newer : IsReadAs p text (string_bytes c.in-Ok-Some.newer) =
-    subst (λ n. IsReadAs p text (taken_of text n)) is given in
+    subst (λ n. IsReadAs p text (preprocessed_of text n)) is given in
     let stands : IsReadAs (preprocessing_of options) text read =
     subst (λ q. IsReadAs q text read) c.preprocessing_of.ensures (subst (IsReadAs p text) (sym c.as_bytes.ensures.value) newer) in
     IfOk-weaker c.explained_read.result (λ (out : Rejection). ExplainsRead c.options_of.result read out)
@@ -38,10 +38,10 @@ returns-in-Ok-Some-clause-long c =
     let p = c.preprocessing_of.result in
     let field = c.in-Ok-Some.field-0-is in
     let is : c.in-Ok-Some.field-0 ≡ Some c.in-Ok-Some.newer = cc in
-    let given : IsReadAs p text (taken_of text c.in-Ok-Some.field-0) =
-    subst (λ r. IfOk r (λ newer. IsReadAs p text (taken_of text newer))) c.in-Ok-Some.is c.preprocess.ensures.ok in
+    let given : IsReadAs p text (preprocessed_of text c.in-Ok-Some.field-0) =
+    subst (λ r. IfOk r (λ newer. IsReadAs p text (preprocessed_of text newer))) c.in-Ok-Some.is c.preprocess.ensures.ok in
     let newer : IsReadAs p text (string_bytes c.in-Ok-Some.newer) =
-    subst (λ n. IsReadAs p text (taken_of text n)) is given in
+    subst (λ n. IsReadAs p text (preprocessed_of text n)) is given in
     let stands : IsReadAs (preprocessing_of options) text read =
     subst (λ q. IsReadAs q text read) c.preprocessing_of.ensures (subst (IsReadAs p text) (sym c.as_bytes.ensures.value) newer) in
     IfErr-weaker c.explained_read.result
@@ -58,9 +58,9 @@ returns-in-Ok-None-clause-said c =
     let p = c.preprocessing_of.result in
     let field = c.in-Ok-None.field-0-is in
     let is : c.in-Ok-None.field-0 ≡ None = cc in
-    let given : IsReadAs p text (taken_of text c.in-Ok-None.field-0) =
-    subst (λ r. IfOk r (λ newer. IsReadAs p text (taken_of text newer))) c.in-Ok-None.is c.preprocess.ensures.ok in
-    let itself : IsReadAs p text text = subst (λ n. IsReadAs p text (taken_of text n)) is given in
+    let given : IsReadAs p text (preprocessed_of text c.in-Ok-None.field-0) =
+    subst (λ r. IfOk r (λ newer. IsReadAs p text (preprocessed_of text newer))) c.in-Ok-None.is c.preprocess.ensures.ok in
+    let itself : IsReadAs p text text = subst (λ n. IsReadAs p text (preprocessed_of text n)) is given in
     let stands : IsReadAs (preprocessing_of options) text text =
     subst (λ q. IsReadAs q text text) c.preprocessing_of.ensures itself in
     IfOk-weaker c.explained_read-in-Ok-None.result (λ (out : Rejection). ExplainsRead c.options_of-in-Ok-None.result text out)
@@ -75,9 +75,9 @@ returns-in-Ok-None-clause-long c =
     let p = c.preprocessing_of.result in
     let field = c.in-Ok-None.field-0-is in
     let is : c.in-Ok-None.field-0 ≡ None = cc in
-    let given : IsReadAs p text (taken_of text c.in-Ok-None.field-0) =
-    subst (λ r. IfOk r (λ newer. IsReadAs p text (taken_of text newer))) c.in-Ok-None.is c.preprocess.ensures.ok in
-    let itself : IsReadAs p text text = subst (λ n. IsReadAs p text (taken_of text n)) is given in
+    let given : IsReadAs p text (preprocessed_of text c.in-Ok-None.field-0) =
+    subst (λ r. IfOk r (λ newer. IsReadAs p text (preprocessed_of text newer))) c.in-Ok-None.is c.preprocess.ensures.ok in
+    let itself : IsReadAs p text text = subst (λ n. IsReadAs p text (preprocessed_of text n)) is given in
     let stands : IsReadAs (preprocessing_of options) text text =
     subst (λ q. IsReadAs q text text) c.preprocessing_of.ensures itself in
     IfErr-weaker c.explained_read-in-Ok-None.result

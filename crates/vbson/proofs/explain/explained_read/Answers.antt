@@ -22,12 +22,12 @@ returns-in-Ok-clause-long c =
     let o = c.args.options in
     let text = c.args.text.now in
     IfErr-weaker c.accepted.result (λ (e : PathError). e ≡ sizes.OutOfMemory)
-    (λ (e : PathError). IsUnexplained e (λ fault. IsRefusedIn o fault text)) (λ e is told. absurd (told is))
+    (λ (e : PathError). IsUnexplained e (λ fault. IsRefusedIn o fault text)) (λ e is reported. absurd (reported is))
     c.accepted.ensures.memory
 
 -- the arm before this one is that of running out of memory
-told : (c : goal.Joined-fault) → c.in-Err.fault ≡ OutOfMemory → ⊥
-told c none = search rules
+reported : (c : goal.Joined-fault) → c.in-Err.fault ≡ OutOfMemory → ⊥
+reported c none = search rules
 
 pub returns-clause-said : goal.returns-clause-said
 returns-clause-said c =
@@ -35,7 +35,7 @@ returns-clause-said c =
     let text = c.args.text.now in
     let fault = c.in-Err.fault in
     IfOk-weaker c.rejected.result (λ (out : Rejection). IsError text fault out) (λ (out : Rejection). ExplainsRead o text out)
-    (λ out is. inr (fault, c.in-Err.ensures.fault, told c, is)) c.rejected.ensures.said
+    (λ out is. inr (fault, c.in-Err.ensures.fault, reported c, is)) c.rejected.ensures.said
 
 pub returns-clause-long : goal.returns-clause-long
 returns-clause-long c =

@@ -1,7 +1,7 @@
 use Rattle.std.proofs.Common.{◌≡◌, None, Some, IfOk, subst, sym}
 use Rattle.std.proofs.lemmas.Result.{IfErr-weaker}
 use Rattle.std.specs.Prelude.{string_bytes}
-use Rattle.bson_run.specs.Taken.{taken_of}
+use Rattle.bson_run.specs.Preprocessed.{preprocessed_of}
 use Rattle.vbson.proofs.Preprocessed.{turned_away, without_value}
 use Rattle.vbson.specs.Reading.{IsReadAs, IsRejectedWith, IsPreprocessingFault, IsWithoutValue, preprocessing_of}
 use Rattle.vbson.proofs.reading.value_of_text.Goals as goal
@@ -14,10 +14,10 @@ returns-in-Ok-Some-clause-rejected c =
     let p = c.preprocessing_of.result in
     let field = c.in-Ok-Some.field-0-is in
     let is : c.in-Ok-Some.field-0 ≡ Some c.in-Ok-Some.newer = cc in
-    let given : IsReadAs p text (taken_of text c.in-Ok-Some.field-0) =
-    subst (λ r. IfOk r (λ newer. IsReadAs p text (taken_of text newer))) c.in-Ok-Some.is c.preprocess.ensures.ok in
+    let given : IsReadAs p text (preprocessed_of text c.in-Ok-Some.field-0) =
+    subst (λ r. IfOk r (λ newer. IsReadAs p text (preprocessed_of text newer))) c.in-Ok-Some.is c.preprocess.ensures.ok in
     let newer : IsReadAs p text (string_bytes c.in-Ok-Some.newer) =
-    subst (λ n. IsReadAs p text (taken_of text n)) is given in
+    subst (λ n. IsReadAs p text (preprocessed_of text n)) is given in
     let stands : IsReadAs (preprocessing_of options) text read =
     subst (λ q. IsReadAs q text read) c.preprocessing_of.ensures (subst (IsReadAs p text) (sym c.as_bytes.ensures.value) newer) in
     IfErr-weaker c.meaning_of.result (λ status. IsRejectedWith c.options_of.result status read)
@@ -32,9 +32,9 @@ returns-in-Ok-None-clause-rejected c =
     let p = c.preprocessing_of.result in
     let field = c.in-Ok-None.field-0-is in
     let is : c.in-Ok-None.field-0 ≡ None = cc in
-    let given : IsReadAs p text (taken_of text c.in-Ok-None.field-0) =
-    subst (λ r. IfOk r (λ newer. IsReadAs p text (taken_of text newer))) c.in-Ok-None.is c.preprocess.ensures.ok in
-    let itself : IsReadAs p text text = subst (λ n. IsReadAs p text (taken_of text n)) is given in
+    let given : IsReadAs p text (preprocessed_of text c.in-Ok-None.field-0) =
+    subst (λ r. IfOk r (λ newer. IsReadAs p text (preprocessed_of text newer))) c.in-Ok-None.is c.preprocess.ensures.ok in
+    let itself : IsReadAs p text text = subst (λ n. IsReadAs p text (preprocessed_of text n)) is given in
     let stands : IsReadAs (preprocessing_of options) text text =
     subst (λ q. IsReadAs q text text) c.preprocessing_of.ensures itself in
     IfErr-weaker c.meaning_of-in-Ok-None.result

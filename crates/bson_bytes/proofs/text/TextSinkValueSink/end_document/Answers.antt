@@ -7,8 +7,8 @@ use Rattle.bson_bytes.proofs.Apart.{all_apart, taken, dropped, within}
 use Rattle.bson_bytes.proofs.Sending.{document_given}
 use Rattle.bson_bytes.proofs.text.TextSinkValueSink.end_document.Goals as goal
 
-pub end_apart-requires : goal.end_apart-requires
-end_apart-requires c =
+pub pop_distinct-requires : goal.pop_distinct-requires
+pop_distinct-requires c =
     let begun = c.requires.2 in
     within c.args.self.now.digests.items c.requires.0.digests.items (map digest (pair_keys c.requires.1)) c.args.list
     begun.3.2 begun.2
@@ -16,12 +16,12 @@ end_apart-requires c =
 pub returns-clause-given : goal.returns-clause-given
 returns-clause-given c = λ start ps begun.
     let now = c.args.self.now in
-    let new : TextSink = record { alloc = now.alloc; form = now.form; out = c.end_object.new.self; digests = c.end_apart.new.numbers } in
+    let new : TextSink = record { alloc = now.alloc; form = now.form; out = c.end_object.new.self; digests = c.pop_distinct.new.key_digests } in
     let at = begun.2 in
     let ds = begun.3.2 in
     let more = map digest (pair_keys ps) in
     let apart = subst (AllPairs (λ a b. a ≢ b)) (dropped now.digests.items start.digests.items more c.args.list ds at)
-    (c.end_apart.ensures.apart (grind arith)) in
+    (c.pop_distinct.ensures.apart (grind arith)) in
     document_given ps start now new c.args.list begun (all_apart more apart) refl c.end_object.ensures.room.0
-    (c.end_apart.ensures.kept ∙ taken now.digests.items start.digests.items more c.args.list ds at)
+    (c.pop_distinct.ensures.kept ∙ taken now.digests.items start.digests.items more c.args.list ds at)
     c.in_ok-end_object.ensures.ok

@@ -18,7 +18,7 @@ returns-clause-written c =
     let new = c.put_end.new.out.items in
     turned c.put_end.result c.map_err.result new (put_end c.args.start now.bytes.items) c.map_err.ensures.variant
     c.put_end.ensures.put c.put_end.ensures.grows
-    (λ ended grows old mid ps begun written keys.
+    (λ ended grows old mid ps mark written keys.
     let apart = subst AreDistinct (sym keys) (c.are_distinct.ensures.0 (grind arith)) in
     subst (λ qs. PutFramed qs old.bytes.items new) (sym (once_is ps apart))
-    (framed_put c.args.start ps old mid now new begun written apart ended grows))
+    (framed_put c.args.start ps old mid now new mark written apart ended grows))

@@ -15,4 +15,4 @@ returns-clause-written c =
     let new = c.put_end.new.out.items in
     turned c.put_end.result c.map_err.result new (put_end c.args.start now.bytes.items) c.map_err.ensures.variant
     c.put_end.ensures.put c.put_end.ensures.grows
-    (λ ended grows old mid k vs begun written. array_put k c.args.start vs old mid now new begun written ended grows)
+    (λ ended grows old mid k vs mark written. array_put k c.args.start vs old mid now new mark written ended grows)

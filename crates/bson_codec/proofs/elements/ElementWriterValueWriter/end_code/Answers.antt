@@ -14,5 +14,5 @@ returns-clause-written c =
     let new = c.put_length.new.out.items in
     turned c.put_length.result c.map_err.result new (put_length c.args.start now.bytes.items) c.map_err.ensures.variant
     c.put_length.ensures.put c.put_length.ensures.grows
-    (λ ended grows old mid k s ps begun framed. code_put k s c.args.start ps old.bytes.items mid.bytes.items
-    now.bytes.items new begun framed ended grows)
+    (λ ended grows old mid k s ps mark framed. code_put k s c.args.start ps old.bytes.items mid.bytes.items
+    now.bytes.items new mark framed ended grows)

@@ -22,7 +22,7 @@ told_exists : goal.returns-clause-exists
 told_exists c =
     let fy : FitsSigned w32 c.args.self.year.value = search rules in
     let date = rw (to_z-of_z fy) at (c.in_ok-day.ensures.exists.0 refl) in
-    (λ ok. (date, omega arith, omega arith, omega arith, omega arith), λ told. refl)
+    (λ ok. (date, omega arith, omega arith, omega arith, omega arith), λ reported. refl)
 
 moment : goal.returns-clause-value
 moment c =

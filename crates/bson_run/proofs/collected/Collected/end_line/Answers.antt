@@ -1,6 +1,6 @@
 use Rattle.std.proofs.Common.{◌≡◌, ℕ, Vec, Global, IfSome, IsUtf8, ◌+◌, ◌++◌, Ok, ap, sym, ◌∙◌, subst}
 use Rattle.bson_run.specs.Lines.{line_text, IsBlank, WritesIn}
-use Rattle.bson_run.specs.LinesSteps.{IsJudged, IsTold}
+use Rattle.bson_run.specs.LinesSteps.{IsJudged, IsReported}
 use Rattle.bson_run.specs.declared.collected.Collected.{Collected}
 use Rattle.bson_run.proofs.LinesLaws.{blank_taken, written_taken, told_taken, judged_bad}
 use Rattle.bson_run.proofs.collected.Collected.end_line.Goals as goal
@@ -15,7 +15,7 @@ returns-clause-ok c =
     elim c.match-judge.branch [
       | in-Ok-None w ↦
           blank_taken self _ c.clear.ensures.items (ap (λ (s : Collected). s.lines + 1) w.self-is)
-          (ap (λ (s : Collected). s.output.items) w.self-is) (ap (λ (s : Collected). s.told.items) w.self-is)
+          (ap (λ (s : Collected). s.output.items) w.self-is) (ap (λ (s : Collected). s.reported.items) w.self-is)
           (ap (λ (s : Collected). s.refused) w.self-is)
           (subst IsBlank text (c.judge.ensures.blank (w.in-Ok-None.is ∙ ap Ok w.in-Ok-None.field-0-is)))
       | in-Ok-Some+in_ok-add-in-Ok-Some w ↦
@@ -24,10 +24,10 @@ returns-clause-ok c =
           (ap (λ (s : Collected). s.lines + 1) w.self-is ∙ ap (λ n. n + 1) added.same.2)
           (ap (λ (s : Collected). s.output.items) w.self-is ∙ added.ok
           ∙ ap (λ (v : Vec ℕ Global). self.output.items ++ v.items) w.in-Ok-Some.output-is)
-          (ap (λ (s : Collected). s.told.items) w.self-is ∙ ap (λ v. v.items) added.same.1)
+          (ap (λ (s : Collected). s.reported.items) w.self-is ∙ ap (λ v. v.items) added.same.1)
           (ap (λ (s : Collected). s.refused) w.self-is ∙ added.same.3)
-          (subst (λ x. WritesIn c.args.asked.options c.args.asked.task x w.in-Ok-Some.output.items) text
-          (subst (λ some. IfSome some (λ output. WritesIn c.args.asked.options c.args.asked.task c.text-line.result.now output.items))
+          (subst (λ x. WritesIn c.args.settings.options c.args.settings.task x w.in-Ok-Some.output.items) text
+          (subst (λ some. IfSome some (λ output. WritesIn c.args.settings.options c.args.settings.task c.text-line.result.now output.items))
           w.in-Ok-Some.field-0-is w.in-Ok-Some.ensures.ok))
           (λ writes. subst (λ some. IfSome some (λ output. IsUtf8 output.items)) w.in-Ok-Some.field-0-is
           (w.in-Ok-Some.ensures.utf8 writes))
@@ -37,7 +37,7 @@ returns-clause-ok c =
           (ap (λ (s : Collected). s.lines + 1) w.self-is ∙ ap (λ n. n + 1) refused.same.2)
           (ap (λ (s : Collected). s.output.items) w.self-is ∙ ap (λ v. v.items) refused.same.1)
           (ap (λ (s : Collected). s.refused) w.self-is ∙ refused.ok.2) refused.ok.1
-          (judged_bad c.args.asked.options c.args.asked.task w.in-Err.fault _ (subst (IsJudged c.args.asked.options c.args.asked.task w.in-Err.fault) text w.in-Err.ensures.fault) refused.ok.0)
-          (subst (IsTold c.args.asked.options c.args.asked.task (self.lines + 1) w.in-Err.fault (line_text self.lines self.line.items) self.told.items)
-          (sym (ap (λ (s : Collected). s.told.items) w.self-is)) (refused.ok.3 c.args.asked.options c.args.asked.task))
+          (judged_bad c.args.settings.options c.args.settings.task w.in-Err.fault _ (subst (IsJudged c.args.settings.options c.args.settings.task w.in-Err.fault) text w.in-Err.ensures.fault) refused.ok.0)
+          (subst (IsReported c.args.settings.options c.args.settings.task (self.lines + 1) w.in-Err.fault (line_text self.lines self.line.items) self.reported.items)
+          (sym (ap (λ (s : Collected). s.reported.items) w.self-is)) (refused.ok.3 c.args.settings.options c.args.settings.task))
     ]

@@ -5,7 +5,7 @@ use Rattle.bson_run.proofs.collected.Collected.take.Given as goal
 abbrev pub invariant-loop-at : goal.invariant-loop-at
 invariant-loop-at l =
     CountsFit l.self × ((taken : List ℕ) × (l.bytes ≡ taken ++ l.rest)
-    × Takes l.asked.options l.asked.task l.asked.on_refusal taken l.fn.self l.self)
+    × Takes l.settings.options l.settings.task l.settings.on_refusal taken l.fn.self l.self)
 
 abbrev pub decreases-loop-at : goal.decreases-loop-at
 decreases-loop-at l = length l.rest

@@ -1,7 +1,7 @@
 use Rattle.std.proofs.Common.{◌≡◌, ◌+◌, string_bytes, ap, ◌∙◌}
 use Rattle.std.proofs.lemmas.Result.{on_ok_weaker}
 use Rattle.std.proofs.lemmas.Str.{IsUtf8-string_bytes}
-use Rattle.bson_run.specs.Lines.{told_at}
+use Rattle.bson_run.specs.Lines.{diagnostic_at}
 use Rattle.bson_run.proofs.Explaining.{added}
 use Rattle.bson_run.proofs.collected.Collected.tell.Goals as goal
 
@@ -9,15 +9,15 @@ pub returns-clause-ok : goal.returns-clause-ok
 returns-clause-ok c =
     let self = c.args.self.now in
     let fault = c.args.fault.now in
-    let told = string_bytes c.in_ok-verdict.verdict in
-    let said : told ≡ told_at (self.lines + 1) fault (string_bytes c.in_ok-place.place) =
-    c.in_ok-verdict.ensures ∙ ap (told_at (self.lines + 1) fault) c.deref.ensures in
+    let reported = string_bytes c.in_ok-verdict.verdict in
+    let said : reported ≡ diagnostic_at (self.lines + 1) fault (string_bytes c.in_ok-place.place) =
+    c.in_ok-verdict.ensures ∙ ap (diagnostic_at (self.lines + 1) fault) c.deref.ensures in
     on_ok_weaker c.extend_from_slice.result
     (λ grown options task. (
-      told,
+      reported,
       (λ bad. (string_bytes c.in_ok-place.place, c.in_ok-place.ensures, said)),
       grown,
       IsUtf8-string_bytes c.in_ok-verdict.verdict,
     ))
-    (added c.extend_from_slice.result self.told.items c.extend_from_slice.new.self.items c.as_bytes.result.now told
+    (added c.extend_from_slice.result self.reported.items c.extend_from_slice.new.self.items c.as_bytes.result.now reported
     c.extend_from_slice.ensures.items c.as_bytes.ensures.value)

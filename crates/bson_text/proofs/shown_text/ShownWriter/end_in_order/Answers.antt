@@ -6,7 +6,7 @@ use Rattle.bson_text.proofs.ShownInOrder.{document_added}
 use Rattle.bson_text.proofs.shown_text.ShownWriter.end_in_order.Goals as goal
 
 pub returns-clause-written : goal.returns-clause-written
-returns-clause-written c = λ start mid ps begun written keys.
+returns-clause-written c = λ start mid ps mark written keys.
     let now = c.args.self.now in
     let new = c.add.new.self in
     let kept : ShownWriter = record {
@@ -15,10 +15,10 @@ returns-clause-written c = λ start mid ps begun written keys.
       text = now.text;
       part = now.part;
       starts = c.truncate.new.self;
-      behind = now.behind;
+      needs_comma = now.needs_comma;
       most = now.most;
       utf8 = now.utf8;
     } in
     let apart = subst AreDistinct (sym keys) (c.are_distinct.ensures.0 (grind arith)) in
-    document_added start mid now kept new c.args.begun ps c.requires.first_places begun written apart refl refl
-    c.truncate.ensures.items (subst (λ s. DisplayAdded kept s true new) c.brace_behind-brace.ensures c.in_ok-add.ensures)
+    document_added start mid now kept new c.args.mark ps c.requires.first_places mark written apart refl refl
+    c.truncate.ensures.items (subst (λ s. DisplayAdded kept s true new) c.closing_brace-brace.ensures c.in_ok-add.ensures)

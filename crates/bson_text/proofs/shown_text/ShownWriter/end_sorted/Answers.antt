@@ -14,60 +14,60 @@ use Rattle.bson_text.proofs.shown_text.ShownWriter.end_sorted.Goals as goal
 
 pub slice_bounds-starts-count : goal.slice_bounds-starts-count
 slice_bounds-starts-count c =
-    let (start, mid, ps, begun, written, named) = c.requires.stands in
-    let d = document_stands start mid c.args.self.now c.args.begun ps c.args.keys.now begun written named c.requires.ascending in
+    let (start, mid, ps, mark, written, named) = c.requires.stands in
+    let d = document_stands start mid c.args.self.now c.args.mark ps c.args.keys.now mark written named c.requires.ascending in
     are_held d c.deref.result.now c.deref.ensures.value
 
 pub slice_bounds-starts-start : goal.slice_bounds-starts-start
 slice_bounds-starts-start c =
-    let (start, mid, ps, begun, written, named) = c.requires.stands in
-    let d = document_stands start mid c.args.self.now c.args.begun ps c.args.keys.now begun written named c.requires.ascending in
+    let (start, mid, ps, mark, written, named) = c.requires.stands in
+    let d = document_stands start mid c.args.self.now c.args.mark ps c.args.keys.now mark written named c.requires.ascending in
     are_held d c.deref.result.now c.deref.ensures.value
 
-pub offset_bounds-deref-begun : goal.offset_bounds-deref-begun
-offset_bounds-deref-begun c =
-    let (start, mid, ps, begun, written, named) = c.requires.stands in
-    let d = document_stands start mid c.args.self.now c.args.begun ps c.args.keys.now begun written named c.requires.ascending in
+pub offset_bounds-deref-mark : goal.offset_bounds-deref-mark
+offset_bounds-deref-mark c =
+    let (start, mid, ps, mark, written, named) = c.requires.stands in
+    let d = document_stands start mid c.args.self.now c.args.mark ps c.args.keys.now mark written named c.requires.ascending in
     let inside = are_held d c.deref.result.now c.deref.ensures.value in
     grind arith
 
 pub end_object-requires-clause-paired : goal.end_object-requires-clause-paired
 end_object-requires-clause-paired c =
-    let (start, mid, ps, begun, written, named) = c.requires.stands in
-    let d = document_stands start mid c.args.self.now c.args.begun ps c.args.keys.now begun written named c.requires.ascending in
+    let (start, mid, ps, mark, written, named) = c.requires.stands in
+    let d = document_stands start mid c.args.self.now c.args.mark ps c.args.keys.now mark written named c.requires.ascending in
     d.paired ∙ ap length (sym (own_starts d c.deref.result.now c.deref.ensures.value))
 
 pub end_object-requires-clause-within : goal.end_object-requires-clause-within
 end_object-requires-clause-within c =
-    let (start, mid, ps, begun, written, named) = c.requires.stands in
-    let d = document_stands start mid c.args.self.now c.args.begun ps c.args.keys.now begun written named c.requires.ascending in
+    let (start, mid, ps, mark, written, named) = c.requires.stands in
+    let d = document_stands start mid c.args.self.now c.args.mark ps c.args.keys.now mark written named c.requires.ascending in
     let texts = c.args.self.now.text.items in
     subst (λ starts. All (IsSpanWithin texts) (spans_from c.args.keys.now starts (length texts)))
     (sym (own_starts d c.deref.result.now c.deref.ensures.value)) (all_within d)
 
 pub end_object-requires-clause-opened : goal.end_object-requires-clause-opened
 end_object-requires-clause-opened c =
-    let (start, mid, ps, begun, written, named) = c.requires.stands in
-    let d = document_stands start mid c.args.self.now c.args.begun ps c.args.keys.now begun written named c.requires.ascending in
+    let (start, mid, ps, mark, written, named) = c.requires.stands in
+    let d = document_stands start mid c.args.self.now c.args.mark ps c.args.keys.now mark written named c.requires.ascending in
     let texts = c.args.self.now.text.items in
-    subst (λ starts. IsOpenObject (take c.args.begun.start texts) texts (spans_from c.args.keys.now starts (length texts)))
+    subst (λ starts. IsOpenObject (take c.args.mark.start texts) texts (spans_from c.args.keys.now starts (length texts)))
     (sym (own_starts d c.deref.result.now c.deref.ensures.value)) (stands_open d)
 
 pub returns-clause-written : goal.returns-clause-written
-returns-clause-written c = λ start mid ps begun written named.
-    let d = document_stands start mid c.args.self.now c.args.begun ps c.args.keys.now begun written named c.requires.ascending in
+returns-clause-written c = λ start mid ps mark written named.
+    let d = document_stands start mid c.args.self.now c.args.mark ps c.args.keys.now mark written named c.requires.ascending in
     let ks = c.args.keys.now in
     let texts = c.args.self.now.text.items in
     let new = c.end_object.new.text.items in
     let qs = sorted_pairs (once ps) in
     let h = has_members d new
-    (subst (λ starts. IsObjectWritten (spans_from ks starts (length texts)) (take c.args.begun.start texts) texts new)
+    (subst (λ starts. IsObjectWritten (spans_from ks starts (length texts)) (take c.args.mark.start texts) texts new)
     (own_starts d c.deref.result.now c.deref.ensures.value) c.in_ok-end_object.ensures.ended) in
     let last = c.put_blank.new.text.items in
-    let ordered = same_order ps mid c.args.self.now written ∙ begun.2.1 in
+    let ordered = same_order ps mid c.args.self.now written ∙ mark.2.1 in
     let ascending : Ascending ≡ start.arrangement = sym c.requires.ascending ∙ ordered in
-    let whole = append_assoc start.text.items (separator_if start.behind) (display_text (document qs))
-    ∙ ap (λ a. start.text.items ++ (separator_if start.behind ++ display_text (document (pairs_shown a (once ps))))) ascending in
+    let whole = append_assoc start.text.items (separator_if start.needs_comma) (display_text (document qs))
+    ∙ ap (λ a. start.text.items ++ (separator_if start.needs_comma ++ display_text (document (pairs_shown a (once ps))))) ascending in
     let many : length (keys_of ps) ≡ length ks = ap length named ∙ length-map ks (λ k. k.now) in
     let none : c.is_empty.result ≡ (length (keys_of ps) == 0) = c.is_empty.ensures ∙ ap (λ n. n == 0) (sym many) in (
       refl,

@@ -6,8 +6,8 @@ use Rattle.bson_text.proofs.Sending.{document_sent, with_out}
 use Rattle.bson_text.proofs.text.TextWriterValueWriter.end.Goals as goal
 
 pub returns-clause-written : goal.returns-clause-written
-returns-clause-written c = λ start mid ps begun written keys.
+returns-clause-written c = λ start mid ps mark written keys.
     let apart = subst AreDistinct (sym keys) (c.are_distinct.ensures.0 (grind arith)) in
     let new = with_out c.args.self.now c.end_object.new.self in
-    subst (λ qs. PairTokensWritten start qs new) (sym (once_is ps apart)) (document_sent ps start mid c.args.self.now new begun written
+    subst (λ qs. PairTokensWritten start qs new) (sym (once_is ps apart)) (document_sent ps start mid c.args.self.now new mark written
     (refl, refl, c.end_object.ensures.room.0, c.in_ok-end_object.ensures.ok))

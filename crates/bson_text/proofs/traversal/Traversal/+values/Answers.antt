@@ -34,8 +34,8 @@ use Rattle.bson_text.proofs.Objects.{own_keys}
 pub write_array-items-init : goal.write_array-items-init
 write_array-items-init g t c =
     let W = g.W.ValueWriter in
-    let begun = items_begun _ W.wrote W.name_of _ c.begin_array.new.self in
-    (omega arith, refl, length c.args.self.now.reader, omega arith, begun, items_from c.args.level.doubles _, items_still c.args.level.doubles (g.W.ValueWriter.leaves c.args.level.doubles) g.W.ValueWriter.sorts _)
+    let mark = items_begun _ W.wrote W.name_of _ c.begin_array.new.self in
+    (omega arith, refl, length c.args.self.now.reader, omega arith, mark, items_from c.args.level.doubles _, items_still c.args.level.doubles (g.W.ValueWriter.leaves c.args.level.doubles) g.W.ValueWriter.sorts _)
 
 pub write_array-items-preserved : goal.write_array-items-preserved
 write_array-items-preserved g t c =
@@ -67,21 +67,21 @@ pub write_array-end_array-requires : goal.write_array-end_array-requires
 write_array-end_array-requires g t c =
     let l = c.items in
     let W = g.W.ValueWriter in
-    let begun = c.begin_array.new.self in
+    let mark = c.begin_array.new.self in
     let closed : after_end_array l.self.reader ≡ Some c.take_end_array.new.self = grind arith in
-    let all = items_passed _ W.wrote W.name_of _ _ _ l.place _ _ begun l.self.out
-    (λ vs. ItemsWritten W.wrote W.name_of 0 vs begun l.self.out) l.invariant.3 closed l.invariant.4 (λ vs written. written) in
-    (c.args.self.now.out, begun, c.args.name.now, all.1, c.in_ok-begun.ensures.written, all.4)
+    let all = items_passed _ W.wrote W.name_of _ _ _ l.place _ _ mark l.self.out
+    (λ vs. ItemsWritten W.wrote W.name_of 0 vs mark l.self.out) l.invariant.3 closed l.invariant.4 (λ vs written. written) in
+    (c.args.self.now.out, mark, c.args.name.now, all.1, c.in_ok-mark.ensures.written, all.4)
 
 pub write_array-returns-clause-ok : goal.write_array-returns-clause-ok
 write_array-returns-clause-ok g t c =
     let l = c.items in
     let W = g.W.ValueWriter in
-    let begun = c.begin_array.new.self in
+    let mark = c.begin_array.new.self in
     let closed : after_end_array l.self.reader ≡ Some c.take_end_array.new.self = grind arith in
     on_ok_weaker c.end_array.result
-    (λ ended. items_passed _ W.wrote W.name_of _ _ _ l.place _ _ begun l.self.out _ l.invariant.3 closed l.invariant.4
-    (λ vs written. ended c.args.self.now.out begun c.args.name.now vs c.in_ok-begun.ensures.written written)) c.end_array.ensures.written
+    (λ ended. items_passed _ W.wrote W.name_of _ _ _ l.place _ _ mark l.self.out _ l.invariant.3 closed l.invariant.4
+    (λ vs written. ended c.args.self.now.out mark c.args.name.now vs c.in_ok-mark.ensures.written written)) c.end_array.ensures.written
 
 pub write_document-members-init : goal.write_document-members-init
 write_document-members-init g t c = (
@@ -128,12 +128,12 @@ pub write_document-end-requires : goal.write_document-end-requires
 write_document-end-requires g t c =
     let l = c.members in
     let is : l.next ≡ None = grind arith in
-    let begun = c.begin.new.self in
+    let mark = c.begin.new.self in
     let W = g.W.ValueWriter in
-    let all = members_written _ W.wrote W.keyed _ _ _ l.invariant.1 begun l.self.out (rw is at l.invariant.5) in
+    let all = members_written _ W.wrote W.keyed _ _ _ l.invariant.1 mark l.self.out (rw is at l.invariant.5) in
     let own = own_keys c.args.self.now.keys.items l.invariant.1 c.as_mut_slice.result.now c.len-held.result
     (c.as_mut_slice.ensures.value ∙ l.invariant.2) (grind arith) in
-    (c.args.self.now.out, begun, all.0, c.in_ok-begun.ensures.written, all.1, all.2 ∙ sym own)
+    (c.args.self.now.out, mark, all.0, c.in_ok-mark.ensures.written, all.1, all.2 ∙ sym own)
 
 pub write_document-returns-clause-ok : goal.write_document-returns-clause-ok
 write_document-returns-clause-ok g t c =
@@ -143,7 +143,7 @@ write_document-returns-clause-ok g t c =
     let own = own_keys c.args.self.now.keys.items l.invariant.1 c.as_mut_slice.result.now c.len-held.result
     (c.as_mut_slice.ensures.value ∙ l.invariant.2) (grind arith) in
     members_passed _ W.wrote W.keyed _ _ _ l.invariant.1 c.begin.new.self l.self.out _ (rw is at l.invariant.5)
-    (λ ps written keys. c.in_ok-end.ensures.written c.args.self.now.out c.begin.new.self ps c.in_ok-begun.ensures.written written
+    (λ ps written keys. c.in_ok-end.ensures.written c.args.self.now.out c.begin.new.self ps c.in_ok-mark.ensures.written written
     (keys ∙ sym own))
 
 pub write_object-returns-in-Some-clause-ok : goal.write_object-returns-in-Some-clause-ok
@@ -230,12 +230,12 @@ write_code-returns-in_ok-end_object-in-Object-clause-ok g t c =
     let is : c.args.self.now.reader ≡ Token.begin_object ∷ c.read_scope.new.reader =
     c.in_ok-scope.ensures.ok ∙ ap (λ k. scope_token k ∷ c.read_scope.new.reader) c.in-Object.is in
     let scope = c.in-Ok.ensures in
-    let begun = c.in_ok-begun-in-Object.ensures.written in
+    let mark = c.in_ok-mark-in-Object.ensures.written in
     on_ok_weaker c.end_code.result
     (λ ended. code_scoped _ _ _ _ _ _ _ _ _
     (λ v. g.W.ValueWriter.wrote c.args.self.now.out c.args.name.now v c.end_code.new.self) is scope.ok scope.shorter
     c.in_ok-end_object-in-Object.ensures.ok
-    (λ ps. ended c.args.self.now.out c.begin_code.new.self c.args.name.now c.args.code.now ps begun)) c.end_code.ensures.written
+    (λ ps. ended c.args.self.now.out c.begin_code.new.self c.args.name.now c.args.code.now ps mark)) c.end_code.ensures.written
 
 pub write_wrapper-returns-in_default-clause-ok : goal.write_wrapper-returns-in_default-clause-ok
 write_wrapper-returns-in_default-clause-ok g t c =
@@ -363,15 +363,15 @@ pub write_value-returns-in-Null-clause-fails : goal.write_value-returns-in-Null-
 write_value-returns-in-Null-clause-fails g t c =
     if_err c.null.result c.null.ensures.stops (λ e h. (gives_up g.W.ValueWriter.leaves e c.args.level.doubles _ _ _ h, quiet g.W.ValueWriter.leaves e _ h))
 
-pub write_array-returns-in_err-begun-clause-fails : goal.write_array-returns-in_err-begun-clause-fails
-write_array-returns-in_err-begun-clause-fails = stops.write_array-returns-in_err-begun-clause-fails
+pub write_array-returns-in_err-mark-clause-fails : goal.write_array-returns-in_err-mark-clause-fails
+write_array-returns-in_err-mark-clause-fails = stops.write_array-returns-in_err-mark-clause-fails
 
 pub write_array-returns-clause-fails : goal.write_array-returns-clause-fails
 write_array-returns-clause-fails g t c =
     if_err c.end_array.result c.end_array.ensures.stops (λ e h. (gives_up g.W.ValueWriter.leaves e c.args.level.doubles _ _ _ h, quiet g.W.ValueWriter.leaves e _ h))
 
-pub write_document-returns-in_err-begun-clause-fails : goal.write_document-returns-in_err-begun-clause-fails
-write_document-returns-in_err-begun-clause-fails = stops.write_document-returns-in_err-begun-clause-fails
+pub write_document-returns-in_err-mark-clause-fails : goal.write_document-returns-in_err-mark-clause-fails
+write_document-returns-in_err-mark-clause-fails = stops.write_document-returns-in_err-mark-clause-fails
 
 pub write_document-returns-in_err-key-clause-fails : goal.write_document-returns-in_err-key-clause-fails
 write_document-returns-in_err-key-clause-fails = stops.write_document-returns-in_err-key-clause-fails
@@ -388,8 +388,8 @@ write_wrapper-returns-in_default-clause-fails = stops.write_wrapper-returns-in_d
 pub write_code-returns-in_ok-code-in-Null-clause-fails : goal.write_code-returns-in_ok-code-in-Null-clause-fails
 write_code-returns-in_ok-code-in-Null-clause-fails = stops.write_code-returns-in_ok-code-in-Null-clause-fails
 
-pub write_code-returns-in_err-begun-in-Object-clause-fails : goal.write_code-returns-in_err-begun-in-Object-clause-fails
-write_code-returns-in_err-begun-in-Object-clause-fails = stops.write_code-returns-in_err-begun-in-Object-clause-fails
+pub write_code-returns-in_err-mark-in-Object-clause-fails : goal.write_code-returns-in_err-mark-in-Object-clause-fails
+write_code-returns-in_err-mark-in-Object-clause-fails = stops.write_code-returns-in_err-mark-in-Object-clause-fails
 
 pub write_code-returns-in_ok-end_object-in-Object-clause-fails : goal.write_code-returns-in_ok-end_object-in-Object-clause-fails
 write_code-returns-in_ok-end_object-in-Object-clause-fails g t c =

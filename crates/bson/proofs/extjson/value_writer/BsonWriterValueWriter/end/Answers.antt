@@ -5,8 +5,8 @@ use Rattle.bson.proofs.extjson.value_writer.BsonWriterValueWriter.end.Goals as g
 
 pub unreachable-requires : goal.unreachable-requires
 unreachable-requires c =
-    let (start, mid, ps, begun, written, named) = c.requires in
-    let still = still_document ps start mid c.args.self.now c.args.begun begun written in
+    let (start, mid, ps, enclosing, written, named) = c.requires in
+    let still = still_document ps start mid c.args.self.now c.args.enclosing enclosing written in
     let no : false ≡ true = ap is_document c.in_default.ensures.value ∙ still in
     cc
 
@@ -14,7 +14,7 @@ pub returns-clause-written : goal.returns-clause-written
 returns-clause-written c =
     let entries = c.in-Document in
     on_ok c.push.result c.push.ensures.pushed
-    (λ pushed start mid ps begun written named.
-    document_pushed ps start mid c.args.self.now c.push.new.self c.args.begun entries.entries c.in_ok-document.document
-    c.replace.new.dest begun written (sym entries.ensures.value) entries.ensures.after c.in_ok-document.ensures pushed.0
+    (λ pushed start mid ps enclosing written named.
+    document_pushed ps start mid c.args.self.now c.push.new.self c.args.enclosing entries.entries c.in_ok-document.document
+    c.replace.new.dest enclosing written (sym entries.ensures.value) entries.ensures.after c.in_ok-document.ensures pushed.0
     pushed.1 pushed.2)

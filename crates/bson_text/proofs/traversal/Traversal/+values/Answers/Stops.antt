@@ -356,16 +356,16 @@ write_code-returns-in_err-scope-clause-fails g t c =
           c.in_err-scope.ensures.placed,
     )
 
-pub write_array-returns-in_err-begun-clause-fails : goal.write_array-returns-in_err-begun-clause-fails
-write_array-returns-in_err-begun-clause-fails g t c =
+pub write_array-returns-in_err-mark-clause-fails : goal.write_array-returns-in_err-mark-clause-fails
+write_array-returns-in_err-mark-clause-fails g t c =
     let p = err_from_is_err_and c.from_residual.result c.from_residual.ensures.1 in
-    let h = c.in_err-begun.ensures.stops in
+    let h = c.in_err-mark.ensures.stops in
     rw (p.1, p.2) (gives_up g.W.ValueWriter.leaves _ c.args.level.doubles _ _ _ h, quiet g.W.ValueWriter.leaves _ _ h)
 
-pub write_document-returns-in_err-begun-clause-fails : goal.write_document-returns-in_err-begun-clause-fails
-write_document-returns-in_err-begun-clause-fails g t c =
+pub write_document-returns-in_err-mark-clause-fails : goal.write_document-returns-in_err-mark-clause-fails
+write_document-returns-in_err-mark-clause-fails g t c =
     let p = err_from_is_err_and c.from_residual.result c.from_residual.ensures.1 in
-    let h = c.in_err-begun.ensures.stops in
+    let h = c.in_err-mark.ensures.stops in
     rw (p.1, p.2) (gives_up g.W.ValueWriter.leaves _ c.args.level.doubles _ _ _ h, quiet g.W.ValueWriter.leaves _ _ h)
 
 pub write_document-returns-in_err-key-clause-fails : goal.write_document-returns-in_err-key-clause-fails
@@ -389,9 +389,9 @@ write_code-returns-in_ok-code-in-Null-clause-fails g t c =
       λ first. quiet_code g.W.ValueWriter.leaves _ _ e _ same h,
     ))
 
-pub write_code-returns-in_err-begun-in-Object-clause-fails : goal.write_code-returns-in_err-begun-in-Object-clause-fails
-write_code-returns-in_err-begun-in-Object-clause-fails g t c =
-    let back = c.from_residual-in_err-begun-in-Object in
+pub write_code-returns-in_err-mark-in-Object-clause-fails : goal.write_code-returns-in_err-mark-in-Object-clause-fails
+write_code-returns-in_err-mark-in-Object-clause-fails g t c =
+    let back = c.from_residual-in_err-mark-in-Object in
     let p = err_from_is_err_and back.result back.ensures.1 in
-    let h = c.in_err-begun-in-Object.ensures.stops in
+    let h = c.in_err-mark-in-Object.ensures.stops in
     rw (p.1, p.2) (gives_up g.W.ValueWriter.leaves _ c.args.level.doubles _ _ _ h, λ first. quiet g.W.ValueWriter.leaves _ _ h)

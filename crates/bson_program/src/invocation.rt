@@ -1,0 +1,192 @@
+//! What the arguments ask for.
+ghost use Rattle.std.specs.Prelude.{◌≡◌, ◌⊎◌, ◌↔◌, IfOk, IsTrue, map, string_bytes};
+ghost use Rattle.bson_program.specs.Invocation.{IsRequestedBy};
+ghost use Rattle.bson_run.specs.declared.order.Criterion.{Criterion};
+ghost use Rattle.bson_run.specs.declared.order.Preprocessing.{Preprocessing};
+
+use crate::arguments::{Given, Parsed};
+use bson::extjson::Options;
+use bson_run::order::{OnRefusal, Task, Work};
+use std::alloc::{AllocError, Global};
+
+/// The name of standard input among the files that are read, and of standard output.
+pub const STANDARD: &str = "-";
+
+/// What the arguments ask for.
+#[derive(Drop)]
+pub enum Request {
+    /// A run over files.
+    Run(Invocation),
+    /// The help of a command.
+    Help(Command),
+    /// The line of `--version`.
+    Version,
+    /// Something that the program does not do.
+    Wrong(Wrong),
+}
+
+/// The commands, each with its usage and its help.
+#[derive(Clone, Copy, PartialEq, Eq)]
+pub enum Command {
+    /// Every command: no word has named one.
+    All,
+    /// One document, in a mode.
+    Text,
+    /// `lines`.
+    Lines,
+    /// `decode`.
+    Decode,
+    /// `encode`.
+    Encode,
+}
+
+/// What is wrong with the arguments.
+#[derive(Drop)]
+pub struct Wrong {
+    /// What is wrong.
+    pub misuse: Misuse,
+    /// The command that the words before name.
+    pub command: Command,
+    /// The word that is wrong, if it is one.
+    pub word: String,
+}
+
+/// What can be wrong with arguments.
+#[derive(Clone, Copy, PartialEq, Eq)]
+pub enum Misuse {
+    /// A word is an option that no command has.
+    UnknownOption,
+    /// A word is expected to be a command or a mode, and is not.
+    UnknownMode,
+    /// A word is an option of an earlier version, which is the default now.
+    Former,
+    /// An option is given twice.
+    Twice(Flag),
+    /// An option has no value, or not one that it can have.
+    NoValue(Flag),
+    /// The mode does not have an option.
+    Unfit(Flag, Purpose, Task),
+    /// No mode is given.
+    NoMode,
+    /// A comparison needs two files.
+    TwoFiles,
+    /// Standard input is named twice.
+    StandardTwice,
+    /// A word is not UTF-8.
+    NotUtf8,
+}
+
+/// The options, each once at most.
+#[derive(Clone, Copy, PartialEq, Eq)]
+pub enum Flag {
+    /// `--sort-keys`.
+    SortKeys,
+    /// `--strict`.
+    Strict,
+    /// `--legacy`.
+    Legacy,
+    /// `--no-double-keys`.
+    NoDoubleKeys,
+    /// `--canonical`.
+    Canonical,
+    /// `--indent N`.
+    Indent,
+    /// `--keep-going`.
+    KeepGoing,
+    /// `--jobs N`.
+    Jobs,
+    /// `-o FILE`.
+    Output,
+    /// `--unordered`.
+    Unordered,
+}
+
+/// What a run makes of the output.
+#[derive(Clone, Copy, PartialEq, Eq)]
+pub enum Purpose {
+    /// The output is written.
+    Output,
+    /// The digest of each line of the output is written.
+    Digests,
+    /// The outputs of two files are compared.
+    Comparison,
+}
+
+/// What the input is.
+#[derive(Clone, Copy, PartialEq, Eq)]
+pub enum Input {
+    /// One text, on any number of lines.
+    Text,
+    /// A text per line.
+    Lines,
+    /// Concatenated BSON documents.
+    Documents,
+}
+
+/// A run over files.
+#[derive(Drop)]
+pub struct Invocation {
+    /// What is done with each line, or each document.
+    pub task: Task,
+    /// Which texts have a meaning, and which values a text.
+    pub options: Options,
+    /// What becomes of the run at a line or a document that is refused.
+    pub on_refusal: OnRefusal,
+    /// What the run makes of the output.
+    pub purpose: Purpose,
+    /// Whether a comparison ignores the order of values.
+    pub is_unordered: bool,
+    /// What the input is.
+    pub input: Input,
+    /// How many spaces indent the output for each bracket, where it is laid out over several lines.
+    pub indent: Option<usize>,
+    /// The file that the output goes to, or `-`.
+    pub output: String,
+    /// The files that are read, in this order; `-` is standard input.
+    pub inputs: Vec<String>,
+}
+
+impl Invocation {
+    /// Whether BSON bytes are written, and no text.
+    pub fn writes_bytes(&self) -> bool
+        ensures { IsTrue result ↔ ((self.now.task ≡ Task.Encode) ⊎ (self.now.task ≡ Task.EncodeInOrder)) }
+    {
+        self.task == Task::Encode || self.task == Task::EncodeInOrder
+    }
+
+    /// Whether what is read is only judged or compared.
+    pub fn writes_nothing(&self) -> bool
+        ensures { IsTrue result
+            ↔ ((self.now.purpose ≡ Purpose.Comparison)
+            ⊎ ((criterion : Criterion) × (self.now.task ≡ Task.Check criterion))
+            ⊎ ((preprocessing : Preprocessing) × (self.now.task ≡ Task.Preprocessed preprocessing Work.Check))) }
+    {
+        self.purpose == Purpose::Comparison
+            || matches!(self.task, Task::Check(_) | Task::Preprocessed(_, Work::Check))
+    }
+}
+
+/// Returns what the words after the program's name ask for: a command, a mode, then names of files,
+/// with options anywhere before a word `--`, each once at most.
+pub fn parse_arguments(alloc: Global, words: Vec<String>) -> Result<Request, AllocError>
+    ensures { IfOk result (λ requested. IsRequestedBy (map string_bytes words.items) requested) }
+{
+    let mut given = Given::new(alloc);
+    for word in words.iter() {
+        let command = given.command();
+        match given.take(word.as_str())? {
+            Parsed::Word => {}
+            Parsed::Help => return Ok(Request::Help(command)),
+            Parsed::Version => return Ok(Request::Version),
+            Parsed::Wrong(misuse) => {
+                let word = String::from_str(alloc, word.as_str())?;
+                return Ok(Request::Wrong(Wrong {
+                    misuse,
+                    command,
+                    word,
+                }));
+            }
+        }
+    }
+    given.answer()
+}

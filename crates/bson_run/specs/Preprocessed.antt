@@ -1,0 +1,55 @@
+-- Texts that are looked at before they are read: whether a key stands twice, and which text of Extended JSON v2 stands in
+-- the place of one of v1.
+use Rattle.std.specs.Prelude.{◌≡◌, ◌⊎◌, ℕ, List, Option, None, Some, IsUtf8, string_bytes, String}
+use Rattle.std.specs.declared.alloc.Global.{Global}
+use Rattle.json.specs.Json.{Json}
+use Rattle.json.specs.Strict.{HasUniqueKeys}
+use Rattle.serde_json.specs.Data.{Data}
+use Rattle.serde_json.specs.Read.{read}
+use Rattle.bson_tokens.specs.Double.{json_of, HasDuplicateKey}
+use Rattle.bson_v1.specs.Text.{IsUpgradedText}
+use Rattle.bson_tree.specs.Place.{path_of}
+use Rattle.bson_tree.specs.declared.place.Place.{Place}
+use Rattle.bson_convert.specs.declared.error.Error.{Error}
+use Rattle.bson_convert.specs.declared.error.Error.TheVariants.{NotExtendedJson, OutOfMemory}
+use Rattle.bson_run.specs.declared.order.Preprocessing.{Preprocessing}
+use Rattle.bson_run.specs.declared.order.Preprocessing.TheVariants.{Distinct, Legacy, DistinctLegacy}
+
+-- no object of the JSON text that the bytes are, if they are one, has a key twice, at any depth
+abbrev pub HasNoDoubleKey : List ℕ → Type 0
+HasNoDoubleKey bytes = (j : Json) → IsUtf8 bytes → json_of bytes ≡ Some j → HasUniqueKeys j
+
+-- the bytes are a JSON text, whose first key that stands twice lies at the place
+abbrev pub HasDoubleKeyAt : Place → List ℕ → Type 0
+HasDoubleKeyAt place bytes = IsUtf8 bytes × HasDuplicateKey bytes (path_of place)
+
+-- the bytes are not a JSON text whose numbers are in range
+abbrev pub IsNoJson : List ℕ → Type 0
+IsNoJson bytes = (d : Data) → IsUtf8 bytes → read bytes ≡ Some d → ⊥
+
+-- in the place of a JSON text stands that of the tree for which its tree stands; other bytes stay
+abbrev pub UpgradesTo : List ℕ → List ℕ → Type 0
+UpgradesTo bytes upgraded = (IsUtf8 bytes × IsUpgradedText bytes upgraded) ⊎ (IsNoJson bytes × (upgraded ≡ bytes))
+
+-- the bytes are let through, and these are read in their place
+abbrev pub IsPreprocessedAs : Preprocessing → List ℕ → List ℕ → Type 0
+IsPreprocessedAs Distinct bytes preprocessed = HasNoDoubleKey bytes × (preprocessed ≡ bytes)
+IsPreprocessedAs Legacy bytes preprocessed = UpgradesTo bytes preprocessed
+IsPreprocessedAs DistinctLegacy bytes preprocessed = HasNoDoubleKey bytes × UpgradesTo bytes preprocessed
+
+-- the bytes are refused before they are read
+abbrev pub IsRejectedBefore : Preprocessing → Place → List ℕ → Type 0
+IsRejectedBefore Distinct place bytes = HasDoubleKeyAt place bytes
+IsRejectedBefore Legacy place bytes = ⊥
+IsRejectedBefore DistinctLegacy place bytes = HasDoubleKeyAt place bytes
+
+-- what each fault says of the bytes
+abbrev pub IsNotPreprocessed : Preprocessing → Error → List ℕ → Type 0
+IsNotPreprocessed preprocessing (NotExtendedJson place) bytes = IsRejectedBefore preprocessing place bytes
+IsNotPreprocessed preprocessing OutOfMemory bytes = Unit {0}
+IsNotPreprocessed preprocessing other bytes = ⊥
+
+-- the text, or the bytes where there is none
+abbrev pub preprocessed_of : List ℕ → Option (String Global) → List ℕ
+preprocessed_of bytes None = bytes
+preprocessed_of bytes (Some text) = string_bytes text

@@ -1,0 +1,7 @@
+use Rattle.bson_scalar.proofs.Appending.{if_ok}
+use Rattle.bson_scalar.proofs.constants.write_undefined.Goals as goal
+
+pub returns-clause-written : goal.returns-clause-written
+returns-clause-written g c =
+    if_ok c.end_one.result c.end_one.ensures.written
+    (λ t ends. ends c.args.out.now c.begin.new.out _ _ c.in_ok-key.ensures.written c.in_ok-truth.ensures.written)
