@@ -1,5 +1,5 @@
--- Texts that are looked at before they are read: whether a key stands twice, and which text of Extended JSON v2 stands in
--- the place of one of v1.
+-- Texts that are checked or rewritten before they are read: whether they have a duplicate key, and which text of Extended
+-- JSON v2 is read in place of one of v1.
 use Rattle.std.specs.Prelude.{◌≡◌, ◌⊎◌, ℕ, List, Option, None, Some, IsUtf8, string_bytes, String}
 use Rattle.std.specs.declared.alloc.Global.{Global}
 use Rattle.json.specs.Json.{Json}
@@ -15,11 +15,11 @@ use Rattle.bson_convert.specs.declared.error.Error.TheVariants.{NotExtendedJson,
 use Rattle.bson_run.specs.declared.order.Preprocessing.{Preprocessing}
 use Rattle.bson_run.specs.declared.order.Preprocessing.TheVariants.{Distinct, Legacy, DistinctLegacy}
 
--- no object of the JSON text that the bytes are, if they are one, has a key twice, at any depth
+-- if the bytes are a JSON text, no object of it has a duplicate key, at any depth
 abbrev pub HasNoDoubleKey : List ℕ → Type 0
 HasNoDoubleKey bytes = (j : Json) → IsUtf8 bytes → json_of bytes ≡ Some j → HasUniqueKeys j
 
--- the bytes are a JSON text, whose first key that stands twice lies at the place
+-- the bytes are a JSON text, whose first duplicate key is at the place
 abbrev pub HasDoubleKeyAt : Place → List ℕ → Type 0
 HasDoubleKeyAt place bytes = IsUtf8 bytes × HasDuplicateKey bytes (path_of place)
 
@@ -27,29 +27,29 @@ HasDoubleKeyAt place bytes = IsUtf8 bytes × HasDuplicateKey bytes (path_of plac
 abbrev pub IsNoJson : List ℕ → Type 0
 IsNoJson bytes = (d : Data) → IsUtf8 bytes → read bytes ≡ Some d → ⊥
 
--- in the place of a JSON text stands that of the tree for which its tree stands; other bytes stay
+-- a JSON text is rewritten as the text of the tree that its tree denotes; other bytes are kept
 abbrev pub UpgradesTo : List ℕ → List ℕ → Type 0
 UpgradesTo bytes upgraded = (IsUtf8 bytes × IsUpgradedText bytes upgraded) ⊎ (IsNoJson bytes × (upgraded ≡ bytes))
 
--- the bytes are let through, and these are read in their place
+-- the bytes are accepted, and these are read in their place
 abbrev pub IsPreprocessedAs : Preprocessing → List ℕ → List ℕ → Type 0
 IsPreprocessedAs Distinct bytes preprocessed = HasNoDoubleKey bytes × (preprocessed ≡ bytes)
 IsPreprocessedAs Legacy bytes preprocessed = UpgradesTo bytes preprocessed
 IsPreprocessedAs DistinctLegacy bytes preprocessed = HasNoDoubleKey bytes × UpgradesTo bytes preprocessed
 
--- the bytes are refused before they are read
+-- the bytes are rejected before they are read
 abbrev pub IsRejectedBefore : Preprocessing → Place → List ℕ → Type 0
 IsRejectedBefore Distinct place bytes = HasDoubleKeyAt place bytes
 IsRejectedBefore Legacy place bytes = ⊥
 IsRejectedBefore DistinctLegacy place bytes = HasDoubleKeyAt place bytes
 
--- what each fault says of the bytes
+-- what each error says about the bytes
 abbrev pub IsNotPreprocessed : Preprocessing → Error → List ℕ → Type 0
 IsNotPreprocessed preprocessing (NotExtendedJson place) bytes = IsRejectedBefore preprocessing place bytes
 IsNotPreprocessed preprocessing OutOfMemory bytes = Unit {0}
 IsNotPreprocessed preprocessing other bytes = ⊥
 
--- the text, or the bytes where there is none
+-- the text, or the bytes if there is none
 abbrev pub preprocessed_of : List ℕ → Option (String Global) → List ℕ
 preprocessed_of bytes None = bytes
 preprocessed_of bytes (Some text) = string_bytes text

@@ -1,17 +1,17 @@
-//! What is asked of a run over lines.
+//! What a run over lines does with each line.
 ghost use Rattle.std.specs.Prelude.{◌≡◌, IfSome, None};
 ghost use Rattle.bson_run.specs.Words.{task_name};
 ghost use Rattle.bson_run.specs.declared.order.Task.{Task};
 
 use bson_convert::mode::Mode;
 
-/// What is done with each line.
+/// What a run does with each line.
 ///
 /// ```
 /// let mut lines: &[u8] = b"1\n2";
-/// let (mut output, mut told) = (Vec::new(alloc), Vec::new(alloc));
+/// let (mut output, mut reported) = (Vec::new(alloc), Vec::new(alloc));
 /// let mut run = LineRun::new(alloc, Task::Write(Mode::Canonical), OnRefusal::Stop);
-/// drop(run.run(alloc, &mut lines, &mut output, &mut told));
+/// drop(run.run(alloc, &mut lines, &mut output, &mut reported));
 /// rt.print(str::from_utf8(&output)?)?;
 /// // {"$numberInt":"1"}
 /// // {"$numberInt":"2"}
@@ -20,15 +20,15 @@ use bson_convert::mode::Mode;
 pub enum Task {
     /// Its output in the mode is written.
     Write(Mode),
-    /// The same, with the keys of each document in the order of the text.
+    /// Its output in the mode is written, with the keys of each document in the order of the text.
     WriteInOrder(Mode),
-    /// It is only judged, by this criterion, and nothing is written.
+    /// It is only checked, by this criterion, and nothing is written.
     Check(Criterion),
-    /// The bytes of its document are written, its keys in ascending order; no newline behind them.
+    /// The bytes of its document are written, with its keys in ascending order and without a newline.
     Encode,
-    /// The same, with the keys of each document in the order of the text.
+    /// The bytes of its document are written, with its keys in the order of the text.
     EncodeInOrder,
-    /// This of the text that is taken so, where it is not refused.
+    /// The line is preprocessed first. If it is accepted, this is done with what is read in its place.
     Preprocessed(Preprocessing, Work),
 }
 
@@ -36,59 +36,59 @@ pub enum Task {
 ///
 /// ```
 /// let mut lines: &[u8] = br#"{"n": 5}"#;
-/// let (mut output, mut told) = (Vec::new(alloc), Vec::new(alloc));
+/// let (mut output, mut reported) = (Vec::new(alloc), Vec::new(alloc));
 /// let task = Task::Check(Criterion::Canonical);
 /// let mut run = LineRun::new(alloc, task, OnRefusal::KeepGoing);
-/// drop(run.run(alloc, &mut lines, &mut output, &mut told));
-/// rt.print(str::from_utf8(&told)?)?;
+/// drop(run.run(alloc, &mut lines, &mut output, &mut reported));
+/// rt.print(str::from_utf8(&reported)?)?;
 /// // bson: line 1: not canonical Extended JSON at column 6
 /// ```
 #[derive(Clone, Copy, PartialEq, Eq, Debug)]
 pub enum Criterion {
-    /// Those that mean a value.
+    /// Texts that have a value.
     Valid,
-    /// Those that are the canonical text of the value that they mean, with keys in ascending order.
+    /// Texts that are the canonical text of their value, with keys in ascending order.
     Canonical,
 }
 
-/// What is looked for in a text before it is read.
+/// What is checked or rewritten before a text is read.
 ///
 /// ```
 /// let mut lines: &[u8] = br#"{"a": 1, "a": 2}"#;
-/// let (mut output, mut told) = (Vec::new(alloc), Vec::new(alloc));
+/// let (mut output, mut reported) = (Vec::new(alloc), Vec::new(alloc));
 /// let task = Task::Preprocessed(Preprocessing::Distinct, Work::Check);
 /// let mut run = LineRun::new(alloc, task, OnRefusal::KeepGoing);
-/// drop(run.run(alloc, &mut lines, &mut output, &mut told));
-/// rt.print(str::from_utf8(&told)?)?;
+/// drop(run.run(alloc, &mut lines, &mut output, &mut reported));
+/// rt.print(str::from_utf8(&reported)?)?;
 /// // bson: line 1: not Extended JSON at a (duplicate key)
 /// ```
 #[derive(Clone, Copy, PartialEq, Eq, Debug)]
 pub enum Preprocessing {
-    /// A text in which an object has a key twice is refused.
+    /// A text with a duplicate key is rejected.
     Distinct,
-    /// In the place of a text of Extended JSON v1 that of v2 is read for which it stands.
+    /// A text of Extended JSON v1 is rewritten as v2.
     Legacy,
-    /// Both: a text in which an object has a key twice is refused, and that of v2 is read.
+    /// A text with a duplicate key is rejected, and one of Extended JSON v1 is rewritten as v2.
     DistinctLegacy,
 }
 
-/// What is done with a text that was taken.
+/// What is done with a text that was preprocessed.
 ///
 /// ```
 /// let mut lines: &[u8] = br#"{"$type": "00", "$binary": "AQI="}"#;
-/// let (mut output, mut told) = (Vec::new(alloc), Vec::new(alloc));
+/// let (mut output, mut reported) = (Vec::new(alloc), Vec::new(alloc));
 /// let task = Task::Preprocessed(Preprocessing::Legacy, Work::Write(Mode::Relaxed));
 /// let mut run = LineRun::new(alloc, task, OnRefusal::Stop);
-/// drop(run.run(alloc, &mut lines, &mut output, &mut told));
+/// drop(run.run(alloc, &mut lines, &mut output, &mut reported));
 /// rt.print(str::from_utf8(&output)?)?; // {"$binary":{"base64":"AQI=","subType":"00"}}
 /// ```
 #[derive(Clone, Copy, PartialEq, Eq, Debug)]
 pub enum Work {
     /// Its output in the mode is written.
     Write(Mode),
-    /// The same, with the keys of each document in the order of the text.
+    /// Its output in the mode is written, with the keys of each document in the order of the text.
     WriteInOrder(Mode),
-    /// It is only judged, and nothing is written.
+    /// It is only checked, and nothing is written.
     Check,
 }
 
@@ -112,10 +112,10 @@ impl Task {
 ///
 /// ```
 /// let mut lines: &[u8] = b"[\n2";
-/// let (mut output, mut told) = (Vec::new(alloc), Vec::new(alloc));
+/// let (mut output, mut reported) = (Vec::new(alloc), Vec::new(alloc));
 /// let mut run = LineRun::new(alloc, Task::Write(Mode::Relaxed), OnRefusal::KeepGoing);
-/// drop(run.run(alloc, &mut lines, &mut output, &mut told));
-/// rt.print(str::from_utf8(&told)?)?; // bson: line 1: not JSON at column 1 (unexpected end of input)
+/// drop(run.run(alloc, &mut lines, &mut output, &mut reported));
+/// rt.print(str::from_utf8(&reported)?)?; // bson: line 1: not JSON at column 1 (unexpected end of input)
 /// rt.print(str::from_utf8(&output)?)?; // 2
 /// ```
 #[derive(Clone, Copy, PartialEq, Eq, Debug)]

@@ -1,4 +1,4 @@
-//! Texts that are looked at before they are read.
+//! Texts that are checked or rewritten before they are read.
 ghost use Rattle.std.specs.Prelude.{◌≡◌, IfErr, IfOk, OnOk};
 ghost use Rattle.bson_run.specs.Preprocessed.{HasNoDoubleKey, IsPreprocessedAs, IsNotPreprocessed, UpgradesTo, preprocessed_of};
 ghost use Rattle.bson_run.specs.declared.order.Preprocessing.TheVariants.{Distinct};
@@ -10,7 +10,7 @@ use bson_tree::place::{Place, Reason};
 use bson_v1::upgraded::upgraded_text;
 use std::alloc::Global;
 
-/// What is told of a key that stands twice.
+/// The reason that is reported for a duplicate key.
 pub(crate) const DUPLICATE_KEY: &str = "duplicate key";
 
 /// Returns the text that is read instead of the bytes, or `None` if the bytes themselves are read.
@@ -48,7 +48,7 @@ pub fn preprocess_text(alloc: Global, preprocessing: Preprocessing, bytes: &[u8]
     }
 }
 
-// Refuses a text in which a key stands twice.
+// Rejects a text with a duplicate key.
 fn reject_duplicate_keys(alloc: Global, bytes: &[u8]) -> Result<(), Error>
     ensures ok { OnOk result (HasNoDoubleKey bytes.now) }
     ensures fault { IfErr result (λ fault. IsNotPreprocessed Distinct fault bytes.now) }
@@ -66,7 +66,7 @@ fn reject_duplicate_keys(alloc: Global, bytes: &[u8]) -> Result<(), Error>
     }
 }
 
-// The text in the place of one of v1; none for what is no JSON text.
+// Returns the text of v2 for one of v1, or `None` if the bytes are not a JSON text.
 fn upgrade(alloc: Global, bytes: &[u8]) -> Result<Option<String>, Error>
     ensures ok { IfOk result (λ text. UpgradesTo bytes.now (preprocessed_of bytes.now text)) }
     ensures fault { IfErr result (λ fault. fault ≡ Error.OutOfMemory) }
