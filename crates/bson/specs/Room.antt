@@ -17,18 +17,18 @@ use Rattle.bson_model.specs.Value.{no_pairs, pair}
 
 -- A scalar is direct if its text is made where it is written. The text of any other is first made in memory of its
 -- own: base64, sorted options, the digits of a decimal, and in the relaxed form a date.
-abbrev pub is_in_place : Form → Scalar → Bool
-is_in_place f (regex p o) = false
-is_in_place f (binary k bytes) = false
-is_in_place f (decimal b) = false
-is_in_place Canonical (date z) = true
-is_in_place Relaxed (date z) = false
-is_in_place f x = true
+abbrev pub is_without_tree : Form → Scalar → Bool
+is_without_tree f (regex p o) = false
+is_without_tree f (binary k bytes) = false
+is_without_tree f (decimal b) = false
+is_without_tree Canonical (date z) = true
+is_without_tree Relaxed (date z) = false
+is_without_tree f x = true
 
 -- every scalar in the value is direct
 abbrev mutual
   pub IsDirect : Form → Value → Type 0
-  IsDirect f (scalar x) = is_in_place f x ≡ true
+  IsDirect f (scalar x) = is_without_tree f x ≡ true
   IsDirect f (code_scope s ps) = PairsDirect f ps
   IsDirect f (array vs) = ValuesDirect f vs
   IsDirect f (document ps) = PairsDirect f ps

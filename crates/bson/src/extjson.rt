@@ -8,7 +8,7 @@
 //! text is read).
 mod builder;
 pub mod de;
-mod in_place;
+mod without_tree;
 mod key_order;
 mod options;
 mod read;

@@ -1,36 +1,17 @@
--- Keys whose digests differ, and pairs of these keys.
+-- Keys whose hashes differ, and pairs of these keys.
 use Rattle.std.proofs.Common.{◌≡◌, ◌≢◌, ℕ, suc, ◌<◌, ◌≤◌, false, List, [], ◌∷◌, ◌++◌, length, map, take, drop}
-use Rattle.std.proofs.Common.{IsPermutation, get_or, refl, ap, sym, ◌∙◌, subst, arith, bytes_eq}
+use Rattle.std.proofs.Common.{get_or, refl, ap, sym, ◌∙◌, subst, arith, bytes_eq}
 use Rattle.std.proofs.lemmas.Bool.{false_from_ne_true}
-use Rattle.std.proofs.lemmas.Bool.Decides.{nat_tests, Decides-eqb}
-use Rattle.std.proofs.lemmas.List.Kept.{AllPairs-from_increasing}
-use Rattle.std.proofs.lemmas.List.Sorted.{IsPermutation-sym}
-use Rattle.std.proofs.lemmas.Map.Keys.{IsDistinct-IsPermutation}
-use Rattle.std.proofs.lemmas.Map.Made.{AllPairs-from_IsDistinct, IsDistinct-from_AllPairs}
 use Rattle.std.proofs.lemmas.Slice.Eq.{bytes_eq-Decides}
-use Rattle.std.proofs.Math.Dec.{eqb}
 use Rattle.std.specs.List.{AllPairs}
-use Rattle.std.specs.List.Sorted.{IsStrictlyIncreasing}
 use Rattle.bson_bytes.specs.Grammar.{insert_value, settle, one_each}
 use Rattle.bson_model.specs.Value.{pair_keys, Value, Pairs, no_pairs, pair}
 use Rattle.bson_model.specs.Distinct.{has_pair}
-use Rattle.bson_bytes.specs.Digest.{digest}
+use Rattle.bson_scalar.specs.KeyHash.{key_hash}
 use Rattle.bson_bytes.specs.Source.{with_pair}
 use Rattle.bson_bytes.proofs.Loop.{join, join_none, join_more}
 
 -- ---- numbers of which no two are equal
-
-numbers_differ : (rising : List ℕ) → IsStrictlyIncreasing rising → AllPairs (λ x y. x ≢ y) rising
-numbers_differ rising h i j d less within e =
-    let below = AllPairs-from_increasing rising h i j d less within in omega (arith, below, e)
-
--- the same numbers in another order
-pub moved_differ : (ds rising : List ℕ) → IsPermutation ds rising → IsStrictlyIncreasing rising
-    → AllPairs (λ x y. x ≢ y) ds
-moved_differ ds rising moved h =
-    let apart = IsDistinct-from_AllPairs Decides-eqb rising (numbers_differ rising h) in
-    AllPairs-from_IsDistinct Decides-eqb ds
-    (IsDistinct-IsPermutation eqb (λ x y. grind (arith, nat_tests)) rising ds (IsPermutation-sym ds rising moved) apart)
 
 -- the number differs from each of these
 abbrev pub Avoids : ℕ → List ℕ → Type 0
@@ -56,36 +37,36 @@ all_apart (n ∷ ns) h = (
   all_apart ns (λ i j d less within e. h (suc i) (suc j) d (omega (arith, less)) (omega (arith, within)) e),
 )
 
--- ---- keys whose digests are apart
+-- ---- keys whose hashes differ
 
-unequal : (k l : List ℕ) → digest k ≢ digest l → bytes_eq k l ≡ false
-unequal k l differ = false_from_ne_true (bytes_eq k l) (λ t. differ (ap digest ((bytes_eq-Decides k l).0 t)))
+unequal : (k l : List ℕ) → key_hash k ≢ key_hash l → bytes_eq k l ≡ false
+unequal k l differ = false_from_ne_true (bytes_eq k l) (λ t. differ (ap key_hash ((bytes_eq-Decides k l).0 t)))
 
-pub has_none : (k : List ℕ) (ps : Pairs) → Avoids (digest k) (map digest (pair_keys ps)) → has_pair k ps ≡ false
+pub has_none : (k : List ℕ) (ps : Pairs) → Avoids (key_hash k) (map key_hash (pair_keys ps)) → has_pair k ps ≡ false
 has_none k no_pairs h = refl
 has_none k (pair l v ps) h = rw (unequal k l h.0) (has_none k ps h.1)
 
 avoids_later : (l : List ℕ) (done : Pairs) (k : List ℕ) (v : Value) (ps : Pairs)
-    → Avoids (digest l) (map digest (pair_keys (join done (pair k v ps)))) → digest l ≢ digest k
+    → Avoids (key_hash l) (map key_hash (pair_keys (join done (pair k v ps)))) → key_hash l ≢ key_hash k
 avoids_later l no_pairs k v ps h = h.0
 avoids_later l (pair a w done) k v ps h = avoids_later l done k v ps h.1
 
 -- a new key goes last
 insert_last : (done : Pairs) (k : List ℕ) (v : Value) (ps : Pairs)
-    → Apart (map digest (pair_keys (join done (pair k v ps)))) → insert_value k v done ≡ with_pair done k v
+    → Apart (map key_hash (pair_keys (join done (pair k v ps)))) → insert_value k v done ≡ with_pair done k v
 insert_last no_pairs k v ps h = refl
 insert_last (pair l w done) k v ps h =
-    let differ : digest k ≢ digest l = λ e. avoids_later l done k v ps h.0 (sym e) in
+    let differ : key_hash k ≢ key_hash l = λ e. avoids_later l done k v ps h.0 (sym e) in
     rw (unequal k l differ) (ap (pair l w) (insert_last done k v ps h.1))
 
-settle_apart : (ps done : Pairs) → Apart (map digest (pair_keys (join done ps))) → settle done ps ≡ join done ps
+settle_apart : (ps done : Pairs) → Apart (map key_hash (pair_keys (join done ps))) → settle done ps ≡ join done ps
 settle_apart no_pairs done h = sym (join_none done)
 settle_apart (pair k v ps) done h =
     let more = join_more done k v ps in
     ap (λ (qs : Pairs). settle qs ps) (insert_last done k v ps h)
-    ∙ settle_apart ps (with_pair done k v) (subst (λ (qs : Pairs). Apart (map digest (pair_keys qs))) (sym more) h) ∙ more
+    ∙ settle_apart ps (with_pair done k v) (subst (λ (qs : Pairs). Apart (map key_hash (pair_keys qs))) (sym more) h) ∙ more
 
-pub one_each_is : (ps : Pairs) → Apart (map digest (pair_keys ps)) → one_each ps ≡ ps
+pub one_each_is : (ps : Pairs) → Apart (map key_hash (pair_keys ps)) → one_each ps ≡ ps
 one_each_is ps apart = settle_apart ps no_pairs apart
 
 -- ---- a list after another

@@ -1,4 +1,4 @@
--- Tokens and digests that a sink which is a text writes one after another.
+-- Tokens and key_hashes that a sink which is a text writes one after another.
 use Rattle.std.proofs.Common.{◌≡◌, ℕ, Bool, true, false, List, [], ◌∷◌, ◌++◌, map, Result, Ok, Err, refl, sym, ap, ◌∙◌, subst}
 use Rattle.std.proofs.Common.{append_assoc, append-nil}
 use Rattle.std.specs.Prelude.{is_ok}
@@ -26,7 +26,7 @@ use Rattle.bson_model.specs.Writing.{with_scope}
 use Rattle.bson_model.specs.Distinct.{PairsDistinct, ItemsDistinct}
 use Rattle.bson_model.specs.OrderedWriting.{values_in_order, pairs_in_order}
 use Rattle.bson_bytes.specs.Grammar.{pair_values, one_each}
-use Rattle.bson_bytes.specs.Digest.{digest}
+use Rattle.bson_scalar.specs.KeyHash.{key_hash}
 use Rattle.bson_bytes.specs.TextWritten.{Sent, TreeOf, ValueSent, PairsSent, MembersOf, ItemsOf, items_in_turn, ArrayBegun}
 use Rattle.bson_bytes.specs.TextWritten.{DocumentBegun, Begun, Named, Coded}
 use Rattle.bson_bytes.specs.Source.{with_pair}
@@ -34,7 +34,7 @@ use Rattle.bson_bytes.specs.declared.text.TextSink.{TextSink}
 use Rattle.bson_bytes.proofs.Apart.{Apart, has_none, one_each_is}
 
 abbrev pub with_out : TextSink → Writer Global → TextSink
-with_out w out = record { alloc = w.alloc; form = w.form; out = out; digests = w.digests }
+with_out w out = record { alloc = w.alloc; form = w.form; out = out; key_hashes = w.key_hashes }
 
 -- tokens and then others
 joined : (a b c : TextSink) (xs ys : List Token) → Sent a xs b → Sent b ys c → Sent a (xs ++ ys) c
@@ -91,7 +91,7 @@ members_more f no_pairs us k v d h t = (d, no_members, ap (λ x. added x k d) h,
 members_more f (pair l w ps) us k v d (e, ms, is, tree, rest) t =
     (e, added ms k d, ap (λ x. added x k d) is, tree, members_more f ps ms k v d rest t)
 
-members_are : (f : Form) (ps : Pairs) (us : Members) → MembersOf f ps us → Apart (map digest (pair_keys ps))
+members_are : (f : Form) (ps : Pairs) (us : Members) → MembersOf f ps us → Apart (map key_hash (pair_keys ps))
     → (pairs_in_order Finite f ps ≡ Ok us) × PairsInRange ps × PairsDistinct ps
 members_are f no_pairs us h apart = (ap Ok (sym h), tt, tt)
 members_are f (pair k v ps) us (d, ms, is, (w, r, a), rest) apart =
@@ -122,9 +122,9 @@ members_end (member k d us) =
     ap (λ l. token.key k ∷ l) (append_assoc (tokens_of d) (members_in_turn us) (token.end_object ∷ []))
     ∙ ap (λ l. token.key k ∷ (tokens_of d ++ l)) (members_end us)
 
-maps_join : (ks ls : List (List ℕ)) → map digest (ks ++ ls) ≡ map digest ks ++ map digest ls
+maps_join : (ks ls : List (List ℕ)) → map key_hash (ks ++ ls) ≡ map key_hash ks ++ map key_hash ls
 maps_join [] ls = refl
-maps_join (k ∷ ks) ls = ap (λ ds. digest k ∷ ds) (maps_join ks ls)
+maps_join (k ∷ ks) ls = ap (λ ds. key_hash k ∷ ds) (maps_join ks ls)
 
 pub element_given : (b : Bool) (start before mid now : TextSink) (ps : Pairs) (k : List ℕ) (v : Value) (o : ℕ)
     → Begun b start ps o before → Named b before k mid → ValueSent mid v now → Begun b start (with_pair ps k v) o now
@@ -135,10 +135,10 @@ element_given true start before mid now ps k v o (us, are, at, (f, w, ds, is)) (
   (
     h ∙ g ∙ f,
     y ∙ x ∙ w,
-    e ∙ es ∙ ap (λ l. l ++ map digest (k ∷ [])) ds
-        ∙ append_assoc start.digests.items (map digest (pair_keys ps)) (map digest (k ∷ []))
-        ∙ ap (λ l. start.digests.items ++ l) (sym (maps_join (pair_keys ps) (k ∷ [])))
-        ∙ ap (λ ks. start.digests.items ++ map digest ks) (sym (keys_more ps k v)),
+    e ∙ es ∙ ap (λ l. l ++ map key_hash (k ∷ [])) ds
+        ∙ append_assoc start.key_hashes.items (map key_hash (pair_keys ps)) (map key_hash (k ∷ []))
+        ∙ ap (λ l. start.key_hashes.items ++ l) (sym (maps_join (pair_keys ps) (k ∷ [])))
+        ∙ ap (λ ks. start.key_hashes.items ++ map key_hash ks) (sym (keys_more ps k v)),
     member_next start.out.tokens before.out.tokens mid.out.tokens now.out.tokens us k u is js more,
   ),
 )
@@ -152,8 +152,8 @@ element_given false start before mid now ps k v o (us, are, (f, w, ds, is)) (g, 
     )
 
 pub document_given : (ps : Pairs) (start now new : TextSink) (o : ℕ) → DocumentBegun start ps o now
-    → Apart (map digest (pair_keys ps)) → new.form ≡ now.form → new.out.before ≡ now.out.before
-    → new.digests.items ≡ start.digests.items → new.out.tokens ≡ now.out.tokens ++ token.end_object ∷ []
+    → Apart (map key_hash (pair_keys ps)) → new.form ≡ now.form → new.out.before ≡ now.out.before
+    → new.key_hashes.items ≡ start.key_hashes.items → new.out.tokens ≡ now.out.tokens ++ token.end_object ∷ []
     → PairsSent start (one_each ps) new
 document_given ps start now new o (us, are, at, (f, w, ds, is)) apart g x e more =
     subst (λ qs. PairsSent start qs new) (sym (one_each_is ps apart)) (

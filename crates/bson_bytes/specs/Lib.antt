@@ -8,7 +8,6 @@ pub mod Putting
 pub mod Source
 pub mod Fixed
 pub mod Leaves
-pub mod Digest
 pub mod TextWritten
 pub mod Printed
 pub mod Raw

@@ -9,13 +9,13 @@ use Rattle.bson_model.specs.Normal.{InRange, PairsInRange}
 use Rattle.bson_model.specs.Value.{pair_keys, Value, Pairs, no_pairs, pair}
 use Rattle.bson_model.specs.Distinct.{AllDistinct, PairsDistinct}
 use Rattle.bson_model.specs.OrderedWriting.{writes_in_order, pairs_in_order}
-use Rattle.bson_bytes.specs.Digest.{digest}
+use Rattle.bson_scalar.specs.KeyHash.{key_hash}
 use Rattle.bson_bytes.specs.declared.text.TextSink.{TextSink}
 
 -- these tokens come after the old ones, and nothing else changes
 abbrev pub Sent : TextSink → List Token → TextSink → Type 0
 Sent old ts new = (new.form ≡ old.form) × (new.out.before ≡ old.out.before)
-    × (new.digests.items ≡ old.digests.items) × (new.out.tokens ≡ old.out.tokens ++ ts)
+    × (new.key_hashes.items ≡ old.key_hashes.items) × (new.out.tokens ≡ old.out.tokens ++ ts)
 
 -- the tree of a value, its keys in their own order
 abbrev pub TreeOf : Form → Value → Data → Type 0
@@ -46,14 +46,14 @@ items_in_turn (item d ds) = tokens_of d ++ items_in_turn ds
 abbrev pub ArrayBegun : TextSink → Pairs → TextSink → Type 0
 ArrayBegun old ps new = (us : Items) × ItemsOf old.form ps us × Sent old (begin_array ∷ items_in_turn us) new
 
--- these tokens and the digests of these keys come after the old ones, and nothing else changes
+-- these tokens and the key_hashes of these keys come after the old ones, and nothing else changes
 abbrev pub KeysSent : TextSink → List (List ℕ) → List Token → TextSink → Type 0
 KeysSent old ks ts new = (new.form ≡ old.form) × (new.out.before ≡ old.out.before)
-    × (new.digests.items ≡ old.digests.items ++ map digest ks) × (new.out.tokens ≡ old.out.tokens ++ ts)
+    × (new.key_hashes.items ≡ old.key_hashes.items ++ map key_hash ks) × (new.out.tokens ≡ old.out.tokens ++ ts)
 
 -- a document was begun, and these pairs were written
 abbrev pub DocumentBegun : TextSink → Pairs → ℕ → TextSink → Type 0
-DocumentBegun old ps o new = (us : Members) × MembersOf old.form ps us × (o ≡ length old.digests.items)
+DocumentBegun old ps o new = (us : Members) × MembersOf old.form ps us × (o ≡ length old.key_hashes.items)
     × KeysSent old (pair_keys ps) (begin_object ∷ members_in_turn us) new
 
 abbrev pub Begun : Bool → TextSink → Pairs → ℕ → TextSink → Type 0

@@ -1,14 +1,12 @@
 //! A sink that writes Extended JSON (MongoDB Extended JSON v2).
 ghost use Rattle.std.specs.Prelude.{◌≡◌, ◌≢◌, ◌≤◌, true, [], length, take, drop, string_bytes, IsTrue, OnOk};
 ghost use Rattle.std.specs.List.{AllPairs};
-ghost use Rattle.std.specs.List.Sorted.{IsStrictlyIncreasing};
 ghost use Rattle.bson_bytes.specs.Reading.{reads_bytes};
 ghost use Rattle.bson_bytes.specs.declared.keys.DuplicateKeys.TheVariants.{Replace};
 ghost use Rattle.json.specs.Print.{print as print_tokens};
 ghost use Rattle.bson_scalar.specs.Normal.{writable_scalar_in};
 ghost use Rattle.bson_scalar.specs.View.{scalar_view};
 ghost use Rattle.bson_scalar.specs.declared.form.Doubles.TheVariants.{Finite};
-ghost use Rattle.bson_bytes.specs.Digest.{digest};
 ghost use Rattle.bson_bytes.specs.Printed.{IsPrinted};
 ghost use Rattle.bson_bytes.specs.Source.{ReadsAllTo};
 
@@ -19,6 +17,7 @@ use crate::source::read_document;
 use crate::stop::Stop;
 use bson_scalar::code::put_code;
 use bson_scalar::form::{Doubles, Form};
+use bson_scalar::key_hash::{are_distinct_hashes, hash_key};
 use bson_scalar::scalar::Scalar;
 use bson_scalar::write::print_scalar_in;
 use bson_scalar::write_error::WriteError;
@@ -30,17 +29,14 @@ use bson_types::spec::BinarySubtype;
 use json::Writer;
 use std::alloc::{AllocError, Global};
 
-// Digests of keys are polynomials in this odd number.
-const BASE: u64 = 0x9E37_79B9_7F4A_7C15;
-
 /// A sink that writes the compact text of values in a form, each document's keys in their own order.
-/// It keeps a digest of each key of the open documents.
+/// It keeps a hash of each key of the open documents.
 #[derive(Drop)]
 pub struct TextSink {
     pub(crate) alloc: Global,
     pub(crate) form: Form,
     pub(crate) out: Writer,
-    pub(crate) digests: Vec<u64>,
+    pub(crate) key_hashes: Vec<u64>,
 }
 
 /// Reads all of the bytes as a document, and returns its compact text in the form, each document's
@@ -58,7 +54,7 @@ pub fn document_text(alloc: Global, form: Form, bytes: &[u8], depth: usize) -> R
         alloc,
         form,
         out: Writer::new(Vec::with_capacity(alloc, first_room(bytes))?),
-        digests: Vec::new(alloc),
+        key_hashes: Vec::new(alloc),
     };
     read_document(bytes, depth, &mut sink)?;
     Ok(into_text(sink.out))
@@ -167,7 +163,7 @@ impl ValueSink for TextSink {
         } else {
             self.out.begin_array()?;
         }
-        Ok(self.digests.len())
+        Ok(self.key_hashes.len())
     }
 
     fn name<'b>(
@@ -180,7 +176,7 @@ impl ValueSink for TextSink {
         if !is_document {
             return Ok(((), rest));
         }
-        self.digests.push(digest_of(name))?;
+        self.key_hashes.push(hash_key(name))?;
         self.out.key(name)?;
         Ok(((), rest))
     }
@@ -200,7 +196,7 @@ impl ValueSink for TextSink {
     }
 
     fn end_document(&mut self, list: usize) -> Result<(), Stop> {
-        if !pop_distinct(&mut self.digests, list) {
+        if !pop_distinct(&mut self.key_hashes, list) {
             return Err(Stop::PossibleDuplicate);
         }
         Ok(self.out.end_object()?)
@@ -228,45 +224,13 @@ fn can_be_written(value: &Scalar)
     }
 }
 
-// Removes the numbers from this index on, and returns whether no two of them are equal.
-fn pop_distinct(key_digests: &mut Vec<u64>, start: usize) -> bool
-    requires { start ≤ length key_digests.old.items }
-    ensures apart { IsTrue result → AllPairs (λ a b. a ≢ b) (drop start key_digests.old.items) }
-    ensures kept { key_digests.new.items ≡ take start key_digests.old.items }
+// Removes the hashes from this index on, and returns whether no two of them are equal.
+fn pop_distinct(hashes: &mut Vec<u64>, start: usize) -> bool
+    requires { start ≤ length hashes.old.items }
+    ensures apart { IsTrue result → AllPairs (λ a b. a ≢ b) (drop start hashes.old.items) }
+    ensures kept { hashes.new.items ≡ take start hashes.old.items }
 {
-    let apart = are_distinct(&mut key_digests.as_mut_slice()[start..]);
-    key_digests.truncate(start);
+    let apart = are_distinct_hashes(&mut hashes.as_mut_slice()[start..]);
+    hashes.truncate(start);
     apart
-}
-
-// Returns whether no two of the numbers are equal, and may change their order.
-fn are_distinct(key_digests: &mut [u64]) -> bool
-    ensures { IsTrue result → AllPairs (λ a b. a ≢ b) key_digests.old }
-{
-    key_digests.sort_unstable();
-    are_increasing(key_digests)
-}
-
-// Returns whether each number is greater than the one before it.
-fn are_increasing(key_digests: &[u64]) -> bool
-    ensures { IsTrue result → IsStrictlyIncreasing key_digests.now }
-{
-    for next in 1..key_digests.len() {
-        if key_digests[next - 1] >= key_digests[next] {
-            return false;
-        }
-    }
-    true
-}
-
-// Computes the digest of a key.
-fn digest_of(key: &str) -> u64
-    ensures { result ≡ digest key.now }
-{
-    let bytes = key.as_bytes();
-    let mut digest: u64 = 0;
-    'bytes: for at in 0..bytes.len() {
-        digest = digest.wrapping_mul(BASE).wrapping_add(bytes[at] as u64);
-    }
-    digest
 }

@@ -21,7 +21,7 @@ unset = record {
 -- a builder that is told one thing more; what else it was told stays
 abbrev pub with_year : {M D : Type 0} → ℤ → DateTimeBuilder NoYear M D → DateTimeBuilder Year M D
 with_year n b = record {
-  year = record { value = n };
+  year = record { number = n };
   month = b.month;
   day = b.day;
   time = b.time;
@@ -30,7 +30,7 @@ with_year n b = record {
 abbrev pub with_month : {Y D : Type 0} → ℕ → DateTimeBuilder Y NoMonth D → DateTimeBuilder Y Month D
 with_month n b = record {
   year = b.year;
-  month = record { value = n };
+  month = record { number = n };
   day = b.day;
   time = b.time;
 }
@@ -39,7 +39,7 @@ abbrev pub with_day : {Y M : Type 0} → ℕ → DateTimeBuilder Y M NoDay → D
 with_day n b = record {
   year = b.year;
   month = b.month;
-  day = record { value = n };
+  day = record { number = n };
   time = b.time;
 }
 
@@ -60,9 +60,9 @@ module _ {Y M D : Type 0} where
 -- the date and time that a full builder was told; what was not set of the time is 0
 abbrev pub civil_fields : DateTimeBuilder Year Month Day → Civil
 civil_fields b = record {
-  year = b.year.value;
-  month = b.month.value;
-  day = b.day.value;
+  year = b.year.number;
+  month = b.month.number;
+  day = b.day.number;
   hour = unwrap_or b.time.hour 0;
   minute = unwrap_or b.time.minute 0;
   second = unwrap_or b.time.second 0;

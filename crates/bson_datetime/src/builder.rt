@@ -13,7 +13,7 @@ use jiff::civil::Date;
 /// The year is set.
 #[derive(Drop)]
 pub struct Year {
-    value: i32,
+    number: i32,
 }
 
 /// The year is not set.
@@ -23,7 +23,7 @@ pub struct NoYear {}
 /// The month is set.
 #[derive(Drop)]
 pub struct Month {
-    value: u8,
+    number: u8,
 }
 
 /// The month is not set.
@@ -33,7 +33,7 @@ pub struct NoMonth {}
 /// The day of the month is set.
 #[derive(Drop)]
 pub struct Day {
-    value: u8,
+    number: u8,
 }
 
 /// The day of the month is not set.
@@ -95,7 +95,7 @@ impl<M, D> DateTimeBuilder<NoYear, M, D> {
         ensures { result ≡ with_year year self }
     {
         DateTimeBuilder {
-            year: Year { value: year },
+            year: Year { number: year },
             month: self.month,
             day: self.day,
             time: self.time,
@@ -112,7 +112,7 @@ impl<Y, D> DateTimeBuilder<Y, NoMonth, D> {
     {
         DateTimeBuilder {
             year: self.year,
-            month: Month { value: month },
+            month: Month { number: month },
             day: self.day,
             time: self.time,
         }
@@ -129,7 +129,7 @@ impl<Y, M> DateTimeBuilder<Y, M, NoDay> {
         DateTimeBuilder {
             year: self.year,
             month: self.month,
-            day: Day { value: day },
+            day: Day { number: day },
             time: self.time,
         }
     }
@@ -198,7 +198,7 @@ impl DateTimeBuilder<Year, Month, Day> {
         if hour > 23 || minute > 59 || second > 59 || millisecond > 999 {
             return Err(NO_SUCH_TIME);
         }
-        let day = day_number(self.year.value, self.month.value, self.day.value)?;
+        let day = day_number(self.year.number, self.month.number, self.day.number)?;
         let seconds = hour as u32 * 3600 + minute as u32 * 60 + second as u32;
         let time = seconds * 1000 + millisecond as u32;
         Ok(DateTime::from_millis(day * 86_400_000 + time as i64))

@@ -1,4 +1,5 @@
 pub mod OrdinaryKeys
+pub mod KeyHashes
 pub mod IntText
 pub mod Members
 pub mod InTurn

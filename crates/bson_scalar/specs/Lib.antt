@@ -25,6 +25,7 @@ pub mod Tokens
 pub mod View
 pub mod ElementType
 pub mod Displayed
+pub mod KeyHash
 pub mod Laws
 -- what public clauses cite of the crates below, so that a caller names this crate alone
 pub use Rattle.bson_types.specs.DbPointer

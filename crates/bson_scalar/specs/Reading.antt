@@ -232,8 +232,8 @@ single_at = single_at_in Special
 
 -- code with the scope null
 abbrev pub code_with_null_scope : Data → Data → Result Scalar Fault
-code_with_null_scope tree.null d = code_read d
-code_with_null_scope _ d = Err wrong_shape
+code_with_null_scope tree.null code_data = code_read code_data
+code_with_null_scope scope code_data = Err wrong_shape
 
 abbrev pub scalar_read_in : Doubles → Data → Result Scalar Fault
 scalar_read_in m tree.null = Ok null

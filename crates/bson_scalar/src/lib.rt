@@ -5,15 +5,16 @@
 //!
 //! In reading order: `scalar` (a scalar value) and `scalar_ref` (the same by reference, with
 //! equality, words for a hasher, texts and a copy), `form` (the two forms), `wrapper` (the table of
-//! wrapper keys), `error` and `write_error`; `shapes` (a text, an object of one key or two), `sink`
-//! (where a tree is written to: into memory, or onto a text) and `wrapped` (the shapes, written); a
-//! module for the wrappers of each subject, `ints`, `doubles`, `decimals`, `texts`, `regexes`,
-//! `ids`, `timestamps`, `dates`, `binaries`, `lone`; `read` and `write` over all of them; `code`
-//! (the keys of code with its scope); `laws`.
+//! wrapper keys), `error` and `write_error`; `tree_parts` (a string, an object of one key or two),
+//! `sink` (where a tree is written to: into memory, or onto a text) and `wrapped` (the same parts,
+//! written); a module for the wrappers of each subject, `ints`, `doubles`, `decimals`, `texts`,
+//! `regexes`, `ids`, `timestamps`, `dates`, `binaries`, `constants`; `read` and `write` over all of
+//! them; `code` (the keys of code with its scope); `key_hash` (hashes of keys); `laws`.
 #![tactic(auto)]
 
 mod binaries;
 pub mod code;
+mod constants;
 mod dates;
 mod decimals;
 pub mod doubles;
@@ -21,16 +22,16 @@ pub mod error;
 pub mod form;
 mod ids;
 mod ints;
+pub mod key_hash;
 pub mod laws;
-mod constants;
 pub mod read;
 mod regexes;
 pub mod scalar;
 pub mod scalar_ref;
-mod tree_parts;
 mod sink;
 mod texts;
 mod timestamps;
+mod tree_parts;
 mod wrapped;
 pub mod wrapper;
 pub mod write;

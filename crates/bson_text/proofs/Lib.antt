@@ -3,7 +3,7 @@ pub mod Becoming
 pub mod CodeDenials
 pub mod Denials
 pub mod Differ
-pub mod Digests
+pub mod KeyHashes
 pub mod Faults
 pub mod FirstFaults
 pub mod Keys

@@ -1,4 +1,3 @@
-pub mod Digest
 pub mod Exact
 pub mod Filtered
 pub mod Heads

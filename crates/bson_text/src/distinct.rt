@@ -1,21 +1,18 @@
-//! Whether a key stands twice.
+//! Whether keys are distinct.
 ghost use Rattle.std.specs.Prelude.{◌≡◌, ◌↔◌, map, IfOk, IsTrue, IsSorted};
 ghost use Rattle.std.specs.Cmp.Lexicographic.{slice_cmp};
-ghost use Rattle.std.specs.List.Sorted.{IsStrictlyIncreasing};
 ghost use Rattle.std.specs.Ordering.{nat_cmp};
 ghost use Rattle.json.specs.Strict.{AreDistinct};
-ghost use Rattle.bson_text.specs.Digest.{digest};
+ghost use Rattle.bson_scalar.specs.KeyHash.{key_hash};
 
+use bson_scalar::key_hash::{are_distinct_hashes, hash_key};
 use std::alloc::{AllocError, Global};
 
 // No more keys than this are compared in pairs.
 const FEW: usize = 32;
 
-// Digests of keys are sums of powers of this odd number.
-const BASE: u64 = 0x9E37_79B9_7F4A_7C15;
-
-/// Returns whether no two of the keys are equal. Of many that do not ascend the digests are put in
-/// order, and the keys only where these do not tell all of them apart.
+/// Returns whether no two of the keys are equal. If there are many and they do not ascend, their
+/// hashes are sorted, and the keys themselves only if two hashes are equal.
 pub fn are_distinct(alloc: Global, keys: &mut [&str]) -> bool
     ensures { IsTrue result ↔ AreDistinct (map (λ k. k.now) keys.old) }
 {
@@ -25,7 +22,7 @@ pub fn are_distinct(alloc: Global, keys: &mut [&str]) -> bool
     if keys.len() <= FEW {
         return differ_in_pairs(keys);
     }
-    if differ_by_digests(alloc, keys) {
+    if differ_by_hashes(alloc, keys) {
         return true;
     }
     keys.sort_unstable();
@@ -57,47 +54,22 @@ fn differ_in_pairs(keys: &[&str]) -> bool
     true
 }
 
-// Whether the digests tell all keys apart. Where memory is wanting they do not.
-fn differ_by_digests(alloc: Global, keys: &[&str]) -> bool
+// Returns whether no two keys have the same hash; false if an allocation fails.
+fn differ_by_hashes(alloc: Global, keys: &[&str]) -> bool
     ensures { IsTrue result → AreDistinct (map (λ k. k.now) keys.now) }
 {
-    match digests_of(alloc, keys) {
-        Ok(mut digests) => {
-            digests.sort_unstable();
-            rise(&digests)
-        }
+    match hashes_of(alloc, keys) {
+        Ok(mut hashes) => are_distinct_hashes(hashes.as_mut_slice()),
         Err(_) => false,
     }
 }
 
-fn digests_of(alloc: Global, keys: &[&str]) -> Result<Vec<u64>, AllocError>
-    ensures { IfOk result (λ digests. digests.items ≡ map digest (map (λ k. k.now) keys.now)) }
+fn hashes_of(alloc: Global, keys: &[&str]) -> Result<Vec<u64>, AllocError>
+    ensures { IfOk result (λ hashes. hashes.items ≡ map key_hash (map (λ k. k.now) keys.now)) }
 {
-    let mut digests = Vec::with_capacity(alloc, keys.len())?;
+    let mut hashes = Vec::with_capacity(alloc, keys.len())?;
     'keys: for at in 0..keys.len() {
-        digests.push(digest_of(keys[at]))?;
+        hashes.push(hash_key(keys[at]))?;
     }
-    Ok(digests)
-}
-
-fn digest_of(key: &str) -> u64
-    ensures { result ≡ digest key.now }
-{
-    let bytes = key.as_bytes();
-    let mut digest: u64 = 0;
-    'bytes: for at in 0..bytes.len() {
-        digest = digest.wrapping_mul(BASE).wrapping_add(bytes[at] as u64);
-    }
-    digest
-}
-
-fn rise(numbers: &[u64]) -> bool
-    ensures { IsTrue result → IsStrictlyIncreasing numbers.now }
-{
-    for next in 1..numbers.len() {
-        if numbers[next - 1] >= numbers[next] {
-            return false;
-        }
-    }
-    true
+    Ok(hashes)
 }

@@ -13,7 +13,7 @@ ghost use Rattle.bson_store.specs.Pairs.{HasDistinctKeys};
 ghost use Rattle.bson.specs.KeyOrders.{ordered, writes_by, writes_items_by, writes_pairs_by};
 ghost use Rattle.bson.specs.Texts.{Prints, GivesText, AppendsText, IsWriteErrorIn};
 ghost use Rattle.bson.specs.IsScalar.{IsScalar};
-ghost use Rattle.bson.specs.Room.{is_in_place as is_in_place_scalar, IsDirect, ValuesDirect, PairsDirect};
+ghost use Rattle.bson.specs.Room.{is_without_tree as is_scalar_without_tree, IsDirect, ValuesDirect, PairsDirect};
 ghost use Rattle.bson.specs.Room.{written_room, value_room, values_room, pairs_room, SpendsOrStops};
 ghost use Rattle.bson.specs.declared.extjson.key_order.KeyOrder.{KeyOrder as Order};
 ghost use Rattle.bson.specs.declared.extjson.key_order.KeyOrder.TheVariants.{AsGiven};
@@ -22,7 +22,7 @@ ghost use Rattle.bson.specs.View.{bson_view, scoped_view, values_view, pairs_vie
 
 use crate::bson::{Bson, JavaScriptCodeWithScope};
 use crate::document::Document;
-use crate::extjson::in_place::{is_in_place, print_in_place, put_code};
+use crate::extjson::without_tree::{is_without_tree, print_without_tree, put_code};
 use crate::extjson::key_order::KeyOrder;
 use crate::extjson::options::Options;
 use crate::extjson::scalars::has_text;
@@ -170,12 +170,12 @@ fn print_ref(
     ensures before { out.new.before ≡ out.old.before }
     ensures ranged { OnOk result (ScalarInRange (scalar_of scalar.now)) }
     ensures every { IfErr result (IsWriteErrorIn doubles) }
-    ensures room { is_in_place_scalar form (scalar_of scalar.now) ≡ true → SpendsOrStops result out.old.spare
+    ensures room { is_scalar_without_tree form (scalar_of scalar.now) ≡ true → SpendsOrStops result out.old.spare
         out.new.spare (written_room (writes_scalar_in doubles form (scalar_of scalar.now))) }
 {
     has_text(scalar);
-    if is_in_place(form, scalar) {
-        print_in_place(doubles, form, scalar, out)
+    if is_without_tree(form, scalar) {
+        print_without_tree(doubles, form, scalar, out)
     } else {
         print_scalar_in(alloc, doubles, form, scalar.to_owned(alloc)?, out)
     }

@@ -1,6 +1,6 @@
 use Rattle.std.proofs.Common.{◌≢◌, refl, ◌∙◌, subst, arith, map}
 use Rattle.std.specs.List.{AllPairs}
-use Rattle.bson_bytes.specs.Digest.{digest}
+use Rattle.bson_scalar.specs.KeyHash.{key_hash}
 use Rattle.bson_model.specs.Value.{pair_keys}
 use Rattle.bson_bytes.specs.declared.text.TextSink.{TextSink}
 use Rattle.bson_bytes.proofs.Apart.{all_apart, taken, dropped, within}
@@ -10,18 +10,18 @@ use Rattle.bson_bytes.proofs.text.TextSinkValueSink.end_document.Goals as goal
 pub pop_distinct-requires : goal.pop_distinct-requires
 pop_distinct-requires c =
     let begun = c.requires.2 in
-    within c.args.self.now.digests.items c.requires.0.digests.items (map digest (pair_keys c.requires.1)) c.args.list
+    within c.args.self.now.key_hashes.items c.requires.0.key_hashes.items (map key_hash (pair_keys c.requires.1)) c.args.list
     begun.3.2 begun.2
 
 pub returns-clause-given : goal.returns-clause-given
 returns-clause-given c = λ start ps begun.
     let now = c.args.self.now in
-    let new : TextSink = record { alloc = now.alloc; form = now.form; out = c.end_object.new.self; digests = c.pop_distinct.new.key_digests } in
+    let new : TextSink = record { alloc = now.alloc; form = now.form; out = c.end_object.new.self; key_hashes = c.pop_distinct.new.key_digests } in
     let at = begun.2 in
     let ds = begun.3.2 in
-    let more = map digest (pair_keys ps) in
-    let apart = subst (AllPairs (λ a b. a ≢ b)) (dropped now.digests.items start.digests.items more c.args.list ds at)
+    let more = map key_hash (pair_keys ps) in
+    let apart = subst (AllPairs (λ a b. a ≢ b)) (dropped now.key_hashes.items start.key_hashes.items more c.args.list ds at)
     (c.pop_distinct.ensures.apart (grind arith)) in
     document_given ps start now new c.args.list begun (all_apart more apart) refl c.end_object.ensures.room.0
-    (c.pop_distinct.ensures.kept ∙ taken now.digests.items start.digests.items more c.args.list ds at)
+    (c.pop_distinct.ensures.kept ∙ taken now.key_hashes.items start.key_hashes.items more c.args.list ds at)
     c.in_ok-end_object.ensures.ok

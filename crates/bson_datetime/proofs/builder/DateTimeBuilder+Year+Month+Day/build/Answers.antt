@@ -20,13 +20,13 @@ exact day time dr tr =
 -- the date and time that was told exists
 told_exists : goal.returns-clause-exists
 told_exists c =
-    let fy : FitsSigned w32 c.args.self.year.value = search rules in
+    let fy : FitsSigned w32 c.args.self.year.number = search rules in
     let date = rw (to_z-of_z fy) at (c.in_ok-day.ensures.exists.0 refl) in
     (λ ok. (date, omega arith, omega arith, omega arith, omega arith), λ reported. refl)
 
 moment : goal.returns-clause-value
 moment c =
-    let fy : FitsSigned w32 c.args.self.year.value = search rules in
+    let fy : FitsSigned w32 c.args.self.year.number = search rules in
     let day = rw (to_z-of_z fy) at c.in_ok-day.ensures.value in
     let time =
     (c.unwrap_or-hour.result * 3600 + c.unwrap_or-minute.result * 60 + c.unwrap_or-second.result) * 1000

@@ -1,6 +1,0 @@
-use Rattle.std.proofs.Common.{◌≡◌}
-use Rattle.bson_text.specs.Digest.{digest_of_first}
-use Rattle.bson_text.proofs.distinct.digest_of.Given as goal
-
-abbrev pub invariant-bytes : goal.invariant-bytes
-invariant-bytes l = l.digest ≡ digest_of_first l.key l.at
