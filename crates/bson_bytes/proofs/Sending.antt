@@ -8,7 +8,7 @@ use Rattle.json.specs.Token.{Token}
 use Rattle.json.specs.Tree.{items_tokens, members_tokens}
 use Rattle.json.specs.declared.Writer.{Writer}
 use Rattle.serde_json.specs.Data.{Data, Items, no_items, item, Members, no_members, member, array, object}
-use Rattle.bson_scalar.specs.Tokens.{tokens_of, code_tokens, added, members_in_turn}
+use Rattle.bson_scalar.specs.Tokens.{tokens_of, code_tokens, tokens_added, members_in_turn}
 use Rattle.bson_scalar.specs.TreeText.{items_outline, members_outline}
 use Rattle.bson_scalar.specs.declared.form.Doubles.TheVariants.{Finite}
 use Rattle.bson_scalar.specs.declared.form.Form.{Form}
@@ -86,10 +86,10 @@ keys_more no_pairs k v = refl
 keys_more (pair l w ps) k v = ap (λ ks. l ∷ ks) (keys_more ps k v)
 
 members_more : (f : Form) (ps : Pairs) (us : Members) (k : List ℕ) (v : Value) (d : Data) → MembersOf f ps us
-    → TreeOf f v d → MembersOf f (with_pair ps k v) (added us k d)
-members_more f no_pairs us k v d h t = (d, no_members, ap (λ x. added x k d) h, t, refl)
+    → TreeOf f v d → MembersOf f (with_pair ps k v) (tokens_added us k d)
+members_more f no_pairs us k v d h t = (d, no_members, ap (λ x. tokens_added x k d) h, t, refl)
 members_more f (pair l w ps) us k v d (e, ms, is, tree, rest) t =
-    (e, added ms k d, ap (λ x. added x k d) is, tree, members_more f ps ms k v d rest t)
+    (e, tokens_added ms k d, ap (λ x. tokens_added x k d) is, tree, members_more f ps ms k v d rest t)
 
 members_are : (f : Form) (ps : Pairs) (us : Members) → MembersOf f ps us → Apart (map key_hash (pair_keys ps))
     → (pairs_in_order Finite f ps ≡ Ok us) × PairsInRange ps × PairsDistinct ps
@@ -99,7 +99,7 @@ members_are f (pair k v ps) us (d, ms, is, (w, r, a), rest) apart =
     (rw (w, g.0) (ap Ok (sym is)), (r, g.1), (has_none k ps apart.0, a, g.2))
 
 members_snoc : (us : Members) (k : List ℕ) (d : Data)
-    → members_in_turn (added us k d) ≡ (members_in_turn us ++ token.key k ∷ []) ++ tokens_of d
+    → members_in_turn (tokens_added us k d) ≡ (members_in_turn us ++ token.key k ∷ []) ++ tokens_of d
 members_snoc no_members k d = ap (λ l. token.key k ∷ l) (append-nil (tokens_of d))
 members_snoc (member l e us) k d =
     ap (λ x. token.key l ∷ (tokens_of e ++ x)) (members_snoc us k d)
@@ -109,7 +109,7 @@ members_snoc (member l e us) k d =
 -- a key and the tree under it
 member_next : (old before mid new : List Token) (us : Members) (k : List ℕ) (d : Data)
     → before ≡ old ++ token.begin_object ∷ members_in_turn us → mid ≡ before ++ token.key k ∷ []
-    → new ≡ mid ++ tokens_of d → new ≡ old ++ token.begin_object ∷ members_in_turn (added us k d)
+    → new ≡ mid ++ tokens_of d → new ≡ old ++ token.begin_object ∷ members_in_turn (tokens_added us k d)
 member_next old before mid new us k d is key tree =
     let members = members_in_turn us in
     in_turn old (token.begin_object ∷ (members ++ token.key k ∷ [])) mid (tokens_of d) new
@@ -129,7 +129,7 @@ maps_join (k ∷ ks) ls = ap (λ ds. key_hash k ∷ ds) (maps_join ks ls)
 pub element_given : (b : Bool) (start before mid now : TextSink) (ps : Pairs) (k : List ℕ) (v : Value) (o : ℕ)
     → Begun b start ps o before → Named b before k mid → ValueSent mid v now → Begun b start (with_pair ps k v) o now
 element_given true start before mid now ps k v o (us, are, at, (f, w, ds, is)) (g, x, es, js) (u, tree, (h, y, e, more)) = (
-  added us k u,
+  tokens_added us k u,
   members_more start.form ps us k v u are (subst (λ m. TreeOf m v u) (g ∙ f) tree),
   at,
   (

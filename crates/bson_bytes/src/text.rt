@@ -225,12 +225,12 @@ fn can_be_written(value: &Scalar)
 }
 
 // Removes the hashes from this index on, and returns whether no two of them are equal.
-fn pop_distinct(hashes: &mut Vec<u64>, start: usize) -> bool
-    requires { start ≤ length hashes.old.items }
-    ensures apart { IsTrue result → AllPairs (λ a b. a ≢ b) (drop start hashes.old.items) }
-    ensures kept { hashes.new.items ≡ take start hashes.old.items }
+fn pop_distinct(key_hashes: &mut Vec<u64>, start: usize) -> bool
+    requires { start ≤ length key_hashes.old.items }
+    ensures apart { IsTrue result → AllPairs (λ a b. a ≢ b) (drop start key_hashes.old.items) }
+    ensures kept { key_hashes.new.items ≡ take start key_hashes.old.items }
 {
-    let apart = are_distinct_hashes(&mut hashes.as_mut_slice()[start..]);
-    hashes.truncate(start);
+    let apart = are_distinct_hashes(&mut key_hashes.as_mut_slice()[start..]);
+    key_hashes.truncate(start);
     apart
 }

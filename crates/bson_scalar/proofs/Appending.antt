@@ -5,7 +5,7 @@ use Rattle.json.specs.Token.{Token, begin_object, end_object, key}
 use Rattle.json.specs.Tree.{members_tokens}
 use Rattle.serde_json.specs.Data.{Data, Members, no_members, member, object}
 use Rattle.bson_scalar.specs.TreeText.{members_outline}
-use Rattle.bson_scalar.specs.Tokens.{tokens_of, added, members_in_turn}
+use Rattle.bson_scalar.specs.Tokens.{tokens_of, tokens_added, members_in_turn}
 use Rattle.bson_scalar.proofs.InTurn.{in_turn}
 
 -- what an Ok holds, brought further
@@ -21,7 +21,7 @@ pub keyed_next : (old mid new : List Token) (ms : Members) (k : List ℕ) → mi
 keyed_next old mid new ms k p q = in_turn old (begin_object ∷ members_in_turn ms) mid (key k ∷ []) new p q
 
 members_snoc : (ms : Members) (k : List ℕ) (d : Data)
-    → members_in_turn (added ms k d) ≡ (members_in_turn ms ++ key k ∷ []) ++ tokens_of d
+    → members_in_turn (tokens_added ms k d) ≡ (members_in_turn ms ++ key k ∷ []) ++ tokens_of d
 members_snoc no_members k d = ap (λ l. key k ∷ l) (append-nil (tokens_of d))
 members_snoc (member l e ms) k d =
     ap (λ x. key l ∷ (tokens_of e ++ x)) (members_snoc ms k d)
@@ -31,7 +31,7 @@ members_snoc (member l e ms) k d =
 -- the tree under a key
 pub member_next : (old mid new : List Token) (ms : Members) (k : List ℕ) (d : Data)
     → mid ≡ old ++ begin_object ∷ (members_in_turn ms ++ key k ∷ []) → new ≡ mid ++ tokens_of d
-    → new ≡ old ++ begin_object ∷ members_in_turn (added ms k d)
+    → new ≡ old ++ begin_object ∷ members_in_turn (tokens_added ms k d)
 member_next old mid new ms k d p q =
     in_turn old (begin_object ∷ (members_in_turn ms ++ key k ∷ [])) mid (tokens_of d) new p q
     ∙ ap (λ l. old ++ begin_object ∷ l) (sym (members_snoc ms k d))

@@ -24,7 +24,7 @@ use Rattle.bson_scalar.specs.Means.{MeansScalar, MeansScalarIn, MeansFinite}
 use Rattle.bson_scalar.specs.Means as means
 use Rattle.bson_scalar.specs.Normal.{normal_scalar, scalar_as_read, int64_as_read, writable_scalar_in, ScalarInRange}
 use Rattle.bson_scalar.specs.Normal.{IsReadScalarIn}
-use Rattle.bson_scalar.specs.Reading.{code_with_null_scope, single_in, single_at_in, scalar_read_in}
+use Rattle.bson_scalar.specs.Reading.{code_if_scope_is_null, single_in, single_at_in, scalar_read_in}
 use Rattle.bson_scalar.specs.Regexes.{regex_tree}
 use Rattle.bson_scalar.specs.Scalar.{Scalar, null, undefined, min_key, max_key, boolean, double, int32, int64, text}
 use Rattle.bson_scalar.specs.Scalar.{symbol, code, regex, timestamp, binary, object_id, date, decimal, db_pointer}
@@ -110,7 +110,7 @@ guarded : (b : Bool) (r : Result Scalar Fault) (x : Scalar) → cond b r (Err wr
 guarded true r x h = (refl, h)
 guarded false r x h = cc
 
-code_text : (e d : Data) (x : Scalar) → code_with_null_scope e d ≡ Ok x
+code_text : (e d : Data) (x : Scalar) → code_if_scope_is_null e d ≡ Ok x
     → MeansScalar (object_of_two (codes "$code") d (codes "$scope") e) x
 code_text tree.null d x h =
     let t = inverse.text_then d _ x h in
@@ -124,7 +124,7 @@ code_text (tree.array ds) d x h = cc
 code_text (tree.object ms) d x h = cc
 
 scope_from : (k l : List ℕ) (d e : Data) (x : Scalar)
-    → cond (bytes_eq k (codes "$code") && bytes_eq l (codes "$scope")) (code_with_null_scope e d) (Err wrong_shape) ≡ Ok x
+    → cond (bytes_eq k (codes "$code") && bytes_eq l (codes "$scope")) (code_if_scope_is_null e d) (Err wrong_shape) ≡ Ok x
     → MeansScalar (object_of_two k d l e) x
 scope_from k l d e x h =
     let g = guarded _ _ x h in

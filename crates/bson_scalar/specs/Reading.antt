@@ -231,9 +231,9 @@ abbrev pub single_at : Option Wrapper → Data → Result Scalar Fault
 single_at = single_at_in Special
 
 -- code with the scope null
-abbrev pub code_with_null_scope : Data → Data → Result Scalar Fault
-code_with_null_scope tree.null code_data = code_read code_data
-code_with_null_scope scope code_data = Err wrong_shape
+abbrev pub code_if_scope_is_null : Data → Data → Result Scalar Fault
+code_if_scope_is_null tree.null code_member = code_read code_member
+code_if_scope_is_null scope code_member = Err wrong_shape
 
 abbrev pub scalar_read_in : Doubles → Data → Result Scalar Fault
 scalar_read_in m tree.null = Ok null
@@ -242,5 +242,5 @@ scalar_read_in m (tree.number n) = number_read_in m n
 scalar_read_in m (tree.string s) = Ok (text s)
 scalar_read_in m (tree.object (member k d no_members)) = single_at_in m (wrapper_of k) d
 scalar_read_in m (tree.object (member k d (member l e no_members))) =
-    if bytes_eq k (codes "$code") && bytes_eq l (codes "$scope") then code_with_null_scope e d else Err wrong_shape
+    if bytes_eq k (codes "$code") && bytes_eq l (codes "$scope") then code_if_scope_is_null e d else Err wrong_shape
 scalar_read_in m _ = Err wrong_shape

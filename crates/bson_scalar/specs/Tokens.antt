@@ -11,9 +11,9 @@ abbrev pub code_tokens : List ℕ → List Token
 code_tokens s = begin_object ∷ key (codes "$code") ∷ string s ∷ key (codes "$scope") ∷ []
 
 -- the members with one more, last
-abbrev pub added : Members → List ℕ → Data → Members
-added no_members k d = member k d no_members
-added (member l e ms) k d = member l e (added ms k d)
+abbrev pub tokens_added : Members → List ℕ → Data → Members
+tokens_added no_members k d = member k d no_members
+tokens_added (member l e ms) k d = member l e (tokens_added ms k d)
 
 -- the tokens of each key and its tree in turn
 abbrev pub members_in_turn : Members → List Token

@@ -5,7 +5,7 @@ ghost use Rattle.serde_json.specs.Data.{Data, null, boolean, number, string, obj
 ghost use Rattle.serde_json.specs.Data.{Members, no_members, put};
 ghost use Rattle.serde_json.specs.Find.{of_integer};
 ghost use Rattle.bson_double.specs.Doubles.{is_finite};
-ghost use Rattle.bson_scalar.specs.Tokens.{added};
+ghost use Rattle.bson_scalar.specs.Tokens.{tokens_added};
 ghost use Rattle.bson_scalar.specs.Written.{number_tree};
 
 use json::Writer;
@@ -93,8 +93,8 @@ pub(crate) trait Sink {
     // above all others.
     fn member(&mut self, key: Self::Key, tree: Self::Tree) -> Result<Self::Map, AllocError>
         ensures written { IfOk result (λ m. (start mid : Self) (ms : Members) (k : List ℕ) (d : Data)
-            → keyed start ms k key mid → wrote mid d tree self.old → put k d ms ≡ added ms k d
-            → mapped start (added ms k d) m self.new) }
+            → keyed start ms k key mid → wrote mid d tree self.old → put k d ms ≡ tokens_added ms k d
+            → mapped start (tokens_added ms k d) m self.new) }
         ensures before { before self.new ≡ before self.old };
 
     // Ends a map.

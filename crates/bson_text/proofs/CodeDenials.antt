@@ -27,7 +27,7 @@ use Rattle.bson_model.specs.Kept.{kept_items, kept_members, unordered}
 use Rattle.bson_model.specs.OrderedReading.{reads_in_order, members_in_order, scope_in_order}
 use Rattle.bson_model.proofs.OfferedInOrder.{forgotten}
 use Rattle.bson_tokens.specs.Held.{IsHeldAs}
-use Rattle.bson_tokens.specs.Parts.{IsBroken}
+use Rattle.bson_tokens.specs.Parts.{InvalidMeansNone}
 use Rattle.bson_tokens.proofs.Offered.{was_read as from_tree}
 use Rattle.bson_text.specs.Walked.{inside, from_key, ScopeMeans}
 use Rattle.bson_text.proofs.Objects.{begins}
@@ -62,7 +62,7 @@ module _ (D : Doubles) (L S : Type 0) where
   -- ---- wrappers
 
   pub held_broken : (err : Error) (depth : ℕ) (k : List ℕ) (ts : List Token)
-      → IsBroken (converted of_json (value depth ts)) err → ObjectDenied D L S (stop_of err) (from_key depth (Some k) ts)
+      → InvalidMeansNone (converted of_json (value depth ts)) err → ObjectDenied D L S (stop_of err) (from_key depth (Some k) ts)
   held_broken json_error.OutOfMemory depth k ts broken ms r is d = d
   held_broken json_error.TooLong depth k ts broken ms r is d = d
   held_broken json_error.DuplicateKey depth k ts broken ms r is d = d

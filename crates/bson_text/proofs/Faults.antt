@@ -32,7 +32,7 @@ use Rattle.bson_tokens.proofs.Offered.{Is, is_found}
 use Rattle.bson_text.proofs.Objects.{step_more}
 use Rattle.bson_text.proofs.Denials.{mapped_parse, then_parsed, split_kept, mapped}
 use Rattle.bson_text.specs.Placed.{IsUnder, Rises, ItemsRise, MembersRise, trees_of, any_wrapper, FirstPlain, IsOf}
-use Rattle.bson_text.specs.Placed.{IsShapeFault, IsPlaceWithin, Elemented, AtKey, Membered, verdict_of}
+use Rattle.bson_text.specs.Placed.{IsShapeFault, IsPlaceWithin, ElementStops, AtKey, MemberStops, verdict_of}
 use Rattle.bson_text.specs.Placed.{ValuePlaced, ItemsPlaced, MembersPlaced, ObjectPlaced}
 use Rattle.bson_text.specs.declared.stop.Stop.{Stop}
 use Rattle.bson_text.proofs.Passing.{at_map}
@@ -115,7 +115,7 @@ module _ (D : Doubles) where
 
   pub items_placed : (e f : Stop) (whole : Option (json.Items × List Token)) (depth n place : ℕ) (ts mid rest : List Token)
       → after_end_array ts ≡ None → ItemsFrom whole (items (value depth) n ts) place → ValuePlaced D e (value depth ts) mid
-      → Elemented depth place e mid f rest → ItemsPlaced D f whole rest
+      → ElementStops depth place e mid f rest → ItemsPlaced D f whole rest
   items_placed e f whole depth zero place ts mid rest going from at out = at_map f _ _ (λ q h js r ds whole_is rise of.
       let g = from js r ds whole_is rise of in
       absurd (never {A = json.Items × List Token} (items (value depth) zero ts) (g.0, r) (items_zero (value depth) ts) g.2)) out
@@ -292,7 +292,7 @@ module _ (D : Doubles) where
   pub member_placed : (e f : Stop) (b : Bool) (whole : Option (json.Members × List Token)) (depth n : ℕ) (k : List ℕ)
       (ts mid rest : List Token) → (b ≡ true → wrapper_of k ≡ None)
       → MembersFrom b whole (members_step (value depth) (members (value depth) n) (Some k) ts)
-      → ValuePlaced D e (value depth ts) mid → Membered depth b k e mid f rest → MembersPlaced D f b whole rest
+      → ValuePlaced D e (value depth ts) mid → MemberStops depth b k e mid f rest → MembersPlaced D f b whole rest
   member_placed e f b whole depth n k ts mid rest plain from at out = at_map f _ _ (λ q (p, has, is, passed, seen) ms r ds whole_is rise of first.
       let P = value depth in
       let g = from ms r ds whole_is rise of in

@@ -95,8 +95,8 @@ MembersPassed depth ts has rest = (n : ℕ) (ms : json.Members) (r : List Token)
     → (rest ≡ r) × (has ≡ any_wrapper ms)
 
 -- a fault of an element, seen from its array
-abbrev pub Elemented : ℕ → ℕ → Stop → List Token → Stop → List Token → Type 0
-Elemented depth n old ts new rest = At new (λ q. (p : Box Place Global) × (old ≡ stop.Fault p) × IsPlaceWithin (element n) p.value q
+abbrev pub ElementStops : ℕ → ℕ → Stop → List Token → Stop → List Token → Type 0
+ElementStops depth n old ts new rest = At new (λ q. (p : Box Place Global) × (old ≡ stop.Fault p) × IsPlaceWithin (element n) p.value q
     × ItemsPassed depth ts rest)
 
 -- A fault of the value at a key, seen from its object. If a document has a wrapper key after it, that is the fault.
@@ -104,8 +104,8 @@ abbrev pub AtKey : Bool → List ℕ → Place → Place → Type 0
 AtKey true k p q = IsShapeFault q
 AtKey false k p q = IsPlaceWithin (key k) p q
 
-abbrev pub Membered : ℕ → Bool → List ℕ → Stop → List Token → Stop → List Token → Type 0
-Membered depth is_document k old ts new rest = At new (λ q. (p : Box Place Global) × (has : Bool) × (old ≡ stop.Fault p)
+abbrev pub MemberStops : ℕ → Bool → List ℕ → Stop → List Token → Stop → List Token → Type 0
+MemberStops depth is_document k old ts new rest = At new (λ q. (p : Box Place Global) × (has : Bool) × (old ≡ stop.Fault p)
     × MembersPassed depth ts has rest × AtKey (is_document && has) k p.value q)
 
 -- a fault at a wrapper's key, seen from its object

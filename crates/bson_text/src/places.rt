@@ -8,7 +8,7 @@ ghost use Rattle.serde_json.specs.View.{view};
 ghost use Rattle.bson_text.specs.declared.stop.Stop.{Stop as Stopped};
 ghost use Rattle.bson_scalar.specs.Table.{wrapper_of};
 ghost use Rattle.bson_tree.specs.Place.{path_of, segment_of, key as key_segment};
-ghost use Rattle.bson_text.specs.Placed.{Elemented, Membered, IsScalarFault, ItemsPassed, MembersPassed, Keyed, IsShapeFaultPassed};
+ghost use Rattle.bson_text.specs.Placed.{ElementStops, MemberStops, IsScalarFault, ItemsPassed, MembersPassed, Keyed, IsShapeFaultPassed};
 ghost use Rattle.bson_text.specs.Placed.{At, IsShapeFault, NoFault, IsEnded, InScope};
 ghost use Rattle.bson_text.specs.Stops.{read_stop, IsStopAfter, Becomes, IsOfReading};
 ghost use Rattle.bson_text.specs.declared.stop.Stop.TheVariants.{Syntax};
@@ -113,7 +113,7 @@ fn or_wrapper(first: Option<Wrapper>, key: &str) -> Option<Wrapper>
 
 // The stop of an element, seen from its array.
 pub(crate) fn in_element(reader: &mut Reader<'_>, depth: usize, at: usize, stop: Stop) -> Stop
-    ensures placed { Elemented depth at stop reader.old result reader.new }
+    ensures placed { ElementStops depth at stop reader.old result reader.new }
     ensures kind { Becomes stop result }
 {
     match stop {
@@ -142,7 +142,7 @@ pub(crate) fn in_member(
     key: &str,
     stop: Stop,
 ) -> Stop
-    ensures placed { Membered level.depth is_document key.now stop reader.old result reader.new }
+    ensures placed { MemberStops level.depth is_document key.now stop reader.old result reader.new }
     ensures kind { Becomes stop result }
 {
     match stop {

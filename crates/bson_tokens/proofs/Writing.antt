@@ -10,7 +10,7 @@ use Rattle.json.specs.Token.{Token}
 use Rattle.json.specs.Tree.{json_tokens}
 use Rattle.json.proofs.Grammar.{left, skip_value-shorter}
 use Rattle.serde_json.specs.Written.{comma_if}
-use Rattle.bson_tokens.specs.Parts.{IsBroken}
+use Rattle.bson_tokens.specs.Parts.{InvalidMeansNone}
 use Rattle.json.specs.declared.error.Error.{Error}
 use Rattle.bson_tokens.specs.Normalized.{normalized, normalized_items, normalized_members, put_by}
 use Rattle.bson_tokens.specs.Normalizing.{Added, Closed, Entry, Passes, elements, inside, sound}
@@ -31,8 +31,8 @@ all_breaks f g (Some p) left e none = let never = e ∙ ap (option_map g) none i
 
 -- an answer tells that the one breaks, and so the other does
 pub breaks : {A B X : Type 0} (r : Result X Error) (a : Option A) (b : Option B) → (a ≡ None → b ≡ None)
-    → IfErr r (IsBroken a) → IfErr r (IsBroken b)
-breaks r a b so h = IfErr-weaker r (IsBroken a) (IsBroken b) (λ e none broken. so (none broken)) h
+    → IfErr r (InvalidMeansNone a) → IfErr r (InvalidMeansNone b)
+breaks r a b so h = IfErr-weaker r (InvalidMeansNone a) (InvalidMeansNone b) (λ e none broken. so (none broken)) h
 
 came_from : {A X : Type 0} (f : A → X) (o : Option A) (x : X) → option_map f o ≡ Some x
     → (a : A) × (o ≡ Some a) × (f a ≡ x)

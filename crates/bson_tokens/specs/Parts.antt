@@ -8,8 +8,8 @@ use Rattle.json.specs.declared.error.Error.{Error}
 use Rattle.json.specs.declared.error.Error.TheVariants.{Invalid}
 
 -- no tree was read, unless memory ran out
-abbrev pub IsBroken : {X : Type 0} → Option X → Error → Type 0
-IsBroken tree e = e ≡ Invalid → tree ≡ None
+abbrev pub InvalidMeansNone : {X : Type 0} → Option X → Error → Type 0
+InvalidMeansNone tree e = e ≡ Invalid → tree ≡ None
 
 -- the members are read to the end of the object, beside those before them
 abbrev pub MembersAre : ℕ → Members → List Token → Members → List Token → Type 0

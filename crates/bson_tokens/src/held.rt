@@ -5,7 +5,7 @@ ghost use Rattle.serde_json.specs.Data.{no_members};
 ghost use Rattle.serde_json.specs.Read.{of_json, of_items, of_members, converted};
 ghost use Rattle.serde_json.specs.View.{view, members_view};
 ghost use Rattle.bson_tokens.specs.Held.{IsHeldAs, IsPruned, ArePassed, AreKept, entered, kept_of, or_empty};
-ghost use Rattle.bson_tokens.specs.Parts.{IsBroken, NoMembers};
+ghost use Rattle.bson_tokens.specs.Parts.{InvalidMeansNone, NoMembers};
 ghost use Rattle.json.specs.declared.error.Error.TheVariants.{Invalid};
 
 use crate::start::{Start, primitive_value, read_start};
@@ -32,7 +32,7 @@ const MAX_KEYS: usize = 2;
 pub fn read_held(alloc: Global, reader: &mut Reader<'_>, depth: usize) -> Result<Value, Error>
     ensures ok { IfOk result
         (λ held. IsHeldAs (converted of_json (value depth reader.old)) (view held) reader.new) }
-    ensures broken { IfErr result (IsBroken (converted of_json (value depth reader.old))) }
+    ensures broken { IfErr result (InvalidMeansNone (converted of_json (value depth reader.old))) }
     ensures shorter { OnOk result (length reader.new < length reader.old) }
 {
     held_value(alloc, reader, depth, LEVELS)
@@ -47,7 +47,7 @@ fn held_value(
 ) -> Result<Value, Error>
     ensures ok { IfOk result
         (λ held. IsPruned levels (converted of_json (value depth reader.old)) (view held) reader.new) }
-    ensures broken { IfErr result (IsBroken (converted of_json (value depth reader.old))) }
+    ensures broken { IfErr result (InvalidMeansNone (converted of_json (value depth reader.old))) }
     ensures shorter { OnOk result (length reader.new < length reader.old) }
 {
     let start = read_start(reader, depth)?;
@@ -67,7 +67,7 @@ fn pass_items(alloc: Global, reader: &mut Reader<'_>, depth: usize) -> Result<()
     ensures ok { OnOk result
         (ArePassed (converted of_items (items (value depth) (length reader.old) reader.old)) reader.new) }
     ensures broken { IfErr result
-        (IsBroken (converted of_items (items (value depth) (length reader.old) reader.old))) }
+        (InvalidMeansNone (converted of_items (items (value depth) (length reader.old) reader.old))) }
     ensures shorter { OnOk result (length reader.new < length reader.old) }
 {
     'items: while !reader.take_end_array() {

@@ -4,7 +4,7 @@ ghost use Rattle.json.specs.Json.{array, object, value};
 ghost use Rattle.json.specs.Json as json;
 ghost use Rattle.json.specs.Print.{IsNumber};
 ghost use Rattle.serde_json.specs.Read.{read};
-ghost use Rattle.bson_tokens.specs.Parts.{IsBroken};
+ghost use Rattle.bson_tokens.specs.Parts.{InvalidMeansNone};
 ghost use Rattle.bson_tokens.specs.Normalized.{IsNormalizedText, normalized};
 ghost use Rattle.bson_tokens.specs.Normalizing.{Passes, ValueAdded, elements, in_range, inside, sound};
 ghost use Rattle.bson_tokens.specs.Normalizing.{ranged, ranged_items, ranged_members};
@@ -36,7 +36,7 @@ use std::alloc::Global;
 /// ```
 pub fn normalize_text(alloc: Global, arrangement: Arrangement, text: &str) -> Result<String, Error>
     ensures ok { IfOk result (λ written. IsNormalizedText arrangement text.now (string_bytes written)) }
-    ensures broken { IfErr result (IsBroken (read text.now)) }
+    ensures broken { IfErr result (InvalidMeansNone (read text.now)) }
 {
     let mut scratch = Scratch::new(alloc);
     let mut reader = Reader::new(text, &mut scratch)?;
@@ -52,7 +52,7 @@ pub fn normalize_text(alloc: Global, arrangement: Arrangement, text: &str) -> Re
 fn write_value(reader: &mut Reader<'_>, depth: usize, out: &mut Normalizer) -> Result<(), Error>
     ensures ok { OnOk result (Passes (sound ranged (value depth reader.old)) (normalized out.old.arrangement)
         reader.new out.old out.new) }
-    ensures broken { IfErr result (IsBroken (sound ranged (value depth reader.old))) }
+    ensures broken { IfErr result (InvalidMeansNone (sound ranged (value depth reader.old))) }
 {
     let token = reader.next().ok_or(Error::Invalid)?;
     match token {
@@ -90,7 +90,7 @@ fn write_number(text: &str, out: &mut Normalizer) -> Result<(), Error>
 fn write_items(reader: &mut Reader<'_>, depth: usize, out: &mut Normalizer) -> Result<(), Error>
     ensures ok { OnOk result (Passes (sound ranged_items (elements depth reader.old))
         (λ js. normalized out.old.arrangement (array js)) reader.new out.old out.new) }
-    ensures broken { IfErr result (IsBroken (sound ranged_items (elements depth reader.old))) }
+    ensures broken { IfErr result (InvalidMeansNone (sound ranged_items (elements depth reader.old))) }
 {
     out.open(b'[')?;
     'items: while !reader.take_end_array() {
@@ -104,7 +104,7 @@ fn write_items(reader: &mut Reader<'_>, depth: usize, out: &mut Normalizer) -> R
 fn write_members(reader: &mut Reader<'_>, depth: usize, out: &mut Normalizer) -> Result<(), Error>
     ensures ok { OnOk result (Passes (sound ranged_members (inside depth reader.old))
         (λ ms. normalized out.old.arrangement (object ms)) reader.new out.old out.new) }
-    ensures broken { IfErr result (IsBroken (sound ranged_members (inside depth reader.old))) }
+    ensures broken { IfErr result (InvalidMeansNone (sound ranged_members (inside depth reader.old))) }
 {
     let start = out.begin_object()?;
     let mut spans = Vec::new(out.alloc);

@@ -1,7 +1,7 @@
 //! How the first key that stands twice is found.
 ghost use Rattle.std.specs.Prelude.{◌<◌, [], length, IfOk, IfErr, OnOk};
 ghost use Rattle.json.specs.Json.{value, items, members};
-ghost use Rattle.bson_tokens.specs.Parts.{IsBroken};
+ghost use Rattle.bson_tokens.specs.Parts.{InvalidMeansNone};
 ghost use Rattle.bson_tokens.specs.Double.{json_of, IsFirstDouble};
 ghost use Rattle.bson_tokens.specs.Found.{Finds, double, double_items, double_members};
 
@@ -29,7 +29,7 @@ use std::collections::BTreeSet;
 /// ```
 pub fn first_duplicate_key(alloc: Global, text: &str) -> Result<Option<KeyPath>, Error>
     ensures ok { IfOk result (λ path. IsFirstDouble text.now path) }
-    ensures broken { IfErr result (IsBroken (json_of text.now)) }
+    ensures broken { IfErr result (InvalidMeansNone (json_of text.now)) }
 {
     let mut scratch = Scratch::new(alloc);
     let mut reader = Reader::new(text, &mut scratch)?;
@@ -47,7 +47,7 @@ fn walk_value(
     depth: usize,
 ) -> Result<Option<KeyPath>, Error>
     ensures ok { IfOk result (λ path. Finds double (value depth reader.old) path reader.new) }
-    ensures broken { IfErr result (IsBroken (value depth reader.old)) }
+    ensures broken { IfErr result (InvalidMeansNone (value depth reader.old)) }
     ensures shorter { OnOk result (length reader.new < length reader.old) }
 {
     let token = reader.next().ok_or(Error::Invalid)?;
@@ -78,7 +78,7 @@ fn walk_items(
 ) -> Result<Option<KeyPath>, Error>
     ensures ok { IfOk result
         (λ path. Finds (double_items 0) (items (value depth) (length reader.old) reader.old) path reader.new) }
-    ensures broken { IfErr result (IsBroken (items (value depth) (length reader.old) reader.old)) }
+    ensures broken { IfErr result (InvalidMeansNone (items (value depth) (length reader.old) reader.old)) }
     ensures shorter { OnOk result (length reader.new < length reader.old) }
 {
     let mut at = 0usize;
@@ -100,7 +100,7 @@ fn walk_members(
 ) -> Result<Option<KeyPath>, Error>
     ensures ok { IfOk result
         (λ path. Finds (double_members []) (members (value depth) (length reader.old) reader.old) path reader.new) }
-    ensures broken { IfErr result (IsBroken (members (value depth) (length reader.old) reader.old)) }
+    ensures broken { IfErr result (InvalidMeansNone (members (value depth) (length reader.old) reader.old)) }
     ensures shorter { OnOk result (length reader.new < length reader.old) }
 {
     let mut keys = BTreeSet::new(alloc);

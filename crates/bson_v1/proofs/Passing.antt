@@ -11,7 +11,7 @@ use Rattle.json.specs.Token.{Token}
 use Rattle.json.specs.Token as token
 use Rattle.json.specs.declared.token.Token as found
 use Rattle.json.proofs.Grammar.{value_is}
-use Rattle.bson_tokens.specs.Parts.{IsBroken}
+use Rattle.bson_tokens.specs.Parts.{InvalidMeansNone}
 use Rattle.json.specs.declared.error.Error.{Error}
 use Rattle.bson_tokens.specs.Normalizing.{elements, inside}
 use Rattle.bson_v1.specs.Passed.{MemberPasses, PassesTokens, of_items, of_members, of_value}
@@ -37,8 +37,8 @@ all_breaks written old now (Some p) left e none = let never = e ∙ ap (whole wr
 
 -- an answer tells that the one breaks, and so the other does
 pub breaks : {A B X : Type 0} (r : Result X Error) (a : Option A) (b : Option B) → (a ≡ None → b ≡ None)
-    → IfErr r (IsBroken a) → IfErr r (IsBroken b)
-breaks r a b so h = IfErr-weaker r (IsBroken a) (IsBroken b) (λ e none broken. so (none broken)) h
+    → IfErr r (InvalidMeansNone a) → IfErr r (InvalidMeansNone b)
+breaks r a b so h = IfErr-weaker r (InvalidMeansNone a) (InvalidMeansNone b) (λ e none broken. so (none broken)) h
 
 -- ---- arrays
 

@@ -7,7 +7,7 @@ ghost use Rattle.json.specs.Reads.{token_of};
 ghost use Rattle.json.specs.Token as token;
 ghost use Rattle.serde_json.specs.Read.{read};
 ghost use Rattle.bson_tokens.specs.Double.{json_of};
-ghost use Rattle.bson_tokens.specs.Parts.{IsBroken};
+ghost use Rattle.bson_tokens.specs.Parts.{InvalidMeansNone};
 ghost use Rattle.bson_tokens.specs.Normalizing.{elements, inside};
 ghost use Rattle.bson_v1.specs.Held.{HasNoOlderShape, RestPasses, ScopeEnds, ScopePasses, onto};
 ghost use Rattle.bson_v1.specs.Passed.{MemberPasses, PassesTokens};
@@ -47,7 +47,7 @@ use std::alloc::Global;
 /// ```
 pub fn upgraded_text(alloc: Global, text: &str) -> Result<String, Error>
     ensures ok { IfOk result (λ written. IsUpgradedText text.now (string_bytes written)) }
-    ensures broken { IfErr result (IsBroken (read text.now)) }
+    ensures broken { IfErr result (InvalidMeansNone (read text.now)) }
 {
     let resolved = normalize_text(alloc, Arrangement::FirstPlaces, text)?;
     rewrite(alloc, resolved.as_str())
@@ -56,7 +56,7 @@ pub fn upgraded_text(alloc: Global, text: &str) -> Result<String, Error>
 // The text in place of one in which each key occurs once.
 fn rewrite(alloc: Global, text: &str) -> Result<String, Error>
     ensures ok { IfOk result (λ written. IsRewritten text.now (string_bytes written)) }
-    ensures broken { IfErr result (IsBroken (json_of text.now)) }
+    ensures broken { IfErr result (InvalidMeansNone (json_of text.now)) }
 {
     let mut scratch = Scratch::new(alloc);
     let mut reader = Reader::new(text, &mut scratch)?;
@@ -89,7 +89,7 @@ fn write_value<'a>(
 ) -> Result<(), Error>
     ensures ok { OnOk result
         (PassesTokens of_value (value depth reader.old) reader.new out.old.tokens out.new.tokens) }
-    ensures broken { IfErr result (IsBroken (value depth reader.old)) }
+    ensures broken { IfErr result (InvalidMeansNone (value depth reader.old)) }
     ensures before { OnOk result (out.new.before ≡ out.old.before) }
 {
     let first = reader.next().ok_or(Error::Invalid)?;
@@ -108,7 +108,7 @@ fn write_begun<'a>(
     requires { first ≢ Token.Bad → IsPrintable (token_of first) }
     ensures ok { OnOk result (PassesTokens of_value (value depth (token_of first.entry ∷ reader.old)) reader.new
         out.old.tokens out.new.tokens) }
-    ensures broken { IfErr result (IsBroken (value depth (token_of first.entry ∷ reader.old))) }
+    ensures broken { IfErr result (InvalidMeansNone (value depth (token_of first.entry ∷ reader.old))) }
     ensures before { OnOk result (out.new.before ≡ out.old.before) }
 {
     match first {
@@ -140,7 +140,7 @@ fn write_items<'a>(
 ) -> Result<(), Error>
     ensures ok { OnOk result
         (PassesTokens of_items (elements depth reader.old) reader.new out.old.tokens out.new.tokens) }
-    ensures broken { IfErr result (IsBroken (elements depth reader.old)) }
+    ensures broken { IfErr result (InvalidMeansNone (elements depth reader.old)) }
     ensures before { OnOk result (out.new.before ≡ out.old.before) }
 {
     'items: while !reader.take_end_array() {
@@ -160,7 +160,7 @@ fn write_object<'a>(
 ) -> Result<(), Error>
     ensures ok { OnOk result
         (PassesTokens of_object (inside depth reader.old) reader.new out.old.tokens out.new.tokens) }
-    ensures broken { IfErr result (IsBroken (inside depth reader.old)) }
+    ensures broken { IfErr result (InvalidMeansNone (inside depth reader.old)) }
     ensures before { OnOk result (out.new.before ≡ out.old.before) }
 {
     match hold(reader)? {
@@ -190,7 +190,7 @@ fn write_rest<'a>(
     ensures ok { OnOk result (RestPasses texts.entry depth key.now (token_of first.entry ∷ reader.old) reader.new
         out.old.tokens out.new.tokens) }
     ensures broken { IfErr result
-        (IsBroken (inside depth (token.key key.now ∷ token_of first.entry ∷ reader.old))) }
+        (InvalidMeansNone (inside depth (token.key key.now ∷ token_of first.entry ∷ reader.old))) }
     ensures before { OnOk result (out.new.before ≡ out.old.before) }
 {
     match scope_place(texts, key, first) {
@@ -213,7 +213,7 @@ fn write_scope<'a>(
     ensures ok { OnOk result (ScopePasses after_code depth key.now reader.old reader.new
         out.old.tokens out.new.tokens) }
     ensures broken { IfErr result
-        (IsBroken (inside depth (token.key key.now ∷ token.begin_object ∷ reader.old))) }
+        (InvalidMeansNone (inside depth (token.key key.now ∷ token.begin_object ∷ reader.old))) }
     ensures before { OnOk result (out.new.before ≡ out.old.before) }
 {
     if depth == 0 {
@@ -243,7 +243,7 @@ fn write_held_scope<'a>(
 ) -> Result<(), Error>
     ensures ok { OnOk result (ScopeEnds after_code depth (onto texts.entry no_members) reader.old reader.new
         out.old.tokens out.new.tokens) }
-    ensures broken { IfErr result (IsBroken (inside depth reader.old)) }
+    ensures broken { IfErr result (InvalidMeansNone (inside depth reader.old)) }
     ensures before { OnOk result (out.new.before ≡ out.old.before) }
 {
     let Some((key, first)) = next_member(reader)? else {
@@ -268,7 +268,7 @@ fn write_member<'a>(
     ensures ok { OnOk result (MemberPasses depth key.now (token_of first.entry ∷ reader.old) reader.new
         out.old.tokens out.new.tokens) }
     ensures broken { IfErr result
-        (IsBroken (inside depth (token.key key.now ∷ token_of first.entry ∷ reader.old))) }
+        (InvalidMeansNone (inside depth (token.key key.now ∷ token_of first.entry ∷ reader.old))) }
     ensures before { OnOk result (out.new.before ≡ out.old.before) }
 {
     out.key(key)?;
@@ -286,7 +286,7 @@ fn write_members<'a>(
 ) -> Result<(), Error>
     ensures ok { OnOk result
         (PassesTokens of_members (inside depth reader.old) reader.new out.old.tokens out.new.tokens) }
-    ensures broken { IfErr result (IsBroken (inside depth reader.old)) }
+    ensures broken { IfErr result (InvalidMeansNone (inside depth reader.old)) }
     ensures before { OnOk result (out.new.before ≡ out.old.before) }
 {
     'members: while let Some(key) = reader.next_key()? {
