@@ -4,7 +4,7 @@ use Rattle.std.proofs.Common.{refl, sym, ap, subst, ◌∙◌}
 use Rattle.std.proofs.lemmas.List.{append-nil}
 use Rattle.std.specs.Io.KnownBytes.{Appends, Keeps, append_known}
 use Rattle.bson_codec.specs.Documents.{EndsAt, IsOfBytes}
-use Rattle.bson_codec.specs.Diagnostics.{hint_text}
+use Rattle.bson_codec.specs.Diagnostics.{diagnostic_of}
 use Rattle.bson_codec.specs.declared.documents.Run.{Run}
 use Rattle.bson_codec.specs.declared.run_end.RunFault.{RunFault}
 use Rattle.bson_program.specs.Dump.{IsDoneDump}
@@ -36,7 +36,7 @@ pub cut_dump : (run : Run) (before after had mid holds reported said reports : O
     (fault : RunFault) (number left start documents refused : ℕ)
     → EndsAt run before after (append_known had first) mid reported said fault number left start → first ≡ [] → last ≡ []
     → Keeps mid (append_known holds last) → run.keep_going ≡ true → IsOfBytes fault
-    → Appends said reports (hint_text number start fault) → documents ≡ number → refused ≡ left + 1
+    → Appends said reports (diagnostic_of number start fault) → documents ≡ number → refused ≡ left + 1
     → IsDoneDump run before after had holds reported reports documents refused
 cut_dump run before after had mid holds reported said reports first last fault number left start documents refused h e f k going is reports_appended same counted =
     let ended : EndsAt run before after had holds reported said fault number left start = record {

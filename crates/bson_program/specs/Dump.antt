@@ -2,7 +2,7 @@
 use Rattle.std.specs.Prelude.{◌≡◌, ◌⊎◌, ◌+◌, ℕ, List, Option, true}
 use Rattle.std.specs.Io.KnownBytes.{Appends}
 use Rattle.bson_codec.specs.Documents.{DoneDocuments, EndsAt, IsOfBytes}
-use Rattle.bson_codec.specs.Diagnostics.{hint_text}
+use Rattle.bson_codec.specs.Diagnostics.{diagnostic_of}
 use Rattle.bson_codec.specs.declared.documents.Run.{Run}
 use Rattle.bson_codec.specs.declared.run_end.RunFault.{RunFault}
 
@@ -17,7 +17,7 @@ pub record IsCutDump (run : Run) (before after had holds reported reports : Opti
   pub keeps_going : run.keep_going ≡ true
   pub of_bytes : IsOfBytes fault
   pub ended : EndsAt run before after had holds reported said fault documents left start
-  pub reports_appended : Appends said reports (hint_text documents start fault)
+  pub reports_appended : Appends said reports (diagnostic_of documents start fault)
   pub counted : refused ≡ left + 1
 
 -- all documents were done; or a run that keeps going ended at one

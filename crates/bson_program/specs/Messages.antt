@@ -7,7 +7,7 @@ use Rattle.std.specs.Fmt.{decimal}
 use Rattle.std.specs.List.{flat_map, starts_with}
 use Rattle.std.specs.Str.{chars, encode_utf8_all, trim_end}
 use Rattle.std.specs.declared.io.Error.{Error}
-use Rattle.bson_codec.specs.Diagnostics.{hint_text}
+use Rattle.bson_codec.specs.Diagnostics.{diagnostic_of}
 use Rattle.bson_codec.specs.Diagnostics as documents
 use Rattle.bson_codec.specs.declared.run_end.RunEnd.{RunEnd}
 use Rattle.bson_codec.specs.declared.run_end.RunFault.{RunFault}
@@ -79,7 +79,7 @@ text_message name number fault place = text_head name number ++ codes ": " ++ wo
 abbrev pub document_words : ℕ → ℕ → RunFault → List ℕ
 document_words number start run_fault.CannotRead = documents.run_fault_message run_fault.CannotRead
 document_words number start run_fault.CannotWrite = documents.run_fault_message run_fault.CannotWrite
-document_words number start fault = hint_text number start fault
+document_words number start fault = diagnostic_of number start fault
 
 abbrev pub document_message : List ℕ → RunEnd → List ℕ
 document_message name end = head_of name ++ codes ": " ++ trim_end (document_words end.number end.start end.fault)

@@ -3,7 +3,7 @@ ghost use Rattle.std.specs.Prelude.{◌≡◌, ◌+◌, ◌↔◌, [], false, If
 ghost use Rattle.std.specs.Io.Buffered.{writer_buffer, writer_inner};
 ghost use Rattle.std.specs.Io.KnownBytes.{Appends};
 ghost use Rattle.bson_codec.specs.Documents.{EndsAt, IsOfBytes};
-ghost use Rattle.bson_codec.specs.Diagnostics.{hint_text};
+ghost use Rattle.bson_codec.specs.Diagnostics.{diagnostic_of};
 ghost use Rattle.bson_program.specs.Dump.{IsDoneDump};
 ghost use Rattle.bson_program.specs.Stops.{IsDocumentLine};
 
@@ -136,7 +136,7 @@ fn report_end<T: Write>(
     report: &mut T,
 ) -> Result<DocumentCounts, RunEnd>
     ensures reports_appended { IfOk result (λ counts. IsOfBytes end.fault
-        × Appends (T.contents report.old) (T.contents report.new) (hint_text end.number end.start end.fault)
+        × Appends (T.contents report.old) (T.contents report.new) (diagnostic_of end.number end.start end.fault)
         × (counts.documents ≡ end.number) × (counts.refused ≡ end.refused + 1)) }
     ensures fails { IfErr result (λ it. IsOfBytes it.fault → ⊥) }
 {

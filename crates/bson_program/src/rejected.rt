@@ -126,7 +126,7 @@ fn words_of(alloc: Global, invocation: &Invocation) -> Result<String, AllocError
     );
     let strict = option_if(is_strict(doubles), " --strict");
     let preprocessing = preprocessing_options(invocation.task);
-    format!(in alloc; "{mode}{sorts_keys}{strict}{taking}")
+    format!(in alloc; "{mode}{sorts_keys}{strict}{preprocessing}")
 }
 
 // The mode of a command that reads the input.
@@ -186,7 +186,7 @@ fn hint_line(alloc: Global, name: &str, hint: Hint, words: &str) -> Result<Strin
 {
     let reported = tell(alloc, hint, words)?;
     let name = show_name(alloc, name, "input")?;
-    format!(in alloc; "bson: {name} {told}")
+    format!(in alloc; "bson: {name} {reported}")
 }
 
 // What an input holds instead, and what reads it.
