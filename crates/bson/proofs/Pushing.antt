@@ -5,7 +5,7 @@ use Rattle.std.proofs.Common.{append_assoc, append-nil}
 use Rattle.std.proofs.lemmas.List.{same_from_push}
 use Rattle.bson_text.proofs.Offered.{put_in_turn, once_sorted}
 use Rattle.bson_text.specs.Stops.{MayStop, MayStopAt}
-use Rattle.bson_text.specs.Walked.{ItemsWritten, PairsWritten, once, set_pair, set_each}
+use Rattle.bson_text.specs.Walked.{ItemsWritten, PairsWritten, each_key_once, set_pair, set_each}
 use Rattle.bson_text.specs.declared.stop.Stop.{Stop}
 use Rattle.bson_text.specs.declared.stop.Stop.TheVariants.{OutOfMemory, DuplicateKey, GaveUp, Syntax, Fault}
 use Rattle.bson_model.specs.Sorted.{put_pair, sorted, sorted_items}
@@ -229,16 +229,16 @@ each_as_given no_pairs = refl
 each_as_given (pair k v ps) = ap (pair k v) (each_as_given ps)
 
 -- pairs in the order, put in turn, are the pairs put in turn and then in the order
-once_by : (o : KeyOrder) (ps : Pairs) → document_by o (each_by o ps) ≡ pairs_by o (once ps)
+once_by : (o : KeyOrder) (ps : Pairs) → document_by o (each_by o ps) ≡ pairs_by o (each_key_once ps)
 once_by Ascending ps = turns_sorted ps no_pairs ∙ sym (once_sorted ps)
-once_by AsGiven ps = ap once (each_as_given ps)
+once_by AsGiven ps = ap each_key_once (each_as_given ps)
 
 pub document_pushed : (ps : Pairs) (start mid now new : BsonWriter) (enclosing : Enclosing) (v : Vec Member Global) (d : Document)
     (outer : Container) → DocumentOpened start enclosing mid → PairsWritten ValuePushed (λ a k b. b ≡ a) ps mid now
     → now.container ≡ OfPairs v → outer ≡ enclosing.outer → document_view d ≡ document_by now.order (collected_pairs v.items)
     → new.order ≡ now.order → is_document new.container ≡ is_document outer
     → held new.container ≡ held outer ++ (key_in outer (string_bytes enclosing.key), bson.Document d) ∷ []
-    → DocumentPushed start (once ps) new
+    → DocumentPushed start (each_key_once ps) new
 document_pushed ps start mid now new enclosing v d outer (mode, is_pairs, empty, around, key) written kind after seen later
     same last =
     let (es, (order, still, items), all) = pairs_pushed ps mid now is_pairs written in
@@ -364,7 +364,7 @@ entries_set (e ∷ es) ps =
     entries_set es (insert_pair (string_bytes e.key) e.value ps)
     ∙ ap (set_each (collected_pairs es)) (set_view (string_bytes e.key) e.value ps)
 
-pub entries_once : (es : List Member) → pairs_view (put_entries es []) ≡ once (collected_pairs es)
+pub entries_once : (es : List Member) → pairs_view (put_entries es []) ≡ each_key_once (collected_pairs es)
 entries_once es = entries_set es []
 
 pub entries_turned : (es : List Member) (found : Pairs) → put_members es found ≡ put_turns (collected_pairs es) found

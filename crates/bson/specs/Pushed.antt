@@ -1,7 +1,7 @@
 -- What a writer of values in memory has pushed: for private clauses.
 use Rattle.std.specs.Prelude.{◌≡◌, ◌++◌, ◌∷◌, [], ℕ, Bool, true, false, List, map, String, string_bytes}
 use Rattle.std.specs.declared.alloc.Global.{Global}
-use Rattle.bson_text.specs.Walked.{once}
+use Rattle.bson_text.specs.Walked.{each_key_once}
 use Rattle.bson_model.specs.Sorted.{put_pair, sorted, sorted_pairs}
 use Rattle.bson_model.specs.Value.{Value, Pairs, no_pairs, pair}
 use Rattle.bson_store.specs.Small.{stored_pairs}
@@ -33,7 +33,7 @@ put_turns (pair k v ps) found = put_turns ps (put_pair k v found)
 -- the document of the pairs, each key once: of a duplicate key the last value
 abbrev pub document_by : KeyOrder → Pairs → Pairs
 document_by Ascending ps = put_turns ps no_pairs
-document_by AsGiven ps = once ps
+document_by AsGiven ps = each_key_once ps
 
 -- what a container holds, each value with its key, which an array has none of
 abbrev pub held : Container → List (List ℕ × Bson)

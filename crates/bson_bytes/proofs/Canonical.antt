@@ -35,7 +35,7 @@ use Rattle.bson_bytes.specs.Reading.{reads_bytes}
 use Rattle.bson_bytes.specs.Writing.{scalar_bytes, name_bytes, type_of, value_bytes, items_bytes}
 use Rattle.bson_bytes.specs.Writing.{list_bytes, document_bytes, FitsScalar, FitsValue, FitsItems, FitsList}
 use Rattle.bson_bytes.specs.Writing.{FitsDocument}
-use Rattle.bson_bytes.specs.Writing.{by_byte, as_written, TypedScalar, Typed, TypedItems, TypedPairs, TypedDocument}
+use Rattle.bson_bytes.specs.Writing.{by_byte, as_written, IsWellTypedScalar, IsWellTyped, AreWellTyped, PairsAreWellTyped, IsWellTypedDocument}
 use Rattle.bson_bytes.specs.Writing.{Nests, NestsItems, NestsPairs}
 use Rattle.bson_bytes.proofs.GrammarLaws.{is_read}
 use Rattle.bson_bytes.proofs.PartLaws.{ok_is}
@@ -71,7 +71,7 @@ binary_by true d b s e lt f =
     (is_old_binary d s f)
 binary_by false d b s e lt f = is_binary d b s lt (eqb-false b 2 e) f
 
-scalar_is : (x : Scalar) (d : ℕ) → FitsScalar x → TypedScalar x
+scalar_is : (x : Scalar) (d : ℕ) → FitsScalar x → IsWellTypedScalar x
     → IsValue Replace d (scalar_type x) (scalar_bytes x) (scalar (by_byte x))
 scalar_is null d f t = is_null d
 scalar_is undefined d f t = is_undefined d
@@ -145,7 +145,7 @@ element_of d k bytes list v w ps name val others =
     (is_element d (type_of v) k bytes list w ps name val others)
 
 mutual
-  value_is : (v : Value) (d : ℕ) → FitsValue v → Typed v → Nests v d
+  value_is : (v : Value) (d : ℕ) → FitsValue v → IsWellTyped v → Nests v d
       → IsValue Replace d (type_of v) (value_bytes v) (map_scalars by_byte v)
   value_is (scalar x) d f t n = scalar_is x d f t
   value_is (code_scope s ps) d f t n =
@@ -164,7 +164,7 @@ mutual
       subst (λ (q : Pairs). IsValue Replace d tag.EmbeddedDocument (framed (list_bytes ps)) (document q)) (one_each_written ps t.1)
       (is_embedded d (framed (list_bytes ps)) (as_written ps) doc tt)
 
-  items_is : (vs : Values) (d n : ℕ) → FitsItems vs → TypedItems vs → NestsItems vs d
+  items_is : (vs : Values) (d n : ℕ) → FitsItems vs → AreWellTyped vs → NestsItems vs d
       → n + length (items_bytes n vs) < 2 ^ 64 → Numbered d n vs
   items_is no_values d n f t h lt = record { pairs = no_pairs; spelled = is_empty d; are = refl }
   items_is (value v vs) d n f t h lt =
@@ -179,14 +179,14 @@ mutual
         are = ap (λ (ws : Values). value (map_scalars by_byte v) ws) rest.are;
       }
 
-  list_is : (ps : Pairs) (d : ℕ) → FitsList ps → TypedPairs ps → NestsPairs ps d → IsList Replace d (list_bytes ps) (as_written ps)
+  list_is : (ps : Pairs) (d : ℕ) → FitsList ps → PairsAreWellTyped ps → NestsPairs ps d → IsList Replace d (list_bytes ps) (as_written ps)
   list_is no_pairs d f t h = is_empty d
   list_is (pair k v ps) d f t h =
       element_of d k (value_bytes v) (list_bytes ps) v (map_scalars by_byte v) (as_written ps)
       (record { utf8 = t.0; no_zero = f.0 }) (value_is v d f.1.0 t.1 h.0) (list_is ps d f.1.1 t.2 h.1)
 
 -- what is written is read back
-pub written_read : (d : ℕ) (ps : Pairs) → FitsDocument ps → TypedDocument ps → NestsPairs ps d
+pub written_read : (d : ℕ) (ps : Pairs) → FitsDocument ps → IsWellTypedDocument ps → NestsPairs ps d
     → IsRead (suc d) (document_bytes ps) (as_written ps)
 written_read d ps f t h = record {
   elements = as_written ps;
@@ -196,7 +196,7 @@ written_read d ps f t h = record {
 }
 
 -- documents of the same bytes are read back as the same
-pub written_one : (d : ℕ) (ps qs : Pairs) → FitsDocument ps → FitsDocument qs → TypedDocument ps → TypedDocument qs
+pub written_one : (d : ℕ) (ps qs : Pairs) → FitsDocument ps → FitsDocument qs → IsWellTypedDocument ps → IsWellTypedDocument qs
     → NestsPairs ps d → NestsPairs qs d → document_bytes ps ≡ document_bytes qs → as_written ps ≡ as_written qs
 written_one d ps qs f g t u h k e =
     ok_is (as_written ps) (as_written qs)

@@ -185,40 +185,40 @@ abbrev pub as_written : Pairs → Pairs
 as_written ps = map_scalars_of_pairs by_byte ps
 
 -- what each value of the Rust types is: its numbers are in range, and its texts are UTF-8
-abbrev pub TypedScalar : Scalar → Type 0
-TypedScalar (double p) = p < 2 ^ 64
-TypedScalar (int32 z) = FitsSigned w32 z
-TypedScalar (int64 z) = FitsSigned w64 z
-TypedScalar (text s) = is_utf8 s ≡ true
-TypedScalar (symbol s) = is_utf8 s ≡ true
-TypedScalar (code s) = is_utf8 s ≡ true
-TypedScalar (regex p o) = (is_utf8 p ≡ true) × (is_utf8 o ≡ true)
-TypedScalar (timestamp t i) = (t < 2 ^ 32) × (i < 2 ^ 32)
-TypedScalar (binary k s) = subtype_byte k < 256
-TypedScalar (object_id id) = length id ≡ 12
-TypedScalar (date z) = FitsSigned w64 z
-TypedScalar (decimal128 s) = length s ≡ 16
-TypedScalar (db_pointer s id) = (is_utf8 s ≡ true) × (length id ≡ 12)
-TypedScalar x = Unit {0}
+abbrev pub IsWellTypedScalar : Scalar → Type 0
+IsWellTypedScalar (double p) = p < 2 ^ 64
+IsWellTypedScalar (int32 z) = FitsSigned w32 z
+IsWellTypedScalar (int64 z) = FitsSigned w64 z
+IsWellTypedScalar (text s) = is_utf8 s ≡ true
+IsWellTypedScalar (symbol s) = is_utf8 s ≡ true
+IsWellTypedScalar (code s) = is_utf8 s ≡ true
+IsWellTypedScalar (regex p o) = (is_utf8 p ≡ true) × (is_utf8 o ≡ true)
+IsWellTypedScalar (timestamp t i) = (t < 2 ^ 32) × (i < 2 ^ 32)
+IsWellTypedScalar (binary k s) = subtype_byte k < 256
+IsWellTypedScalar (object_id id) = length id ≡ 12
+IsWellTypedScalar (date z) = FitsSigned w64 z
+IsWellTypedScalar (decimal128 s) = length s ≡ 16
+IsWellTypedScalar (db_pointer s id) = (is_utf8 s ≡ true) × (length id ≡ 12)
+IsWellTypedScalar x = Unit {0}
 
 abbrev mutual
   -- and no key stands twice in a document
-  pub Typed : Value → Type 0
-  Typed (scalar x) = TypedScalar x
-  Typed (code_scope s ps) = (is_utf8 s ≡ true) × TypedPairs ps × (one_each ps ≡ ps)
-  Typed (array vs) = TypedItems vs
-  Typed (document ps) = TypedPairs ps × (one_each ps ≡ ps)
+  pub IsWellTyped : Value → Type 0
+  IsWellTyped (scalar x) = IsWellTypedScalar x
+  IsWellTyped (code_scope s ps) = (is_utf8 s ≡ true) × PairsAreWellTyped ps × (one_each ps ≡ ps)
+  IsWellTyped (array vs) = AreWellTyped vs
+  IsWellTyped (document ps) = PairsAreWellTyped ps × (one_each ps ≡ ps)
 
-  pub TypedItems : Values → Type 0
-  TypedItems no_values = Unit {0}
-  TypedItems (value v vs) = Typed v × TypedItems vs
+  pub AreWellTyped : Values → Type 0
+  AreWellTyped no_values = Unit {0}
+  AreWellTyped (value v vs) = IsWellTyped v × AreWellTyped vs
 
-  pub TypedPairs : Pairs → Type 0
-  TypedPairs no_pairs = Unit {0}
-  TypedPairs (pair k v ps) = (is_utf8 k ≡ true) × Typed v × TypedPairs ps
+  pub PairsAreWellTyped : Pairs → Type 0
+  PairsAreWellTyped no_pairs = Unit {0}
+  PairsAreWellTyped (pair k v ps) = (is_utf8 k ≡ true) × IsWellTyped v × PairsAreWellTyped ps
 
-abbrev pub TypedDocument : Pairs → Type 0
-TypedDocument ps = TypedPairs ps × (one_each ps ≡ ps)
+abbrev pub IsWellTypedDocument : Pairs → Type 0
+IsWellTypedDocument ps = PairsAreWellTyped ps × (one_each ps ≡ ps)
 
 abbrev mutual
   -- documents, arrays and scopes stand at most d in each other in the value

@@ -6,7 +6,7 @@ ghost use Rattle.bson_bytes.specs.Laws.{IsRead, IsReadIn};
 ghost use Rattle.bson_bytes.specs.Reading.{reads_bytes_in};
 ghost use Rattle.bson_bytes.specs.declared.keys.DuplicateKeys.{DuplicateKeys};
 ghost use Rattle.bson_bytes.specs.Writing.{document_bytes, as_written, Cause, FitsDocument, DocumentFails};
-ghost use Rattle.bson_bytes.specs.Writing.{TypedDocument, NestsPairs};
+ghost use Rattle.bson_bytes.specs.Writing.{IsWellTypedDocument, NestsPairs};
 ghost use Rattle.bson_model.specs.Value.{Pairs};
 
 /// Proves that bytes are those of a document if and only if reading them returns it. So what is no
@@ -39,13 +39,13 @@ pub fn one_document()
 /// order, the same numbers, patterns and options, and each binary under the subtype that its byte
 /// names.
 pub fn written_is_read()
-    ensures { (d : ℕ) (ps : Pairs) → FitsDocument ps → TypedDocument ps → NestsPairs ps d
+    ensures { (d : ℕ) (ps : Pairs) → FitsDocument ps → IsWellTypedDocument ps → NestsPairs ps d
         → IsRead (suc d) (document_bytes ps) (as_written ps) }
 {}
 
 /// Proves that documents that are written as the same bytes are read back as the same.
 pub fn written_is_one()
-    ensures { (d : ℕ) (ps qs : Pairs) → FitsDocument ps → FitsDocument qs → TypedDocument ps → TypedDocument qs
+    ensures { (d : ℕ) (ps qs : Pairs) → FitsDocument ps → FitsDocument qs → IsWellTypedDocument ps → IsWellTypedDocument qs
         → NestsPairs ps d → NestsPairs qs d → document_bytes ps ≡ document_bytes qs → as_written ps ≡ as_written qs }
 {}
 

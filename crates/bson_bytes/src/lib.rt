@@ -16,7 +16,7 @@ pub mod fixed;
 pub mod iter;
 pub mod keys;
 pub mod laws;
-mod leaves;
+mod scalars;
 pub mod nothing;
 pub mod parts;
 pub mod put;

@@ -4,7 +4,7 @@ ghost use Rattle.std.specs.Int.{w32, w64};
 ghost use Rattle.bson_bytes.specs.Grammar.{le, old_binary_bytes, binary_bytes};
 ghost use Rattle.bson_bytes.specs.Putting.{put_sized, put_text, put_regex, put_binary, put_pointer, put_name};
 ghost use Rattle.bson_bytes.specs.Putting.{put_room, put_length, put_end, PutsBytes};
-ghost use Rattle.bson_bytes.specs.Writing.{name_bytes, TypedScalar};
+ghost use Rattle.bson_bytes.specs.Writing.{name_bytes, IsWellTypedScalar};
 ghost use Rattle.bson_scalar.specs.Scalar as kind;
 ghost use Rattle.bson_types.specs.DbPointer.{namespace_of, id_of};
 ghost use Rattle.bson_types.specs.Subtype.{subtype_byte};
@@ -52,7 +52,7 @@ pub fn put_u64(out: &mut Vec<u8>, number: u64) -> Result<(), AllocError>
 #[inline]
 pub fn put_timestamp(out: &mut Vec<u8>, timestamp: Timestamp) -> Result<(), AllocError>
     ensures put { OnOk result (out.new.items ≡ out.old.items ++ (le w32 timestamp.increment ++ le w32 timestamp.time)) }
-    ensures typed { TypedScalar (kind.timestamp timestamp.time timestamp.increment) }
+    ensures typed { IsWellTypedScalar (kind.timestamp timestamp.time timestamp.increment) }
 {
     put_u32(out, timestamp.increment)?;
     put_u32(out, timestamp.time)
@@ -88,7 +88,7 @@ pub fn put_text(out: &mut Vec<u8>, text: &str) -> Result<(), Error>
 pub fn put_binary(out: &mut Vec<u8>, binary: &Binary) -> Result<(), Error>
     ensures put { PutsBytes result out.new.items
         (put_binary (subtype_byte binary.now.subtype) binary.now.bytes.items out.old.items) }
-    ensures typed { TypedScalar (kind.binary binary.now.subtype binary.now.bytes.items) }
+    ensures typed { IsWellTypedScalar (kind.binary binary.now.subtype binary.now.bytes.items) }
     ensures grows { OnOk result (length out.old.items ≤ length out.new.items) }
 {
     let byte = u8::from(binary.subtype);
@@ -159,7 +159,7 @@ pub fn put_regex(out: &mut Vec<u8>, regex: &Regex) -> Result<(), Error>
 #[tactic(auto, using(crate::proofs::Texts::string_utf8))]
 pub fn put_pointer(out: &mut Vec<u8>, pointer: &DbPointer) -> Result<(), Error>
     ensures put { PutsBytes result out.new.items (put_pointer (namespace_of pointer.now) (id_of pointer.now) out.old.items) }
-    ensures typed { OnOk result (TypedScalar (kind.db_pointer (namespace_of pointer.now) (id_of pointer.now))) }
+    ensures typed { OnOk result (IsWellTypedScalar (kind.db_pointer (namespace_of pointer.now) (id_of pointer.now))) }
     ensures grows { OnOk result (length out.old.items ≤ length out.new.items) }
 {
     put_text(out, pointer.namespace())?;

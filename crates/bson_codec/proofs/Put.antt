@@ -12,7 +12,7 @@ use Rattle.bson_model.specs.Value.{Value, Values, no_values, value, Pairs, no_pa
 use Rattle.bson_model.specs.Value.{code_scope}
 use Rattle.bson_bytes.specs.Putting.{Put, then, is_free, put_scalar, put_text, put_name, put_value, put_items, put_elements}
 use Rattle.bson_bytes.specs.Putting.{put_room, put_length, put_end, put_document, PutsBytes}
-use Rattle.bson_bytes.specs.Writing.{type_of, name_bytes, zero_in_key, TypedScalar, TypedItems, TypedPairs}
+use Rattle.bson_bytes.specs.Writing.{type_of, name_bytes, zero_in_key, IsWellTypedScalar, AreWellTyped, PairsAreWellTyped}
 use Rattle.bson_bytes.specs.declared.error.Error.{Error}
 use Rattle.bson_text.specs.Walked.{ItemsWritten, PairsWritten, keys_of}
 use Rattle.bson_codec.specs.Packed.{PutUnder, PutFramed, ReservesLength, ArrayUnder, CodeUnder}
@@ -24,7 +24,7 @@ unfolding put_value
 scalar_value x out new h = h
 
 pub scalar_put : (x : Scalar) (t : ElementType) (k old named new : List ℕ) → t ≡ scalar_type x
-    → named ≡ old ++ name_bytes t k → TypedScalar x → put_scalar x named ≡ Ok new → length named ≤ length new
+    → named ≡ old ++ name_bytes t k → IsWellTypedScalar x → put_scalar x named ≡ Ok new → length named ≤ length new
     → PutUnder k (scalar x) old new
 scalar_put x t k old named new kind name typed put grows =
     let longer = length-append old (name_bytes t k) in
@@ -45,7 +45,7 @@ turned (Err e) (Err d) new put same is g f = tt
 
 pub scalar_turned : {F : Type 0} (r : Result (Unit {0}) Error) (q : Result (Unit {0}) F) (x : Scalar) (t : ElementType)
     (k old named new : List ℕ) → is_ok q ≡ is_ok r → t ≡ scalar_type x → named ≡ old ++ name_bytes t k
-    → OnOk r (TypedScalar x) → PutsBytes r new (put_scalar x named) → OnOk r (length named ≤ length new)
+    → OnOk r (IsWellTypedScalar x) → PutsBytes r new (put_scalar x named) → OnOk r (length named ≤ length new)
     → OnOk q (PutUnder k (scalar x) old new)
 scalar_turned (Ok u) (Ok v) x t k old named new same kind name typed put grows =
     scalar_put x t k old named new kind name typed put grows
@@ -76,7 +76,7 @@ abbrev Wrote : ElementWriter → List ℕ → Value → ElementWriter → Type 0
 Wrote old k v new = PutUnder k v old.bytes.items new.bytes.items
 
 items_put : (n : ℕ) (vs : Values) (old new : ElementWriter) → ItemsWritten Wrote (λ i. decimal i) n vs old new
-    → TypedItems vs × (put_items n vs old.bytes.items ≡ Ok new.bytes.items)
+    → AreWellTyped vs × (put_items n vs old.bytes.items ≡ Ok new.bytes.items)
     × (length old.bytes.items ≤ length new.bytes.items)
 items_put n no_values old new is =
     let same = ap (λ (w : ElementWriter). length w.bytes.items) is in
@@ -138,7 +138,7 @@ unfolding put_elements
 last_pair out = refl
 
 pairs_put : (ps : Pairs) (old new : ElementWriter) → PairsWritten Wrote Keyed ps old new
-    → TypedPairs ps × (put_elements ps old.bytes.items ≡ Ok new.bytes.items)
+    → PairsAreWellTyped ps × (put_elements ps old.bytes.items ≡ Ok new.bytes.items)
     × (length old.bytes.items ≤ length new.bytes.items)
 pairs_put no_pairs old new is =
     let same = ap (λ (w : ElementWriter). length w.bytes.items) is in

@@ -12,7 +12,7 @@ use Rattle.bson.specs.Scalar.{text, code, symbol, regex}
 use Rattle.bson_model.specs.Value.{Pairs, pair, scalar, code_scope}
 use Rattle.bson_bytes.proofs.Offered.{string_utf8}
 use Rattle.bson_bytes.specs.Grammar.{insert_value, settle, one_each}
-use Rattle.bson_bytes.specs.Writing.{Typed, TypedItems, TypedPairs, TypedDocument}
+use Rattle.bson_bytes.specs.Writing.{IsWellTyped, AreWellTyped, PairsAreWellTyped, IsWellTypedDocument}
 use Rattle.bson.specs.View.{bson_view, scoped_view, document_view, values_view, pairs_view, contents}
 use Rattle.bson.specs.declared.bson.Bson.{Bson, the_lemmas as of_values}
 use Rattle.bson.specs.declared.bson.JavaScriptCodeWithScope.{JavaScriptCodeWithScope, the_lemmas as of_scopes}
@@ -69,24 +69,24 @@ distinct_once d h =
 
 -- where what is left is typed, so are the pairs
 pub pairs_typed : (left rest all : List (List ℕ × Bson)) (k : List ℕ) (v : Bson) → left ≡ (k, v) ∷ rest
-    → (TypedPairs (pairs_view left) → TypedPairs (pairs_view all)) → is_utf8 k ≡ true → Typed (bson_view v)
-    → TypedPairs (pairs_view rest) → TypedPairs (pairs_view all)
+    → (PairsAreWellTyped (pairs_view left) → PairsAreWellTyped (pairs_view all)) → is_utf8 k ≡ true → IsWellTyped (bson_view v)
+    → PairsAreWellTyped (pairs_view rest) → PairsAreWellTyped (pairs_view all)
 pairs_typed left rest all k v is inv utf8 typed h =
-    inv (subst (λ (ps : List (List ℕ × Bson)). TypedPairs (pairs_view ps)) (sym is) (utf8, typed, h))
+    inv (subst (λ (ps : List (List ℕ × Bson)). PairsAreWellTyped (pairs_view ps)) (sym is) (utf8, typed, h))
 
 pub document_typed : (d : Document) (left : List (List ℕ × Bson)) → left ≡ []
-    → (TypedPairs (pairs_view left) → TypedPairs (pairs_view (contents d))) → HasDistinctKeys (contents d)
-    → TypedDocument (document_view d)
+    → (PairsAreWellTyped (pairs_view left) → PairsAreWellTyped (pairs_view (contents d))) → HasDistinctKeys (contents d)
+    → IsWellTypedDocument (document_view d)
 document_typed d left none inv distinct = (
-  subst TypedPairs (sym (document_view-pairs d))
-      (inv (subst (λ (ps : List (List ℕ × Bson)). TypedPairs (pairs_view ps)) (sym none) tt)),
+  subst PairsAreWellTyped (sym (document_view-pairs d))
+      (inv (subst (λ (ps : List (List ℕ × Bson)). PairsAreWellTyped (pairs_view ps)) (sym none) tt)),
   distinct_once d distinct,
 )
 
 pub items_typed : (items : List Bson) (i : ℕ) (v : Bson) → i < length items → v ≡ get_or items i v
-    → (TypedItems (values_view (drop i items)) → TypedItems (values_view items)) → Typed (bson_view v)
-    → TypedItems (values_view (drop (i + 1) items)) → TypedItems (values_view items)
-items_typed items i v lt is inv typed h = inv (subst TypedItems (sym (item_here items i v lt is)) (typed, h))
+    → (AreWellTyped (values_view (drop i items)) → AreWellTyped (values_view items)) → IsWellTyped (bson_view v)
+    → AreWellTyped (values_view (drop (i + 1) items)) → AreWellTyped (values_view items)
+items_typed items i v lt is inv typed h = inv (subst AreWellTyped (sym (item_here items i v lt is)) (typed, h))
 
 -- ---- what is said where the last part was put
 
@@ -110,18 +110,18 @@ regex_seen r = search (rules, of_values)
 scope_seen : (s : JavaScriptCodeWithScope) → scoped_view s ≡ code_scope (string_bytes s.code) (document_view s.scope)
 scope_seen s = search (rules, of_scopes)
 
-pub string_typed : (v : Bson) (s : String Global) → v ≡ kinds.String s → Typed (bson_view v)
-string_typed v s e = subst Typed (sym (ap bson_view e ∙ string_seen s)) (string_utf8 s)
+pub string_typed : (v : Bson) (s : String Global) → v ≡ kinds.String s → IsWellTyped (bson_view v)
+string_typed v s e = subst IsWellTyped (sym (ap bson_view e ∙ string_seen s)) (string_utf8 s)
 
-pub code_typed : (v : Bson) (s : String Global) → v ≡ kinds.JavaScriptCode s → Typed (bson_view v)
-code_typed v s e = subst Typed (sym (ap bson_view e ∙ code_seen s)) (string_utf8 s)
+pub code_typed : (v : Bson) (s : String Global) → v ≡ kinds.JavaScriptCode s → IsWellTyped (bson_view v)
+code_typed v s e = subst IsWellTyped (sym (ap bson_view e ∙ code_seen s)) (string_utf8 s)
 
-pub symbol_typed : (v : Bson) (s : String Global) → v ≡ kinds.Symbol s → Typed (bson_view v)
-symbol_typed v s e = subst Typed (sym (ap bson_view e ∙ symbol_seen s)) (string_utf8 s)
+pub symbol_typed : (v : Bson) (s : String Global) → v ≡ kinds.Symbol s → IsWellTyped (bson_view v)
+symbol_typed v s e = subst IsWellTyped (sym (ap bson_view e ∙ symbol_seen s)) (string_utf8 s)
 
-pub regex_typed : (v : Bson) (r : Regex) → v ≡ kinds.RegularExpression r → Typed (bson_view v)
+pub regex_typed : (v : Bson) (r : Regex) → v ≡ kinds.RegularExpression r → IsWellTyped (bson_view v)
 regex_typed v r e =
-    subst Typed (sym (ap bson_view e ∙ regex_seen r)) (string_utf8 r.pattern, string_utf8 r.options)
+    subst IsWellTyped (sym (ap bson_view e ∙ regex_seen r)) (string_utf8 r.pattern, string_utf8 r.options)
 
-pub scope_typed : (s : JavaScriptCodeWithScope) → TypedDocument (document_view s.scope) → Typed (scoped_view s)
-scope_typed s t = subst Typed (sym (scope_seen s)) (string_utf8 s.code, t.0, t.1)
+pub scope_typed : (s : JavaScriptCodeWithScope) → IsWellTypedDocument (document_view s.scope) → IsWellTyped (scoped_view s)
+scope_typed s t = subst IsWellTyped (sym (scope_seen s)) (string_utf8 s.code, t.0, t.1)

@@ -7,8 +7,8 @@ use Rattle.bson_model.specs.Value.{Value, Pairs, document}
 use Rattle.bson_model.specs.OrderedTexts.{HasMeaningInOrder}
 use Rattle.bson_bytes.specs.Laws.{IsRead}
 use Rattle.bson_bytes.specs.Putting.{put_value, put_document, put_text, put_room}
-use Rattle.bson_bytes.specs.Writing.{type_of, name_bytes, document_bytes, as_written, FitsDocument, NestsPairs, Typed}
-use Rattle.bson_bytes.specs.Writing.{TypedDocument}
+use Rattle.bson_bytes.specs.Writing.{type_of, name_bytes, document_bytes, as_written, FitsDocument, NestsPairs, IsWellTyped}
+use Rattle.bson_bytes.specs.Writing.{IsWellTypedDocument}
 
 -- the text means a document in the order of its keys, each part of which has bytes, and these are its canonical bytes,
 -- which are read back as it, each binary under the subtype that its byte names
@@ -24,11 +24,11 @@ pub record IsPackedText (D : Doubles) (text bytes : List ℕ) : Type 0 where
 -- the element of this name that holds the value was put behind the old bytes
 abbrev pub PutUnder : List ℕ → Value → List ℕ → List ℕ → Type 0
 PutUnder k v old new =
-    Typed v × (put_value v (old ++ name_bytes (type_of v) k) ≡ Ok new) × (length old ≤ length new)
+    IsWellTyped v × (put_value v (old ++ name_bytes (type_of v) k) ≡ Ok new) × (length old ≤ length new)
 
 -- the document of the pairs was
 abbrev pub PutFramed : Pairs → List ℕ → List ℕ → Type 0
-PutFramed ps old new = TypedDocument ps × (put_document ps old ≡ Ok new) × (length old ≤ length new)
+PutFramed ps old new = IsWellTypedDocument ps × (put_document ps old ≡ Ok new) × (length old ≤ length new)
 
 -- four bytes of room for a length were put at the place
 abbrev pub ReservesLength : ℕ → List ℕ → List ℕ → Type 0

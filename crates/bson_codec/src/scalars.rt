@@ -3,7 +3,7 @@ ghost use Rattle.std.specs.Prelude.{◌≡◌, ◌≤◌, length, OnOk};
 ghost use Rattle.bson_scalar.specs.View.{scalar_view};
 ghost use Rattle.bson_scalar.specs.ElementType.{scalar_type};
 ghost use Rattle.bson_bytes.specs.Putting.{put_scalar, PutsBytes};
-ghost use Rattle.bson_bytes.specs.Writing.{TypedScalar};
+ghost use Rattle.bson_bytes.specs.Writing.{IsWellTypedScalar};
 
 use bson_bytes::error::Error;
 use bson_bytes::put::{
@@ -41,7 +41,7 @@ pub(crate) fn type_of(scalar: &Scalar) -> ElementType
 #[tactic(auto, using(bson_bytes::proofs::Offered::string_utf8))]
 pub(crate) fn put_scalar(out: &mut Vec<u8>, scalar: &Scalar) -> Result<(), Error>
     ensures put { PutsBytes result out.new.items (put_scalar (scalar_view scalar.now) out.old.items) }
-    ensures typed { OnOk result (TypedScalar (scalar_view scalar.now)) }
+    ensures typed { OnOk result (IsWellTypedScalar (scalar_view scalar.now)) }
     ensures grows { OnOk result (length out.old.items ≤ length out.new.items) }
 {
     match scalar {

@@ -1,7 +1,7 @@
 //! Bytes of documents.
 ghost use Rattle.std.specs.Prelude.{◌≡◌, ℕ, suc, IfOk, OnOk, IfErr};
 ghost use Rattle.bson_bytes.specs.Laws.{IsRead};
-ghost use Rattle.bson_bytes.specs.Writing.{document_bytes, as_written, FitsDocument, TypedDocument, NestsPairs};
+ghost use Rattle.bson_bytes.specs.Writing.{document_bytes, as_written, FitsDocument, IsWellTypedDocument, NestsPairs};
 ghost use Rattle.bson_bytes.specs.declared.error.Error.TheVariants as errors;
 ghost use Rattle.bson.specs.View.{document_view};
 ghost use Rattle.bson_codec.specs.Writing.{IsRefusal};
@@ -39,7 +39,7 @@ pub fn to_vec(alloc: Global, document: &Document) -> Result<Vec<u8>>
     ensures ok { IfOk result (λ out. out.items ≡ document_bytes (document_view document.now)) }
     ensures fits { OnOk result (FitsDocument (document_view document.now)) }
     // Its texts are UTF-8, its numbers are in range, and no key stands twice in it, at any depth.
-    ensures typed { OnOk result (TypedDocument (document_view document.now)) }
+    ensures typed { OnOk result (IsWellTypedDocument (document_view document.now)) }
     // They are read back as the document, each binary under the subtype that its byte names.
     ensures back { IfOk result (λ out. (d : ℕ) → NestsPairs (document_view document.now) d
         → IsRead (suc d) out.items (as_written (document_view document.now))) }

@@ -1,7 +1,7 @@
 //! Values behind the bytes that are written.
 ghost use Rattle.std.specs.Prelude.{◌≡◌, ◌≤◌, length, OnOk};
 ghost use Rattle.bson_bytes.specs.Putting.{put_value, put_document, put_room, PutsBytes};
-ghost use Rattle.bson_bytes.specs.Writing.{type_of, Typed, TypedDocument};
+ghost use Rattle.bson_bytes.specs.Writing.{type_of, IsWellTyped, IsWellTypedDocument};
 ghost use Rattle.bson.specs.View.{bson_view, scoped_view, document_view, values_view, contents};
 ghost use Rattle.bson.specs.Pairs.{HasDistinctKeys};
 ghost use Rattle.bson_model.specs.Value.{array};
@@ -20,7 +20,7 @@ use std::alloc::AllocError;
 #[tactic(auto, unfolding(bson_bytes::specs::Putting::put_value), using(bson_bytes::proofs::Offered::string_utf8))]
 fn put_value(out: &mut Vec<u8>, value: &Bson) -> Result<()>
     ensures put { PutsBytes result out.new.items (put_value (bson_view value.now) out.old.items) }
-    ensures typed { OnOk result (Typed (bson_view value.now)) }
+    ensures typed { OnOk result (IsWellTyped (bson_view value.now)) }
     ensures grows { OnOk result (length out.old.items ≤ length out.new.items) }
 {
     match value {
@@ -52,7 +52,7 @@ fn put_value(out: &mut Vec<u8>, value: &Bson) -> Result<()>
 #[tactic(auto, unfolding(bson_bytes::specs::Putting::put_value), using(bson_bytes::proofs::Offered::string_utf8))]
 fn put_scoped(out: &mut Vec<u8>, scoped: &JavaScriptCodeWithScope) -> Result<()>
     ensures put { PutsBytes result out.new.items (put_value (scoped_view scoped.now) out.old.items) }
-    ensures typed { OnOk result (Typed (scoped_view scoped.now)) }
+    ensures typed { OnOk result (IsWellTyped (scoped_view scoped.now)) }
     ensures grows { OnOk result (length out.old.items ≤ length out.new.items) }
 {
     let start = out.len();
@@ -65,7 +65,7 @@ fn put_scoped(out: &mut Vec<u8>, scoped: &JavaScriptCodeWithScope) -> Result<()>
 #[cycle(write)]
 pub(crate) fn put_document(out: &mut Vec<u8>, document: &Document) -> Result<()>
     ensures put { PutsBytes result out.new.items (put_document (document_view document.now) out.old.items) }
-    ensures typed { OnOk result (TypedDocument (document_view document.now)) }
+    ensures typed { OnOk result (IsWellTypedDocument (document_view document.now)) }
     ensures grows { OnOk result (length out.old.items ≤ length out.new.items) }
 {
     let start = out.len();
@@ -81,7 +81,7 @@ pub(crate) fn put_document(out: &mut Vec<u8>, document: &Document) -> Result<()>
 #[cycle(write)]
 fn put_array(out: &mut Vec<u8>, values: &Vec<Bson>) -> Result<()>
     ensures put { PutsBytes result out.new.items (put_value (array (values_view values.now.items)) out.old.items) }
-    ensures typed { OnOk result (Typed (array (values_view values.now.items))) }
+    ensures typed { OnOk result (IsWellTyped (array (values_view values.now.items))) }
     ensures grows { OnOk result (length out.old.items ≤ length out.new.items) }
 {
     let start = out.len();

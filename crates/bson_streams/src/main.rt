@@ -7,13 +7,13 @@
 //! the report took, and a newline: the first two words are the numbers of these bytes.
 #![tactic(auto)]
 
-mod coded;
+mod codec_runs;
 mod failing;
 mod order;
-mod ran;
+mod runs;
 
 use order::order_of;
-use ran::ran;
+use runs::ran;
 use std::io;
 use std::io::{Read, Write};
 

@@ -4,7 +4,7 @@ use Rattle.std.proofs.lemmas.Bool.{or_parts}
 use Rattle.json.specs.Strict.{AreDistinct}
 use Rattle.bson_model.specs.Value.{Value, Pairs, no_pairs, pair}
 use Rattle.bson_model.proofs.OfferedInOrder.{turned}
-use Rattle.bson_text.specs.Walked.{keys_of, set_pair, set_each, once}
+use Rattle.bson_text.specs.Walked.{keys_of, set_pair, set_each, each_key_once}
 use Rattle.bson_text.proofs.Differ.{stands, Differ, differ}
 
 -- pairs behind others
@@ -42,5 +42,5 @@ set_in_turn (pair k v ps) found h =
     ap (set_each ps) (set_last found k v ps h)
     ∙ set_in_turn ps (joined found (pair k v no_pairs)) (subst (λ qs. Differ (keys_of qs)) (sym again) h) ∙ again
 
-pub once_is : (ps : Pairs) → AreDistinct (keys_of ps) → once ps ≡ ps
+pub once_is : (ps : Pairs) → AreDistinct (keys_of ps) → each_key_once ps ≡ ps
 once_is ps apart = set_in_turn ps no_pairs (differ (keys_of ps) apart)

@@ -10,7 +10,7 @@ use Rattle.bson_model.specs.Displayed.{display_text, entry, entry_texts}
 use Rattle.bson_model.specs.Value.{Pairs, no_pairs, pair, document}
 use Rattle.bson_text.specs.ShownWritten.{member_front, separator_if, closing_brace, pairs_shown, value_shown}
 use Rattle.bson_text.specs.ShownWritten.{DisplayAdded, DisplayBegun, DisplayKeyAdded, DisplayPairsAdded, DisplayValueAdded}
-use Rattle.bson_text.specs.Walked.{PairsWritten, keys_of, once}
+use Rattle.bson_text.specs.Walked.{PairsWritten, keys_of, each_key_once}
 use Rattle.bson_text.specs.declared.sorted_text.Mark.{Mark}
 use Rattle.bson_text.specs.declared.shown_text.ShownWriter.{ShownWriter}
 use Rattle.bson_text.proofs.Once.{once_is}
@@ -84,15 +84,15 @@ whole before front mid now new ps mark written ended =
     ∙ ap (λ l. before ++ l) (append_assoc front (codes "{") end ∙ ap (λ l. front ++ l) (document_shown ps))
 
 as_they_came : (a : Arrangement) (ps : Pairs) → a ≡ FirstPlaces → AreDistinct (keys_of ps)
-    → ps ≡ pairs_shown a (once ps)
-as_they_came a ps is apart = sym (ap (λ o. pairs_shown o (once ps)) is ∙ once_is ps apart)
+    → ps ≡ pairs_shown a (each_key_once ps)
+as_they_came a ps is apart = sym (ap (λ o. pairs_shown o (each_key_once ps)) is ∙ once_is ps apart)
 
 -- the document's members, and the brace behind them
 pub document_added : (start mid now kept new : ShownWriter) (mark : Mark) (ps : Pairs) → now.arrangement ≡ FirstPlaces
     → DisplayBegun start mark mid → PairsWritten (λ a k v b. DisplayValueAdded a v b) DisplayKeyAdded ps mid now
     → AreDistinct (keys_of ps) → kept.text.items ≡ now.text.items → kept.arrangement ≡ now.arrangement
     → kept.starts.items ≡ take mark.held now.starts.items → DisplayAdded kept (closing_brace now.needs_comma) true new
-    → DisplayPairsAdded start (once ps) new
+    → DisplayPairsAdded start (each_key_once ps) new
 document_added start mid now kept new mark ps in_order (here, held, (off, order, starts, text)) written apart same
     also cut (needs_comma, ordered, left, ended) =
     let first : mid.arrangement ≡ FirstPlaces = sym (same_order ps mid now written) ∙ in_order in

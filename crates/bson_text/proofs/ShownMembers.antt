@@ -14,7 +14,7 @@ use Rattle.bson_model.specs.Value.{Value, Pairs, no_pairs, pair, document}
 use Rattle.bson_text.specs.MemberSpans.{span_key, open_text, object_text, SpanValues, value_at, IsMemberSpan}
 use Rattle.bson_text.specs.ShownWritten.{next_display, member_front, separator_if, DisplayBegun, DisplayValueAdded, DisplayKeyAdded}
 use Rattle.bson_text.specs.ShownWritten.{value_shown}
-use Rattle.bson_text.specs.Walked.{PairsWritten, keys_of, once}
+use Rattle.bson_text.specs.Walked.{PairsWritten, keys_of, each_key_once}
 use Rattle.bson_text.specs.declared.spans.MemberSpan.{MemberSpan}
 use Rattle.bson_text.specs.declared.sorted_text.Mark.{Mark}
 use Rattle.bson_text.specs.declared.shown_text.ShownWriter.{ShownWriter}
@@ -101,12 +101,12 @@ some_in_turn no_pairs found is = is
 some_in_turn (pair k v ps) found is = some_in_turn ps (put_pair k (sorted v) found) (put_some k (sorted v) found)
 
 -- with its keys in order as well
-some_sorted : (ps : Pairs) → 0 < length (keys_of ps) → is_none (sorted_pairs (once ps)) ≡ false
+some_sorted : (ps : Pairs) → 0 < length (keys_of ps) → is_none (sorted_pairs (each_key_once ps)) ≡ false
 some_sorted no_pairs h = absurd (omega arith)
 some_sorted (pair k v ps) h =
     ap is_none (once_sorted (pair k v ps)) ∙ some_in_turn ps (put_pair k (sorted v) no_pairs) refl
 
-none_sorted : (ps : Pairs) → length (keys_of ps) ≡ 0 → sorted_pairs (once ps) ≡ no_pairs
+none_sorted : (ps : Pairs) → length (keys_of ps) ≡ 0 → sorted_pairs (each_key_once ps) ≡ no_pairs
 none_sorted no_pairs h = refl
 none_sorted (pair k v ps) h = absurd (omega arith)
 
@@ -176,10 +176,10 @@ empty_shown before texts new ps h none =
 
 -- with a blank before the brace, where the document has members
 pub ended_shown : (is_empty : Bool) (before texts new last : List ℕ) (ps : Pairs)
-    → HasMembers IsShownMember before texts new (sorted_pairs (once ps)) → is_empty ≡ (length (keys_of ps) == 0)
+    → HasMembers IsShownMember before texts new (sorted_pairs (each_key_once ps)) → is_empty ≡ (length (keys_of ps) == 0)
     → last ≡ cond is_empty new (take (length new - 1) new ++ codes " }")
-    → last ≡ before ++ display_text (document (sorted_pairs (once ps)))
+    → last ≡ before ++ display_text (document (sorted_pairs (each_key_once ps)))
 ended_shown true before texts new last ps h none is =
-    is ∙ empty_shown before texts new (sorted_pairs (once ps)) h (none_sorted ps (eqb-true (length (keys_of ps)) 0 (sym none)))
+    is ∙ empty_shown before texts new (sorted_pairs (each_key_once ps)) h (none_sorted ps (eqb-true (length (keys_of ps)) 0 (sym none)))
 ended_shown false before texts new last ps h some is =
-    is ∙ document_shown before texts new (sorted_pairs (once ps)) h (some_sorted ps (grind (arith, some)))
+    is ∙ document_shown before texts new (sorted_pairs (each_key_once ps)) h (some_sorted ps (grind (arith, some)))

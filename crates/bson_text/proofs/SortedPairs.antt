@@ -7,7 +7,7 @@ use Rattle.std.specs.Cmp.Lexicographic.{slice_cmp}
 use Rattle.bson_model.specs.Sorted.{put_pair, sorted, sorted_pairs}
 use Rattle.bson_model.specs.Value.{Value, Pairs, no_pairs, pair}
 use Rattle.bson_model.proofs.Offered.{put_swap}
-use Rattle.bson_text.specs.Walked.{set_pair, set_each, once}
+use Rattle.bson_text.specs.Walked.{set_pair, set_each, each_key_once}
 
 put_twice_at : (o : Ordering) (k l : List ℕ) (v w x : Value) (ps : Pairs) → slice_cmp nat_cmp k l ≡ o
     → put_pair k v (put_pair k w ps) ≡ put_pair k v ps
@@ -51,5 +51,5 @@ each_sorted : (ps found : Pairs) → sorted_pairs (set_each ps found) ≡ put_in
 each_sorted no_pairs found = refl
 each_sorted (pair k v ps) found = each_sorted ps (set_pair k v found) ∙ ap (put_in_turn ps) (set_sorted k v found)
 
-pub once_sorted : (ps : Pairs) → sorted_pairs (once ps) ≡ put_in_turn ps no_pairs
+pub once_sorted : (ps : Pairs) → sorted_pairs (each_key_once ps) ≡ put_in_turn ps no_pairs
 once_sorted ps = each_sorted ps no_pairs

@@ -12,7 +12,7 @@ use Rattle.bson_model.specs.Value.{Value, Pairs, no_pairs, pair, document}
 use Rattle.bson_text.specs.MemberSpans.{span_key, span_text, end_before, spans_from, open_text}
 use Rattle.bson_text.specs.MemberSpans.{SpanValues, value_at, IsObjectWritten, IsOpenObject, IsMemberSpan, IsSpanWithin}
 use Rattle.bson_model.specs.Stable.{put_each}
-use Rattle.bson_text.specs.Walked.{keys_of, once}
+use Rattle.bson_text.specs.Walked.{keys_of, each_key_once}
 use Rattle.bson_text.specs.declared.spans.MemberSpan.{MemberSpan}
 use Rattle.bson_text.specs.declared.sorted_text.Mark.{Mark}
 use Rattle.bson_text.proofs.SpansInOrder.{HasMembers, object_in_order}
@@ -256,7 +256,7 @@ module _ {IsText : List ℕ → Value → List ℕ → Type 0} {before held : Li
   -- the document's members, once they were put in order
   pub has_members : (new : List ℕ)
       → IsObjectWritten (spans_from ks d.starts (length now.text)) (take mark.start now.text) now.text new
-      → HasMembers IsText before now.text new (sorted_pairs (once ps))
+      → HasMembers IsText before now.text new (sorted_pairs (each_key_once ps))
   has_members new ended =
       let put = d.put ∙ sym (once_sorted ps) in
       subst (λ qs. HasMembers IsText before now.text new qs) put

@@ -44,8 +44,8 @@ set_each no_pairs found = found
 set_each (pair k v ps) found = set_each ps (set_pair k v found)
 
 -- each key once: of one that stands twice the last value, at the place of the first
-abbrev pub once : Pairs → Pairs
-once ps = set_each ps no_pairs
+abbrev pub each_key_once : Pairs → Pairs
+each_key_once ps = set_each ps no_pairs
 
 -- the members of an object, in their order
 abbrev pub kept_object : Option (json.Members × List Token) → Option (Members × List Token)

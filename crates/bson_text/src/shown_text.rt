@@ -9,7 +9,7 @@ ghost use Rattle.bson_model.specs.Value.{Pairs};
 ghost use Rattle.bson_tokens.specs.declared.arrangement.Arrangement.TheVariants as arrangement;
 ghost use Rattle.bson_text.specs.MemberSpans.{IsBraced};
 ghost use Rattle.bson_text.specs.Stops.{MayStopAtEnd};
-ghost use Rattle.bson_text.specs.Walked.{PairsWritten, keys_of, once};
+ghost use Rattle.bson_text.specs.Walked.{PairsWritten, keys_of, each_key_once};
 
 use crate::distinct::are_distinct;
 use crate::sorted_text::Mark;
@@ -94,7 +94,7 @@ impl ShownWriter {
         requires ascending { self.old.arrangement ≡ arrangement.Ascending }
         ensures written { OnOk result ((start : ShownWriter) (mid : ShownWriter) (ps : Pairs) → DisplayBegun start mark mid
             → PairsWritten (λ a k v b. DisplayValueAdded a v b) DisplayKeyAdded ps mid self.old
-            → keys_of ps ≡ map (λ k. k.now) keys.now → DisplayPairsAdded start (once ps) self.new) }
+            → keys_of ps ≡ map (λ k. k.now) keys.now → DisplayPairsAdded start (each_key_once ps) self.new) }
         ensures stops { IfErr result (MayStopAtEnd (λ D. ⊥) ⊤ (map (λ k. k.now) keys.now)) }
     {
         let starts = &self.starts[mark.held..];
@@ -117,7 +117,7 @@ impl ShownWriter {
         requires first_places { self.old.arrangement ≡ arrangement.FirstPlaces }
         ensures written { OnOk result ((start : ShownWriter) (mid : ShownWriter) (ps : Pairs) → DisplayBegun start mark mid
             → PairsWritten (λ a k v b. DisplayValueAdded a v b) DisplayKeyAdded ps mid self.old
-            → keys_of ps ≡ map (λ k. k.now) keys.old → DisplayPairsAdded start (once ps) self.new) }
+            → keys_of ps ≡ map (λ k. k.now) keys.old → DisplayPairsAdded start (each_key_once ps) self.new) }
         ensures stops { IfErr result (MayStopAtEnd (λ D. ⊥) ⊤ (map (λ k. k.now) keys.old)) }
     {
         let brace = ShownWriter::closing_brace(self.needs_comma);

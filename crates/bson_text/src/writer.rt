@@ -4,7 +4,7 @@ ghost use Rattle.bson_scalar.specs.Scalar as kind;
 ghost use Rattle.bson_scalar.specs.View.{scalar_view};
 ghost use Rattle.bson_scalar.specs.declared.form.Doubles.{Doubles};
 ghost use Rattle.bson_model.specs.Value.{Value, Values, Pairs, scalar, code_scope, array, document};
-ghost use Rattle.bson_text.specs.Walked.{ItemsWritten, PairsWritten, keys_of, once};
+ghost use Rattle.bson_text.specs.Walked.{ItemsWritten, PairsWritten, keys_of, each_key_once};
 ghost use Rattle.bson_text.specs.Stops.{MayStop, MayStopAt, MayStopAtEnd};
 
 use crate::stop::Stop;
@@ -105,7 +105,7 @@ pub trait ValueWriter {
             × PairsWritten wrote keyed ps mid self.old × (keys_of ps ≡ map (λ k. k.now) keys.old) }
         ensures written { OnOk result ((start : Self) (mid : Self) (ps : Pairs) → opened start mark mid
             → PairsWritten wrote keyed ps mid self.old → keys_of ps ≡ map (λ k. k.now) keys.old
-            → framed start (once ps) self.new) }
+            → framed start (each_key_once ps) self.new) }
         ensures stops { IfErr result (MayStopAtEnd leaves sorts (map (λ k. k.now) keys.old)) };
 
     /// Begins code with its scope.

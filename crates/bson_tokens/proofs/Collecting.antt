@@ -5,14 +5,14 @@ use Rattle.json.specs.Json.{read_key, value}
 use Rattle.json.proofs.Grammar.{read_key-shorter}
 use Rattle.serde_json.specs.Data.{Data, Members, put}
 use Rattle.serde_json.specs.Read.{of_json, converted}
-use Rattle.bson_tokens.specs.Parts.{MembersAre, NoMembers}
+use Rattle.bson_tokens.specs.Parts.{MembersAre, ReadsNoMembers}
 use Rattle.bson_tokens.proofs.HeldRounds.{more_members, no_more_members, no_members_behind}
 
 -- from the start of the members, beside old ones, up to here
 pub record Collects (depth : ℕ) (old : Members) (start here : List Token) (so_far : Members) : Type 0 where
   pub all : (ms : Members) (rest : List Token) → MembersAre depth so_far here ms rest
       → MembersAre depth old start ms rest
-  pub none : NoMembers depth here → NoMembers depth start
+  pub none : ReadsNoMembers depth here → ReadsNoMembers depth start
   pub shorter : length here ≤ length start
 
 pub none_yet : (depth : ℕ) (old : Members) (ts : List Token) → Collects depth old ts ts old

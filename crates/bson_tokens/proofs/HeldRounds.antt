@@ -9,7 +9,7 @@ use Rattle.json.proofs.Grammar.{items_end, items_more, members_end, members_more
 use Rattle.json.proofs.Grammar.{read_key-shorter, items_fail, members_no_key, members_fail}
 use Rattle.serde_json.specs.Data.{Data, no_items, item, Members, put}
 use Rattle.serde_json.specs.Read.{of_json, of_items, of_members, converted}
-use Rattle.bson_tokens.specs.Parts.{MembersAre, NoMembers}
+use Rattle.bson_tokens.specs.Parts.{MembersAre, ReadsNoMembers}
 
 -- what holds of a value that was read has what follows from it
 pub if_ok : {X E : Type 0} {P Q : X → Type 0} (r : Result X E) → IfOk r P → ((x : X) → P x → Q x) → IfOk r Q
@@ -142,15 +142,15 @@ no_more_items depth ts r d going read h (suc n) =
     one_item (value depth) (suc n) ts r d (omega arith) going read ∙ ap (parse_map (item d)) (h (suc n - 1))
 
 -- no key stands there; the value at the key breaks, or what is behind it
-pub no_key : (depth : ℕ) (ts : List Token) → read_key ts ≡ None → NoMembers depth ts
+pub no_key : (depth : ℕ) (ts : List Token) → read_key ts ≡ None → ReadsNoMembers depth ts
 no_key depth ts none old n = ap (converted (λ ms. of_members ms old)) (members_no_key (value depth) n ts none)
 
 pub no_member : (depth : ℕ) (k : List ℕ) (ts s : List Token) → read_key ts ≡ Some (Some k, s)
-    → converted of_json (value depth s) ≡ None → NoMembers depth ts
+    → converted of_json (value depth s) ≡ None → ReadsNoMembers depth ts
 no_member depth k ts s named h old n = member_breaks (value depth) n k ts s old (value depth s) named refl h
 
 pub no_members_behind : (depth : ℕ) (k : List ℕ) (ts s r : List Token) (d : Data) → read_key ts ≡ Some (Some k, s)
-    → converted of_json (value depth s) ≡ Some (d, r) → NoMembers depth r → NoMembers depth ts
+    → converted of_json (value depth s) ≡ Some (d, r) → ReadsNoMembers depth r → ReadsNoMembers depth ts
 unfolding members
 no_members_behind depth k ts s r d named read h old zero = refl
 no_members_behind depth k ts s r d named read h old (suc n) =

@@ -5,8 +5,8 @@ use Rattle.std.specs.Ordering.{match_ordering, nat_cmp}
 use Rattle.std.specs.Str.{bytes_eq}
 use Rattle.json.specs.Json.{Json, Members, no_members, member}
 use Rattle.bson_tokens.specs.Normalized.{put_by}
-use Rattle.bson_tokens.specs.Normalizing.{some_stand, StandInOrder, MemberSpanValues}
-use Rattle.bson_tokens.specs.Normalizing.{AreOrdered, Entry, Stand, entry_at, json_entry_key, entry_members}
+use Rattle.bson_tokens.specs.Normalizing.{any_kept, StandInOrder, MemberSpanValues}
+use Rattle.bson_tokens.specs.Normalizing.{AreOrdered, Entry, EntriesAreKept, entry_at, json_entry_key, entry_members}
 use Rattle.bson_tokens.specs.Normalizing.{json_entry_value, merge, member_span_key, span_place, span_value, put_json_entries}
 use Rattle.bson_tokens.specs.PutSpans.{members_of, put_each_by}
 use Rattle.bson_tokens.specs.declared.arrangement.Arrangement.{Arrangement}
@@ -20,7 +20,7 @@ use Rattle.bson_tokens.proofs.Ordered.{as_entries, put_as_entries}
 use Rattle.bson_tokens.proofs.Putting.{put_ascending_keys, put_distinct, put_put}
 
 -- entries are put as their pieces are
-put_stand : (a : Arrangement) (body : List ℕ) (ps : List MemberSpan) (es : List Entry) (stand : Stand body ps es)
+put_stand : (a : Arrangement) (body : List ℕ) (ps : List MemberSpan) (es : List Entry) (stand : EntriesAreKept body ps es)
     → put_json_entries a es ≡ put_each_by member_span_key (span_value stand.values) a ps no_members
 put_stand a body ps es stand =
     ap (λ fs. put_each_by json_entry_key json_entry_value a fs no_members) (sym stand.entries)
@@ -34,18 +34,18 @@ put_stands a values ps (inr (is, are)) =
     ap (λ b. put_each_by member_span_key (span_value values) b ps no_members) is
     ∙ put_distinct member_span_key (span_value values) ps are
 
-pub stays : (a : Arrangement) (body : List ℕ) (ps : List MemberSpan) (es : List Entry) → Stand body ps es
+pub stays : (a : Arrangement) (body : List ℕ) (ps : List MemberSpan) (es : List Entry) → EntriesAreKept body ps es
     → StandInOrder a (map member_span_key ps) → entry_members es ≡ put_json_entries a es
 stays a body ps es stand are =
     ap entry_members (sym stand.entries) ∙ as_entries stand.values ps ∙ sym (put_stands a stand.values ps are)
     ∙ sym (put_stand a body ps es stand)
 
 -- in that order those of one key stand as they stood
-keeps_turns : (a : Arrangement) (body : List ℕ) (xs zs : List MemberSpan) (es : List Entry) (stand : Stand body xs es)
+keeps_turns : (a : Arrangement) (body : List ℕ) (xs zs : List MemberSpan) (es : List Entry) (stand : EntriesAreKept body xs es)
     → (o : AreOrdered a xs zs) → IsStableByKey member_span_key xs o.ys × IsSortedByKey member_span_key (slice_cmp nat_cmp) o.ys
 keeps_turns a body xs zs es stand o = stable_by_place member_span_key span_place xs o.ys 0 stand.rise o.same o.sorted
 
-ordered : (a : Arrangement) (body : List ℕ) (xs zs : List MemberSpan) (es : List Entry) (stand : Stand body xs es)
+ordered : (a : Arrangement) (body : List ℕ) (xs zs : List MemberSpan) (es : List Entry) (stand : EntriesAreKept body xs es)
     → AreOrdered a xs zs
     → members_of member_span_key (span_value stand.values) zs ≡ put_each_by member_span_key (span_value stand.values) a xs no_members
 ordered FirstPlaces body xs zs es stand o =
@@ -58,7 +58,7 @@ ordered Ascending body xs zs es stand o =
     ∙ settled_by_key member_span_key span_place (span_value stand.values) merge (λ p q. refl) (λ p q. refl) (λ p q. refl)
     xs o.ys turns.0 turns.1
 
-pub settled : (a : Arrangement) (body : List ℕ) (xs zs : List MemberSpan) (es : List Entry) (stand : Stand body xs es)
+pub settled : (a : Arrangement) (body : List ℕ) (xs zs : List MemberSpan) (es : List Entry) (stand : EntriesAreKept body xs es)
     → AreOrdered a xs zs → entry_members (map (entry_at stand.values) zs) ≡ put_json_entries a es
 settled a body xs zs es stand o =
     as_entries stand.values zs ∙ ordered a body xs zs es stand o ∙ sym (put_stand a body xs es stand)
@@ -90,17 +90,17 @@ filled_each : (a : Arrangement) (es : List Entry) (found : Members) → filled f
 filled_each a [] found h = h
 filled_each a (e ∷ es) found h = filled_each a es (put_by a e.0 e.1 found) (filled_put a e.0 e.1 found)
 
-filled_entries : (a : Arrangement) (es : List Entry) → filled (put_json_entries a es) ≡ some_stand es
+filled_entries : (a : Arrangement) (es : List Entry) → filled (put_json_entries a es) ≡ any_kept es
 filled_entries a [] = refl
 filled_entries a (e ∷ es) = filled_each a es (put_by a e.0 e.1 no_members) (filled_put a e.0 e.1 no_members)
 
-filled_members : (es : List Entry) → filled (entry_members es) ≡ some_stand es
+filled_members : (es : List Entry) → filled (entry_members es) ≡ any_kept es
 filled_members [] = refl
 filled_members (e ∷ es) = refl
 
 -- what they are put as is put again as it stands
 pub settled_alike : (a : Arrangement) (es fs : List Entry) → entry_members fs ≡ put_json_entries a es
-    → (put_json_entries a fs ≡ put_json_entries a es) × (some_stand fs ≡ some_stand es)
+    → (put_json_entries a fs ≡ put_json_entries a es) × (any_kept fs ≡ any_kept es)
 settled_alike a es fs put = (
   put_put json_entry_key json_entry_value a es fs put ∙ put,
   sym (filled_members fs) ∙ ap filled put ∙ filled_entries a es,

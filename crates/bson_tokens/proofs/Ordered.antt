@@ -11,7 +11,7 @@ use Rattle.json.specs.Json.{Members, member}
 use Rattle.bson_tokens.specs.Normalized.{put_by}
 use Rattle.bson_tokens.specs.Normalizing.{AreOrdered, ArePlaced, Entry, IsSpan, IsMemberSpanWithin, MemberSpanValues, entry_at, merge}
 use Rattle.bson_tokens.specs.Normalizing.{json_entry_key, entry_members, json_entry_value, member_text, member_span_key, span_value}
-use Rattle.bson_tokens.specs.Normalizing.{some_stand}
+use Rattle.bson_tokens.specs.Normalizing.{any_kept}
 use Rattle.bson_tokens.specs.PutSpans.{members_of, merged, merged_from, put_each_by}
 use Rattle.bson_tokens.specs.declared.arrangement.Arrangement.{Arrangement}
 use Rattle.bson_tokens.specs.declared.arrangement.Arrangement.TheVariants.{FirstPlaces, Ascending}
@@ -73,12 +73,12 @@ put_as_entries values a (p ∷ ps) found = put_as_entries values a ps (put_by a 
 above_none : (n : ℕ) → 0 < n → nat_lt 0 n ≡ true
 above_none n more = grind (arith, nat_tests)
 
-some_of : (es : List Entry) → nat_lt 0 (length es) ≡ some_stand es
+some_of : (es : List Entry) → nat_lt 0 (length es) ≡ any_kept es
 some_of [] = refl
 some_of (e ∷ es) = above_none (length (e ∷ es)) (omega arith)
 
 pub some_taken : (values : MemberSpanValues) (at : ℕ) (ps : List MemberSpan) → at ≤ length ps
-    → nat_lt 0 at ≡ some_stand (map (entry_at values) (take at ps))
+    → nat_lt 0 at ≡ any_kept (map (entry_at values) (take at ps))
 some_taken values at ps less =
     let es = map (entry_at values) (take at ps) in
     let long : length es ≡ at = length-map (take at ps) (entry_at values) ∙ length-take-le at ps less in

@@ -22,9 +22,9 @@ use Rattle.bson_scalar.specs.declared.wrapper.Wrapper.TheVariants.{NumberLong, N
 use Rattle.bson_scalar.specs.declared.wrapper.Wrapper.TheVariants.{Uuid, Code, Timestamp, Date, MinKey, MaxKey}
 use Rattle.bson_scalar.specs.declared.wrapper.Wrapper.TheVariants.{DbPointer, Undefined}
 use Rattle.bson_scalar.specs.declared.form.Doubles.{Doubles}
-use Rattle.bson_tokens.specs.Start.{primitive_tree}
-use Rattle.bson_tokens.specs.declared.start.Primitive.{Primitive}
-use Rattle.bson_tokens.specs.declared.start.Primitive.TheVariants.{Null, Bool as Truth, Number, String as Text}
+use Rattle.bson_tokens.specs.ValueStart.{primitive_tree}
+use Rattle.bson_tokens.specs.declared.value_start.Primitive.{Primitive}
+use Rattle.bson_tokens.specs.declared.value_start.Primitive.TheVariants.{Null, Bool as Truth, Number, String as Text}
 use Rattle.bson_tokens.specs.Held.{StandsFor, few, or_empty, pruned, pruned_members, kept_of, entered}
 
 -- ---- one more member

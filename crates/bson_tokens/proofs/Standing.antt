@@ -10,8 +10,8 @@ use Rattle.json.specs.Json.{Json, null}
 use Rattle.json.specs.Print.{quoted, print}
 use Rattle.json.specs.Tree.{json_tokens}
 use Rattle.serde_json.specs.Written.{comma_if}
-use Rattle.bson_tokens.specs.Normalizing.{Entry, IsSpan, Stand, MemberSpanValues, entry_at, member_text}
-use Rattle.bson_tokens.specs.Normalizing.{member_span_key, span_place, member_span_text, some_stand, spelled}
+use Rattle.bson_tokens.specs.Normalizing.{Entry, IsSpan, EntriesAreKept, MemberSpanValues, entry_at, member_text}
+use Rattle.bson_tokens.specs.Normalizing.{member_span_key, span_place, member_span_text, any_kept, spelled}
 use Rattle.bson_tokens.specs.Normalizing.{IsMemberSpanWithin, MemberBegun, ValueAdded}
 use Rattle.bson_tokens.specs.PutSpans.{Rise}
 use Rattle.bson_tokens.specs.declared.normalizer.Normalizer.{Normalizer}
@@ -47,7 +47,7 @@ spelled_behind (d ∷ es) e =
     ∙ sym (append_assoc (comma_if true) (member_text d ++ spelled true es) more)
 
 spelled_last : (es : List Entry) (e : Entry)
-    → spelled false (es ++ e ∷ []) ≡ spelled false es ++ (comma_if (some_stand es) ++ member_text e)
+    → spelled false (es ++ e ∷ []) ≡ spelled false es ++ (comma_if (any_kept es) ++ member_text e)
 spelled_last [] e = append-nil (member_text e)
 spelled_last (d ∷ es) e =
     ap (λ l. member_text d ++ l) (spelled_behind es e)
@@ -79,13 +79,13 @@ rise_last low (q ∷ ps) p rise first above = (
       (All-tail (λ r. r.place < p.place) q ps above),
 )
 
-pub stand_more : (body : List ℕ) (ps : List MemberSpan) (es : List Entry) (p : MemberSpan) (j : Json) → Stand body ps es
-    → p.start ≡ length (body ++ comma_if (some_stand es)) → p.place ≡ p.start
-    → p.end ≡ length (body ++ (comma_if (some_stand es) ++ member_text (member_span_key p, j)))
-    → Stand (body ++ (comma_if (some_stand es) ++ member_text (member_span_key p, j))) (ps ++ p ∷ [])
+pub stand_more : (body : List ℕ) (ps : List MemberSpan) (es : List Entry) (p : MemberSpan) (j : Json) → EntriesAreKept body ps es
+    → p.start ≡ length (body ++ comma_if (any_kept es)) → p.place ≡ p.start
+    → p.end ≡ length (body ++ (comma_if (any_kept es) ++ member_text (member_span_key p, j)))
+    → EntriesAreKept (body ++ (comma_if (any_kept es) ++ member_text (member_span_key p, j))) (ps ++ p ∷ [])
     (es ++ (member_span_key p, j) ∷ [])
 stand_more body ps es p j stand start place end =
-    let comma = comma_if (some_stand es) in
+    let comma = comma_if (any_kept es) in
     let s = member_text (member_span_key p, j) in
     let more = comma ++ s in
     let all = body ++ more in
@@ -121,11 +121,11 @@ stand_more body ps es p j stand start place end =
     }
   where
     still_spans : All (λ q. q.start < p.start) ps → All (IsSpan body stand.values) ps
-        → All (IsSpan (body ++ (comma_if (some_stand es) ++ member_text (member_span_key p, j)))
+        → All (IsSpan (body ++ (comma_if (any_kept es) ++ member_text (member_span_key p, j)))
         (with_value stand.values j p.start)) ps
     still_spans before all = λ i d less.
         let h = all i d less in
-        let more = comma_if (some_stand es) ++ member_text (member_span_key p, j) in
+        let more = comma_if (any_kept es) ++ member_text (member_span_key p, j) in
         let q = slice_index_or ps i d in (
           (h.0.0, omega (arith, h.0.1, length-append body more)),
           slice_grows body more q.start q.end h.0.0 h.0.1 ∙ h.1
@@ -157,9 +157,9 @@ pub end_behind : (first body text : List ℕ) (start end : ℕ) → start ≡ le
 end_behind first body text start end begun stands is =
     omega (arith, begun, is, ap length stands, length-append first body)
 
-pub none_stand : (text : List ℕ) (ps : List MemberSpan) → text ≡ [] → ps ≡ [] → Stand text ps []
+pub none_stand : (text : List ℕ) (ps : List MemberSpan) → text ≡ [] → ps ≡ [] → EntriesAreKept text ps []
 none_stand text ps no_text no_spans =
-    subst (λ t. Stand t ps []) (sym no_text) (subst (λ l. Stand [] l []) (sym no_spans) record {
+    subst (λ t. EntriesAreKept t ps []) (sym no_text) (subst (λ l. EntriesAreKept [] l []) (sym no_spans) record {
       values = λ i. null;
       spelled_is = refl;
       entries = refl;
@@ -168,39 +168,39 @@ none_stand text ps no_text no_spans =
       below = All-nil (λ q. q.place < 0);
     })
 
-pub one_stands : (es : List Entry) (e : Entry) → true ≡ some_stand (es ++ e ∷ [])
+pub one_stands : (es : List Entry) (e : Entry) → true ≡ any_kept (es ++ e ∷ [])
 one_stands [] e = refl
 one_stands (d ∷ es) e = refl
 
 -- ---- an open object
 
 -- the text behind the first is that of the pieces
-pub record Grown (first text : List ℕ) (behind : Bool) (ps : List MemberSpan) (es : List Entry) : Type 0 where
+pub record Grown (first text : List ℕ) (needs_comma : Bool) (ps : List MemberSpan) (es : List Entry) : Type 0 where
   pub body : List ℕ
   pub text_is : text ≡ first ++ body
-  pub stand : Stand body ps es
-  pub behind_is : behind ≡ some_stand es
+  pub stand : EntriesAreKept body ps es
+  pub behind_is : needs_comma ≡ any_kept es
 
 pub grown_more : (first : List ℕ) (w mid later : Normalizer) (start place end : ℕ) (ps qs : List MemberSpan) (es : List Entry)
-    (k : Bor (List ℕ)) (j : Json) → Grown first w.text.items w.behind ps es → start ≡ length first
+    (k : Bor (List ℕ)) (j : Json) → Grown first w.text.items w.needs_comma ps es → start ≡ length first
     → MemberBegun w start k.now place mid → ValueAdded mid j later → end ≡ length later.text.items - start
     → qs ≡ ps ++ record { key = k; place = place; start = place; end = end } ∷ []
-    → Grown first later.text.items later.behind qs (es ++ (k.now, j) ∷ [])
+    → Grown first later.text.items later.needs_comma qs (es ++ (k.now, j) ∷ [])
 grown_more first w mid later start place end ps qs es k j g begun (at, named) added ended held =
-    let b = w.behind in
+    let b = w.needs_comma in
     let own = member_text (k.now, j) in
-    let text = text_more first g.body w.text.items mid.text.items later.text.items b mid.behind k.now j g.text_is
-    named.text named.behind added.text in
+    let text = text_more first g.body w.text.items mid.text.items later.text.items b mid.needs_comma k.now j g.text_is
+    named.text named.needs_comma added.text in
     let here = place_behind first g.body w.text.items (comma_if b) start place begun g.text_is at in
     let there = end_behind first (g.body ++ (comma_if b ++ own)) later.text.items start end begun text ended in
     let p : MemberSpan = record { key = k; place = place; start = place; end = end } in
     let more = stand_more g.body ps es p j g.stand (here ∙ ap (λ x. length (g.body ++ comma_if x)) g.behind_is) refl
     (there ∙ ap (λ x. length (g.body ++ (comma_if x ++ own))) g.behind_is) in
     record {
-      body = g.body ++ (comma_if (some_stand es) ++ own);
+      body = g.body ++ (comma_if (any_kept es) ++ own);
       text_is = text ∙ ap (λ x. first ++ (g.body ++ (comma_if x ++ own))) g.behind_is;
-      stand = subst (λ ls. Stand (g.body ++ (comma_if (some_stand es) ++ own)) ls (es ++ (k.now, j) ∷ [])) (sym held) more;
-      behind_is = added.behind ∙ one_stands es (k.now, j);
+      stand = subst (λ ls. EntriesAreKept (g.body ++ (comma_if (any_kept es) ++ own)) ls (es ++ (k.now, j) ∷ [])) (sym held) more;
+      behind_is = added.needs_comma ∙ one_stands es (k.now, j);
     }
 
 pub grown_inside : (first text : List ℕ) (b : Bool) (ps : List MemberSpan) (es : List Entry) (start : ℕ)

@@ -10,11 +10,11 @@ use Rattle.json.specs.declared.token.Token.TheVariants.{EndObject, EndArray, Key
 use Rattle.json.proofs.Grammar.{value_is}
 use Rattle.serde_json.specs.Data.{number, array, object, no_members}
 use Rattle.serde_json.specs.Read.{of_json, of_items, of_members, converted}
-use Rattle.bson_tokens.specs.Start.{primitive_tree, IsPrimitive, Starts}
-use Rattle.bson_tokens.specs.declared.start.Primitive.{Primitive}
-use Rattle.bson_tokens.specs.declared.start.Primitive.TheVariants.{Null, Bool as Truth, Number, String}
-use Rattle.bson_tokens.specs.declared.start.Start.{Start}
-use Rattle.bson_tokens.specs.declared.start.Start.TheVariants as start
+use Rattle.bson_tokens.specs.ValueStart.{primitive_tree, IsPrimitive, StartsValue}
+use Rattle.bson_tokens.specs.declared.value_start.Primitive.{Primitive}
+use Rattle.bson_tokens.specs.declared.value_start.Primitive.TheVariants.{Null, Bool as Truth, Number, String}
+use Rattle.bson_tokens.specs.declared.value_start.ValueStart.{ValueStart}
+use Rattle.bson_tokens.specs.declared.value_start.ValueStart.TheVariants as start
 use Rattle.bson_tokens.proofs.HeldRounds.{under}
 
 array_converted : (o : Option (json.Items × List Token))
@@ -33,22 +33,22 @@ primitive_json (Truth b) j is = ap of_json is
 primitive_json (Number n) j is = ap of_json is.1 ∙ ap (option_map number) is.2
 primitive_json (String s) j is = ap of_json is
 
-module _ (depth : ℕ) (ts r : List Token) (s : Start) where
-  pub primitive_read : (p : Primitive) → s ≡ start.Primitive p → Starts depth ts s r
+module _ (depth : ℕ) (ts r : List Token) (s : ValueStart) where
+  pub primitive_read : (p : Primitive) → s ≡ start.Primitive p → StartsValue depth ts s r
       → converted of_json (value depth ts) ≡ Some (primitive_tree p, r)
   primitive_read p is h =
-      let of = subst (λ x. Starts depth ts x r) is h in
+      let of = subst (λ x. StartsValue depth ts x r) is h in
       ap (converted of_json) of.1 ∙ ap (option_map (λ d. (d, r))) (primitive_json p of.0 of.2)
 
-  pub array_read : s ≡ start.Array → Starts depth ts s r
+  pub array_read : s ≡ start.Array → StartsValue depth ts s r
       → converted of_json (value depth ts) ≡ parse_map array (converted of_items (items (value (depth - 1)) (length r) r))
-  array_read is h = ap (converted of_json) (subst (λ x. Starts depth ts x r) is h).1
+  array_read is h = ap (converted of_json) (subst (λ x. StartsValue depth ts x r) is h).1
       ∙ array_converted (items (value (depth - 1)) (length r) r)
 
-  pub object_read : s ≡ start.Object → Starts depth ts s r
+  pub object_read : s ≡ start.Object → StartsValue depth ts s r
       → converted of_json (value depth ts)
       ≡ parse_map object (converted (λ ms. of_members ms no_members) (members (value (depth - 1)) (length r) r))
-  object_read is h = ap (converted of_json) (subst (λ x. Starts depth ts x r) is h).1
+  object_read is h = ap (converted of_json) (subst (λ x. StartsValue depth ts x r) is h).1
       ∙ object_converted (members (value (depth - 1)) (length r) r)
 
 -- ---- where none does

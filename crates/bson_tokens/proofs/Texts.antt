@@ -40,15 +40,15 @@ printed_then j ts =
 
 -- the text of elements, after another or at first, with the closing bracket
 abbrev pub printed_items : Bool → Items → List ℕ
-printed_items behind js = print_from behind (items_tokens js)
+printed_items needs_comma js = print_from needs_comma (items_tokens js)
 
-pub no_more_items : (behind : Bool) → printed_items behind no_items ≡ 93 ∷ []
+pub no_more_items : (needs_comma : Bool) → printed_items needs_comma no_items ≡ 93 ∷ []
 unfolding print_from
 no_more_items true = refl
 no_more_items false = refl
 
-first_printed : (behind : Bool) (j : Json) (ts : List Token)
-    → print_from behind (json_tokens j ++ ts) ≡ comma_if behind ++ print_from false (json_tokens j ++ ts)
+first_printed : (needs_comma : Bool) (j : Json) (ts : List Token)
+    → print_from needs_comma (json_tokens j ++ ts) ≡ comma_if needs_comma ++ print_from false (json_tokens j ++ ts)
 unfolding print_from
 first_printed false j ts = refl
 first_printed true null ts = refl
@@ -58,11 +58,11 @@ first_printed true (string s) ts = refl
 first_printed true (array js) ts = refl
 first_printed true (object ms) ts = refl
 
-pub one_more_item : (behind : Bool) (j : Json) (js : Items)
-    → comma_if behind ++ (print (json_tokens j) ++ printed_items true js) ≡ printed_items behind (item j js)
-one_more_item behind j js =
-    ap (λ l. comma_if behind ++ l) (sym (printed_then j (items_tokens js)))
-    ∙ sym (first_printed behind j (items_tokens js))
+pub one_more_item : (needs_comma : Bool) (j : Json) (js : Items)
+    → comma_if needs_comma ++ (print (json_tokens j) ++ printed_items true js) ≡ printed_items needs_comma (item j js)
+one_more_item needs_comma j js =
+    ap (λ l. comma_if needs_comma ++ l) (sym (printed_then j (items_tokens js)))
+    ∙ sym (first_printed needs_comma j (items_tokens js))
 
 pub array_printed : (js : Items) → 91 ∷ printed_items false js ≡ print (json_tokens (array js))
 unfolding print_from
@@ -76,39 +76,39 @@ key_alone k = append-nil (quoted k ++ 58 ∷ [])
 
 -- the text of members, after another or at first, with the closing brace
 abbrev printed_members : Bool → Members → List ℕ
-printed_members behind ms = print_from behind (members_tokens ms)
+printed_members needs_comma ms = print_from needs_comma (members_tokens ms)
 
-no_more_members : (behind : Bool) → 125 ∷ [] ≡ printed_members behind no_members
+no_more_members : (needs_comma : Bool) → 125 ∷ [] ≡ printed_members needs_comma no_members
 unfolding print_from
 no_more_members true = refl
 no_more_members false = refl
 
-key_printed : (behind : Bool) (k : List ℕ) (ts : List Token)
-    → comma_if behind ++ ((quoted k ++ 58 ∷ []) ++ print_from false ts) ≡ print_from behind (key k ∷ ts)
+key_printed : (needs_comma : Bool) (k : List ℕ) (ts : List Token)
+    → comma_if needs_comma ++ ((quoted k ++ 58 ∷ []) ++ print_from false ts) ≡ print_from needs_comma (key k ∷ ts)
 unfolding print_from
 key_printed true k ts = refl
 key_printed false k ts = refl
 
-one_more_member : (behind : Bool) (k : List ℕ) (j : Json) (ms : Members)
-    → comma_if behind ++ ((quoted k ++ 58 ∷ print (json_tokens j)) ++ printed_members true ms)
-    ≡ printed_members behind (member k j ms)
-one_more_member behind k j ms =
+one_more_member : (needs_comma : Bool) (k : List ℕ) (j : Json) (ms : Members)
+    → comma_if needs_comma ++ ((quoted k ++ 58 ∷ print (json_tokens j)) ++ printed_members true ms)
+    ≡ printed_members needs_comma (member k j ms)
+one_more_member needs_comma k j ms =
     let rest = members_tokens ms in
     let s = print (json_tokens j) in
-    ap (λ l. comma_if behind ++ l)
+    ap (λ l. comma_if needs_comma ++ l)
     (append_assoc (quoted k) (58 ∷ s) (print_from true rest)
     ∙ sym (append_assoc (quoted k) (58 ∷ []) (s ++ print_from true rest))
     ∙ ap (λ l. (quoted k ++ 58 ∷ []) ++ l) (sym (printed_then j rest)))
-    ∙ key_printed behind k (json_tokens j ++ rest)
+    ∙ key_printed needs_comma k (json_tokens j ++ rest)
 
-entries_printed : (behind : Bool) (es : List Entry)
-    → spelled behind es ++ 125 ∷ [] ≡ printed_members behind (entry_members es)
-entries_printed behind [] = no_more_members behind
-entries_printed behind (e ∷ es) =
-    append_assoc (comma_if behind) (member_text e ++ spelled true es) (125 ∷ [])
-    ∙ ap (λ l. comma_if behind ++ l) (append_assoc (member_text e) (spelled true es) (125 ∷ [])
+entries_printed : (needs_comma : Bool) (es : List Entry)
+    → spelled needs_comma es ++ 125 ∷ [] ≡ printed_members needs_comma (entry_members es)
+entries_printed needs_comma [] = no_more_members needs_comma
+entries_printed needs_comma (e ∷ es) =
+    append_assoc (comma_if needs_comma) (member_text e ++ spelled true es) (125 ∷ [])
+    ∙ ap (λ l. comma_if needs_comma ++ l) (append_assoc (member_text e) (spelled true es) (125 ∷ [])
     ∙ ap (λ l. member_text e ++ l) (entries_printed true es))
-    ∙ one_more_member behind e.0 e.1 (entry_members es)
+    ∙ one_more_member needs_comma e.0 e.1 (entry_members es)
 
 brace_printed : (ms : Members) → 123 ∷ printed_members false ms ≡ print (json_tokens (object ms))
 unfolding print_from

@@ -17,7 +17,7 @@ use Rattle.bson_tokens.proofs.Again.{normalized_again}
 use Rattle.bson_tokens.proofs.Ranged.{has_numbers, was_sound}
 
 pub text_normalized : (a : Arrangement) (text out : List ℕ) (ts rest : List Token) (old new : Normalizer)
-    → ts ≡ tokens text → rest ≡ [] → old.arrangement ≡ a → old.behind ≡ false → old.text.items ≡ []
+    → ts ≡ tokens text → rest ≡ [] → old.arrangement ≡ a → old.needs_comma ≡ false → old.text.items ≡ []
     → Passes (sound ranged (value 127 ts)) (normalized old.arrangement) rest old new → out ≡ new.text.items
     → IsNormalizedText a text out
 text_normalized a text out ts rest old new start end mode first none (j, read, added) is =
@@ -26,7 +26,7 @@ text_normalized a text out ts rest old new start end mode first none (j, read, a
     ap (λ us. option_and_then (λ p. if_last p.0 p.1) (value 127 us)) (sym start)
     ∙ ap (option_and_then (λ p. if_last p.0 p.1)) (was.0 ∙ ap (λ r. Some (j, r)) end) in
     let written : out ≡ print (json_tokens (normalized a j)) =
-    is ∙ added.text ∙ ap (λ l. l ++ (comma_if old.behind ++ print (json_tokens (normalized old.arrangement j)))) none
+    is ∙ added.text ∙ ap (λ l. l ++ (comma_if old.needs_comma ++ print (json_tokens (normalized old.arrangement j)))) none
     ∙ ap (λ b. comma_if b ++ print (json_tokens (normalized old.arrangement j))) first
     ∙ ap (λ x. print (json_tokens (normalized x j))) mode in
     record {

@@ -48,7 +48,7 @@ shorter depth ts r j read = skip_value-shorter depth ts r (ap left (was_sound ra
 
 -- the text with what is left, beside the tokens behind it
 abbrev pub whole_at : Normalizer → Items × List Token → List ℕ × List Token
-whole_at w p = (w.text.items ++ printed_items w.behind (normalized_items w.arrangement p.0), p.1)
+whole_at w p = (w.text.items ++ printed_items w.needs_comma (normalized_items w.arrangement p.0), p.1)
 
 abbrev pub whole : Normalizer → Option (Items × List Token) → Option (List ℕ × List Token)
 whole w o = option_map (whole_at w) o
@@ -61,14 +61,14 @@ item_behind j now later (Some (js, r)) added =
     let a = now.arrangement in
     let s = print (json_tokens (normalized a j)) in
     let rest = normalized_items a js in
-    let comma = comma_if now.behind in
+    let comma = comma_if now.needs_comma in
     ap (λ l. Some (l, r))
-    (ap (λ l. now.text.items ++ l) (sym (one_more_item now.behind (normalized a j) rest))
+    (ap (λ l. now.text.items ++ l) (sym (one_more_item now.needs_comma (normalized a j) rest))
     ∙ ap (λ l. now.text.items ++ l) (sym (append_assoc comma s (printed_items true rest)))
     ∙ sym (append_assoc now.text.items (comma ++ s) (printed_items true rest))
     ∙ ap (λ l. l ++ printed_items true rest) (sym added.text)
-    ∙ ap (λ b. later.text.items ++ printed_items b rest) (sym added.behind)
-    ∙ ap (λ x. later.text.items ++ printed_items later.behind (normalized_items x js)) (sym added.arrangement))
+    ∙ ap (λ b. later.text.items ++ printed_items b rest) (sym added.needs_comma)
+    ∙ ap (λ x. later.text.items ++ printed_items later.needs_comma (normalized_items x js)) (sym added.arrangement))
 
 pub item_passed : (depth : ℕ) (all : Option (List ℕ × List Token)) (ts r : List Token) (now later : Normalizer)
     → all ≡ whole now (sound ranged_items (elements depth ts)) → after_end_array ts ≡ None
@@ -89,18 +89,18 @@ items_passed depth start ts r old begun now later begin so_far same ended close 
     let last = is_sound ranged_items (elements depth ts) no_items r (last_item depth ts r ended) refl in
     let end : whole begun (sound ranged_items (elements depth start)) ≡ Some (later.text.items, r) =
     so_far ∙ ap (whole now) last
-    ∙ ap (λ l. Some (now.text.items ++ l, r)) (no_more_items now.behind) ∙ ap (λ l. Some (l, r)) (sym close.text) in
+    ∙ ap (λ l. Some (now.text.items ++ l, r)) (no_more_items now.needs_comma) ∙ ap (λ l. Some (l, r)) (sym close.text) in
     let (p, read, text) = came_from (whole_at begun) (sound ranged_items (elements depth start)) (later.text.items, r) end in
     let js = normalized_items old.arrangement p.0 in
-    let comma = comma_if old.behind in (
+    let comma = comma_if old.needs_comma in (
       p.0,
       read ∙ ap (λ t. Some (p.0, t)) (ap (λ q. q.1) text),
       record {
         arrangement = close.arrangement ∙ same ∙ begin.arrangement;
-        behind = close.behind;
+        needs_comma = close.needs_comma;
         text = sym (ap (λ q. q.0) text)
-            ∙ ap (λ a. begun.text.items ++ printed_items begun.behind (normalized_items a p.0)) begin.arrangement
-            ∙ ap (λ b. begun.text.items ++ printed_items b js) begin.behind
+            ∙ ap (λ a. begun.text.items ++ printed_items begun.needs_comma (normalized_items a p.0)) begin.arrangement
+            ∙ ap (λ b. begun.text.items ++ printed_items b js) begin.needs_comma
             ∙ ap (λ l. l ++ printed_items false js) begin.text
             ∙ append_assoc old.text.items (comma ++ 91 ∷ []) (printed_items false js)
             ∙ ap (λ l. old.text.items ++ l) (append_assoc comma (91 ∷ []) (printed_items false js))
@@ -162,15 +162,15 @@ pub members_passed : (depth : ℕ) (start ts r : List Token) (old begun now : No
     ≡ found now.arrangement es (sound ranged_members (inside depth ts))
     → now.arrangement ≡ begun.arrangement → read_key ts ≡ Some (None, r)
     → body ≡ spelled false fs → entry_members fs ≡ put_json_entries now.arrangement es
-    → later.arrangement ≡ now.arrangement → later.behind ≡ true
+    → later.arrangement ≡ now.arrangement → later.needs_comma ≡ true
     → later.text.items ≡ (begun.text.items ++ body) ++ 125 ∷ []
     → Passes (sound ranged_members (inside depth start)) (λ ms. normalized old.arrangement (object ms)) r old later
-members_passed depth start ts r old begun now later es fs body begin so_far same ended spells put kept behind text =
+members_passed depth start ts r old begun now later es fs body begin so_far same ended spells put kept needs_comma text =
     let a = now.arrangement in
     let last = is_sound ranged_members (inside depth ts) no_members r (last_member depth ts r ended) refl in
     let (p, read, end) = came_from (found_at a []) (sound ranged_members (inside depth start)) (put_json_entries a es, r)
     (so_far ∙ ap (found a es) last) in
-    let comma = comma_if old.behind in
+    let comma = comma_if old.needs_comma in
     let first = same ∙ begin.arrangement in
     let all : entry_members fs ≡ normalized_members old.arrangement p.0 no_members =
     put ∙ sym (ap (λ q. q.0) end) ∙ ap (λ x. normalized_members x p.0 no_members) first in
@@ -179,7 +179,7 @@ members_passed depth start ts r old begun now later es fs body begin so_far same
       read ∙ ap (λ t. Some (p.0, t)) (ap (λ q. q.1) end),
       record {
         arrangement = kept ∙ first;
-        behind = behind;
+        needs_comma = needs_comma;
         text = text ∙ ap (λ b. (begun.text.items ++ b) ++ 125 ∷ []) spells
             ∙ append_assoc begun.text.items (spelled false fs) (125 ∷ [])
             ∙ ap (λ l. l ++ rest) begin.text

@@ -7,7 +7,7 @@ pub mod FirstFault
 pub mod Held
 pub mod Parts
 pub mod Prefix
-pub mod Start
+pub mod ValueStart
 pub mod TextPlaces
 -- what public clauses cite of the crates below, so that a caller names this crate alone
 pub use Rattle.bson_tokens.specs.Parts

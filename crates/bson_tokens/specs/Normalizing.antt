@@ -62,12 +62,12 @@ sound f (Some p) = if f p.0 then Some p else None
 -- this text comes after the old one, behind which a value stands or not
 pub record Closed (old : Normalizer) (s : List ℕ) (after : Bool) (new : Normalizer) : Type 0 where
   pub arrangement : new.arrangement ≡ old.arrangement
-  pub behind : new.behind ≡ after
+  pub needs_comma : new.needs_comma ≡ after
   pub text : new.text.items ≡ old.text.items ++ s
 
 -- the same with a comma where one is due
 abbrev pub Added : Normalizer → List ℕ → Bool → Normalizer → Type 0
-Added old s behind new = Closed old (comma_if old.behind ++ s) behind new
+Added old s needs_comma new = Closed old (comma_if old.needs_comma ++ s) needs_comma new
 
 abbrev pub ValueAdded : Normalizer → Json → Normalizer → Type 0
 ValueAdded old j new = Added old (print (json_tokens j)) true new
@@ -82,7 +82,7 @@ IsBegun old start new = (start ≡ length new.text.items) × Added old (123 ∷ 
 
 -- a member was begun, whose text starts here in its object
 abbrev pub MemberBegun : Normalizer → ℕ → List ℕ → ℕ → Normalizer → Type 0
-MemberBegun old start k place new = (place ≡ length (old.text.items ++ comma_if old.behind) - start)
+MemberBegun old start k place new = (place ≡ length (old.text.items ++ comma_if old.needs_comma) - start)
     × Added old (quoted k ++ 58 ∷ []) false new
 
 -- ---- the members of an object
@@ -108,8 +108,8 @@ member_text e = quoted e.0 ++ 58 ∷ print (json_tokens e.1)
 
 -- the texts with commas between them
 abbrev pub spelled : Bool → List Entry → List ℕ
-spelled behind [] = []
-spelled behind (e ∷ es) = comma_if behind ++ (member_text e ++ spelled true es)
+spelled needs_comma [] = []
+spelled needs_comma (e ∷ es) = comma_if needs_comma ++ (member_text e ++ spelled true es)
 
 -- ---- their pieces
 
@@ -143,12 +143,12 @@ abbrev pub IsSpan : List ℕ → MemberSpanValues → MemberSpan → Type 0
 IsSpan body values p = IsMemberSpanWithin body p × (member_span_text body p ≡ member_text (entry_at values p))
 
 -- something stands before
-abbrev pub some_stand : List Entry → Bool
-some_stand [] = false
-some_stand (e ∷ es) = true
+abbrev pub any_kept : List Entry → Bool
+any_kept [] = false
+any_kept (e ∷ es) = true
 
 -- the pieces are the texts of these entries, one behind the other
-pub record Stand (body : List ℕ) (ps : List MemberSpan) (es : List Entry) : Type 0 where
+pub record EntriesAreKept (body : List ℕ) (ps : List MemberSpan) (es : List Entry) : Type 0 where
   pub values : MemberSpanValues
   pub spelled_is : body ≡ spelled false es
   pub entries : map (entry_at values) ps ≡ es
@@ -157,33 +157,33 @@ pub record Stand (body : List ℕ) (ps : List MemberSpan) (es : List Entry) : Ty
   pub below : All (λ p. p.place < length body) ps
 
 -- the pieces of other entries stand in the place of those of the first, normalized
-abbrev pub StandNormalized : Arrangement → List Entry → List ℕ → List MemberSpan → Type 0
-StandNormalized a es body ps = (fs : List Entry) × Stand body ps fs × (entry_members fs ≡ put_json_entries a es)
+abbrev pub KeptNormalized : Arrangement → List Entry → List ℕ → List MemberSpan → Type 0
+KeptNormalized a es body ps = (fs : List Entry) × EntriesAreKept body ps fs × (entry_members fs ≡ put_json_entries a es)
 
 -- the pieces are normalized as they stand, or this text is where they stand
 abbrev pub SpansNormalized : Arrangement → List ℕ → List MemberSpan → List MemberSpan → Option (Vec ℕ Global) → Type 0
-SpansNormalized a body old new text = (es : List Entry) → Stand body old es
-    → MatchOption text (StandNormalized a es body new) (λ t. StandNormalized a es t.items new)
+SpansNormalized a body old new text = (es : List Entry) → EntriesAreKept body old es
+    → MatchOption text (KeptNormalized a es body new) (λ t. KeptNormalized a es t.items new)
 
 -- the pieces are normalized behind where they start
 abbrev pub IsSettled : Normalizer → ℕ → List MemberSpan → List MemberSpan → Normalizer → Type 0
-IsSettled w start old new later = (later.arrangement ≡ w.arrangement) × (later.behind ≡ w.behind)
+IsSettled w start old new later = (later.arrangement ≡ w.arrangement) × (later.needs_comma ≡ w.needs_comma)
     × ((front body : List ℕ) (es : List Entry) → w.text.items ≡ front ++ body → start ≡ length front
-    → Stand body old es
-    → (t : List ℕ) × (later.text.items ≡ front ++ t) × StandNormalized w.arrangement es t new)
+    → EntriesAreKept body old es
+    → (t : List ℕ) × (later.text.items ≡ front ++ t) × KeptNormalized w.arrangement es t new)
 
 -- the same before the object ends: what they are put as stays
 abbrev pub IsSettledEarly : Normalizer → ℕ → List MemberSpan → List MemberSpan → Normalizer → Type 0
-IsSettledEarly w start old new later = (later.arrangement ≡ w.arrangement) × (later.behind ≡ w.behind)
+IsSettledEarly w start old new later = (later.arrangement ≡ w.arrangement) × (later.needs_comma ≡ w.needs_comma)
     × ((front body : List ℕ) (es : List Entry) → w.text.items ≡ front ++ body → start ≡ length front
-    → Stand body old es
-    → (t : List ℕ) × (fs : List Entry) × (later.text.items ≡ front ++ t) × Stand t new fs
-    × (put_json_entries w.arrangement fs ≡ put_json_entries w.arrangement es) × (some_stand fs ≡ some_stand es))
+    → EntriesAreKept body old es
+    → (t : List ℕ) × (fs : List Entry) × (later.text.items ≡ front ++ t) × EntriesAreKept t new fs
+    × (put_json_entries w.arrangement fs ≡ put_json_entries w.arrangement es) × (any_kept fs ≡ any_kept es))
 
 -- the texts of the pieces stand one behind the other
 abbrev pub IsJoined : List ℕ → List MemberSpan → List MemberSpan → List ℕ → Type 0
 IsJoined body old new text = (values : MemberSpanValues) → All (IsSpan body values) old
-    → Stand text new (map (entry_at values) old)
+    → EntriesAreKept text new (map (entry_at values) old)
 
 -- ---- their order
 

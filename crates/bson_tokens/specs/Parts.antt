@@ -17,5 +17,5 @@ MembersAre depth old ts new rest = (n : ℕ) → length ts ≤ n
     → converted (λ js. of_members js old) (members (value depth) n ts) ≡ Some (new, rest)
 
 -- they are not, since the text breaks
-abbrev pub NoMembers : ℕ → List Token → Type 0
-NoMembers depth ts = (old : Members) (n : ℕ) → converted (λ js. of_members js old) (members (value depth) n ts) ≡ None
+abbrev pub ReadsNoMembers : ℕ → List Token → Type 0
+ReadsNoMembers depth ts = (old : Members) (n : ℕ) → converted (λ js. of_members js old) (members (value depth) n ts) ≡ None

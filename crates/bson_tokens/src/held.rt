@@ -5,10 +5,10 @@ ghost use Rattle.serde_json.specs.Data.{no_members};
 ghost use Rattle.serde_json.specs.Read.{of_json, of_items, of_members, converted};
 ghost use Rattle.serde_json.specs.View.{view, members_view};
 ghost use Rattle.bson_tokens.specs.Held.{IsHeldAs, IsPruned, ArePassed, AreKept, entered, kept_of, or_empty};
-ghost use Rattle.bson_tokens.specs.Parts.{InvalidMeansNone, NoMembers};
+ghost use Rattle.bson_tokens.specs.Parts.{InvalidMeansNone, ReadsNoMembers};
 ghost use Rattle.json.specs.declared.error.Error.TheVariants.{Invalid};
 
-use crate::start::{Start, primitive_value, read_start};
+use crate::value_start::{ValueStart, primitive_value, read_start};
 use json::{Error, Reader};
 use serde_json::{Map, Value};
 use std::alloc::{AllocError, Global};
@@ -52,12 +52,12 @@ fn held_value(
 {
     let start = read_start(reader, depth)?;
     match start {
-        Start::Primitive(primitive) => Ok(primitive_value(alloc, primitive)?),
-        Start::Array => {
+        ValueStart::Primitive(primitive) => Ok(primitive_value(alloc, primitive)?),
+        ValueStart::Array => {
             pass_items(alloc, reader, depth - 1)?;
             Ok(Value::Array(Vec::new(alloc)))
         }
-        Start::Object => Ok(Value::Object(held_members(alloc, reader, depth - 1, levels)?)),
+        ValueStart::Object => Ok(Value::Object(held_members(alloc, reader, depth - 1, levels)?)),
     }
 }
 
@@ -88,7 +88,7 @@ fn held_members(
         (λ m. AreKept levels
         (converted (λ js. of_members js no_members) (members (value depth) (length reader.old) reader.old))
         (members_view m.entries) reader.new) }
-    ensures broken { IfErr result (λ e. e ≡ Invalid → NoMembers depth reader.old) }
+    ensures broken { IfErr result (λ e. e ≡ Invalid → ReadsNoMembers depth reader.old) }
     ensures shorter { OnOk result (length reader.new < length reader.old) }
 {
     let mut found = first_members(alloc, levels);

@@ -16,7 +16,7 @@ pub mod number;
 mod order;
 mod path;
 pub mod prefix;
-pub mod start;
+pub mod value_start;
 pub mod walk;
 
 /// How deep arrays and objects may nest in a JSON text.

@@ -27,7 +27,7 @@ pub(crate) struct Normalizer {
     // Room for the writer of a token, since one that stands in a long text takes much room ahead.
     pub(crate) part: Vec<u8>,
     // A value stands before what comes next.
-    pub(crate) behind: bool,
+    pub(crate) needs_comma: bool,
 }
 
 // The text as a string.
@@ -49,31 +49,31 @@ impl Normalizer {
     ) -> Result<Normalizer, AllocError>
         ensures arrangement { IfOk result (λ out. out.arrangement ≡ arrangement) }
         ensures empty { IfOk result (λ out. out.text.items ≡ []) }
-        ensures first { IfOk result (λ out. out.behind ≡ false) }
+        ensures first { IfOk result (λ out. out.needs_comma ≡ false) }
     {
         Ok(Normalizer {
             alloc,
             arrangement,
             text: Vec::with_capacity(alloc, room)?,
             part: Vec::new(alloc),
-            behind: false,
+            needs_comma: false,
         })
     }
 
     // Adds the comma that is due.
     fn add_comma(&mut self) -> Result<(), AllocError>
-        ensures { OnOk result (Closed self.old (comma_if self.old.behind) self.old.behind self.new) }
+        ensures { OnOk result (Closed self.old (comma_if self.old.needs_comma) self.old.needs_comma self.new) }
     {
-        if self.behind {
+        if self.needs_comma {
             self.text.push(b',')?;
         }
         Ok(())
     }
 
     // Adds a token, behind which a value stands or not.
-    fn add(&mut self, token: Token<'_>, behind: bool) -> Result<(), AllocError>
+    fn add(&mut self, token: Token<'_>, needs_comma: bool) -> Result<(), AllocError>
         requires { IsPrintable (token_of token) }
-        ensures { OnOk result (Closed self.old (print (token_of token.entry ∷ [])) behind self.new) }
+        ensures { OnOk result (Closed self.old (print (token_of token.entry ∷ [])) needs_comma self.new) }
     {
         let mut room = replace(&mut self.part, Vec::new(self.alloc));
         room.clear();
@@ -81,7 +81,7 @@ impl Normalizer {
         part.token(token)?;
         self.part = part.into_inner();
         self.text.extend_from_slice(&self.part)?;
-        self.behind = behind;
+        self.needs_comma = needs_comma;
         Ok(())
     }
 
@@ -100,7 +100,7 @@ impl Normalizer {
     {
         self.add_comma()?;
         self.text.push(byte)?;
-        self.behind = false;
+        self.needs_comma = false;
         Ok(())
     }
 
@@ -109,7 +109,7 @@ impl Normalizer {
         ensures { OnOk result (Closed self.old (byte ∷ []) true self.new) }
     {
         self.text.push(byte)?;
-        self.behind = true;
+        self.needs_comma = true;
         Ok(())
     }
 

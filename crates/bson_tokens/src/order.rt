@@ -224,10 +224,10 @@ fn join_spans(
     Ok(text)
 }
 
-fn put_comma(behind: bool, text: &mut Vec<u8>) -> Result<(), AllocError>
-    ensures { OnOk result (text.new.items ≡ text.old.items ++ comma_if behind) }
+fn put_comma(needs_comma: bool, text: &mut Vec<u8>) -> Result<(), AllocError>
+    ensures { OnOk result (text.new.items ≡ text.old.items ++ comma_if needs_comma) }
 {
-    if behind {
+    if needs_comma {
         text.push(b',')?;
     }
     Ok(())

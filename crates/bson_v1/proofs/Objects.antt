@@ -18,7 +18,7 @@ use Rattle.bson_tokens.specs.Normalizing.{inside}
 use Rattle.bson_tokens.proofs.Offered.{last_member, no_member, one_member}
 use Rattle.bson_v1.specs.Held.{Begins, HasNoOlderShape, RestPasses, ScopeEnds, ScopePasses, begins_code, code_before, held_tokens, onto}
 use Rattle.bson_v1.specs.Held.{rest_of, scope_before, scope_or_value, scope_place, starts_with_code}
-use Rattle.bson_v1.specs.Upgraded.{is_code, is_scope, upgraded, upgraded_members, upgraded_object, upgraded_scope, older, other, renewed}
+use Rattle.bson_v1.specs.Upgraded.{is_code, is_scope, upgraded, upgraded_members, upgraded_object, upgraded_scope, older, other, upgraded_wrapper}
 use Rattle.bson_v1.specs.Passed.{MemberPasses, PassesTokens, of_members, of_object}
 use Rattle.bson_v1.specs.declared.held.Begun.TheVariants.{Open}
 use Rattle.bson_v1.specs.declared.held.Texts.{Texts}
@@ -130,7 +130,7 @@ open_passes texts depth k t ts q rest old begun named new (lookahead, printable,
       rest_read texts depth k.now ts (token_of t ∷ q) r rest j ms (begins depth) read more,
       object_tokens texts (rest_of texts k.now j ms) old begun named new begin strings wrote
           ∙ ap (λ x. old ++ json_tokens (object x)) (sym (rest_onto texts k.now j ms))
-          ∙ ap (λ x. old ++ json_tokens (renewed x (upgraded_object ns)))
+          ∙ ap (λ x. old ++ json_tokens (upgraded_wrapper x (upgraded_object ns)))
           (sym (open_other texts k.now t depth q r j ms lookahead read)),
     )
 
@@ -232,7 +232,7 @@ as_scope false k scope ns = refl
 value_is_scope : (b : Bool) (scope : Members) → older scope ≡ other
     → scope_or_value b scope ≡ object (upgraded_object scope)
 value_is_scope true scope plain = refl
-value_is_scope false scope plain = ap (λ x. renewed x (upgraded_object scope)) plain
+value_is_scope false scope plain = ap (λ x. upgraded_wrapper x (upgraded_object scope)) plain
 
 no_older_scope : (f : Bool) (scope ms : Members) → older scope ≡ other
     → scope_before f scope ms ≡ object (upgraded_object scope)

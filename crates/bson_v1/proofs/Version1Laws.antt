@@ -13,11 +13,11 @@ use Rattle.bson_model.specs.OrderedTexts.{HasMeaningInOrder, MeansByDefault}
 use Rattle.bson_tokens.specs.Normalized.{normalized, IsNormalizedText}
 use Rattle.bson_tokens.specs.declared.arrangement.Arrangement.TheVariants.{FirstPlaces}
 use Rattle.bson_tokens.proofs.Offered.{meant, meant_in_order}
-use Rattle.bson_v1.specs.Upgraded.{binary, regex, date, other, older, strings, pair, lone, renewed, is_code, is_scope}
+use Rattle.bson_v1.specs.Upgraded.{binary, regex, date, other, older, strings, pair, lone, upgraded_wrapper, is_code, is_scope}
 use Rattle.bson_v1.specs.Upgraded.{upgraded, upgraded_items, upgraded_members, upgraded_object, upgraded_scope, ends_in_offset}
 use Rattle.bson_v1.specs.Upgraded.{with_colon, binary_json, regex_json, date_json}
 use Rattle.bson_v1.specs.Text.{IsUpgradedText}
-use Rattle.bson_v1.specs.Version1.{HasNoShape, IsTextOfVersion2, IsVersion1, IsVersion2, AllVersion2, HasVersion2}
+use Rattle.bson_v1.specs.Version1.{IsNotVersion1, IsTextOfVersion2, IsVersion1, IsVersion2, AllVersion2, HasVersion2}
 use Rattle.bson_v1.specs.Version1.{EachVersion2, strings_at}
 use Rattle.bson_v1.specs.Version1 as v1
 
@@ -34,7 +34,7 @@ same_key k l h = (bytes_eq-Decides k l).0 h
 -- ---- objects of no shape
 
 no_pair : (k s l t : List ℕ) (m n : List ℕ) (u : Json) → bytes_eq k m ≡ true → bytes_eq l n ≡ true
-    → IsVersion1 (strings_at m s n t) u → HasNoShape (strings_at k s l t) → ⊥
+    → IsVersion1 (strings_at m s n t) u → IsNotVersion1 (strings_at k s l t) → ⊥
 no_pair k s l t m n u first second is none =
     none u (subst (λ x. IsVersion1 (strings_at x s l t) u) (sym (same_key k m first))
     (subst (λ x. IsVersion1 (strings_at m s x t) u) (sym (same_key l n second)) is))
@@ -48,7 +48,7 @@ skip true true x y never = absurd (never refl refl)
 skip true false x y never = refl
 skip false b x y never = refl
 
-two_stay : (k s l t : List ℕ) → HasNoShape (strings_at k s l t) → strings k s l t ≡ other
+two_stay : (k s l t : List ℕ) → IsNotVersion1 (strings_at k s l t) → strings k s l t ≡ other
 two_stay k s l t none =
     skip (bytes_eq k (codes "$binary")) (bytes_eq l (codes "$type")) (binary s t) _
     (λ p q. no_pair k s l t (codes "$binary") (codes "$type") (binary_json s t) p q (v1.binary s t) none)
@@ -60,8 +60,8 @@ two_stay k s l t none =
     (λ p q. no_pair k s l t (codes "$options") (codes "$regex") (regex_json t s) p q (v1.regex_turned t s) none)
 
 date_stays : (k s : List ℕ) (b : Bool) → bytes_eq k (codes "$date") ≡ b
-    → HasNoShape (member k (json.string s) no_members)
-    → renewed (cond b (date s) other) (member k (json.string s) no_members) ≡ json.object (member k (json.string s) no_members)
+    → IsNotVersion1 (member k (json.string s) no_members)
+    → upgraded_wrapper (cond b (date s) other) (member k (json.string s) no_members) ≡ json.object (member k (json.string s) no_members)
 date_stays k s false is none = refl
 date_stays k s true is none =
     let same = same_key k (codes "$date") is in
@@ -71,7 +71,7 @@ date_stays k s true is none =
     (subst (λ x. IsVersion1 (member x (json.string s) no_members) (date_json s)) (sym same) (v1.date s ends))))
     ∙ ap (λ x. json.object (member x (json.string s) no_members)) (sym same)
 
-pair_stays : (k l : List ℕ) (j i : Json) → HasNoShape (member k j (member l i no_members)) → pair k j l i ≡ other
+pair_stays : (k l : List ℕ) (j i : Json) → IsNotVersion1 (member k j (member l i no_members)) → pair k j l i ≡ other
 pair_stays k l json.null i none = refl
 pair_stays k l (json.boolean b) i none = refl
 pair_stays k l (json.number n) i none = refl
@@ -84,7 +84,7 @@ pair_stays k l (json.string s) (json.object ms) none = refl
 pair_stays k l (json.array js) i none = refl
 pair_stays k l (json.object ms) i none = refl
 
-pub no_shape : (ms : Members) → HasNoShape ms → upgraded (json.object ms) ≡ json.object (upgraded_object ms)
+pub no_shape : (ms : Members) → IsNotVersion1 ms → upgraded (json.object ms) ≡ json.object (upgraded_object ms)
 no_shape no_members none = refl
 no_shape (member k json.null no_members) none = refl
 no_shape (member k (json.boolean b) no_members) none = refl
@@ -93,7 +93,7 @@ no_shape (member k (json.string s) no_members) none = date_stays k s (bytes_eq k
 no_shape (member k (json.array js) no_members) none = refl
 no_shape (member k (json.object ms) no_members) none = refl
 no_shape (member k j (member l i no_members)) none =
-    ap (λ x. renewed x (upgraded_object (member k j (member l i no_members)))) (pair_stays k l j i none)
+    ap (λ x. upgraded_wrapper x (upgraded_object (member k j (member l i no_members)))) (pair_stays k l j i none)
 no_shape (member k j (member l i (member m h ms))) none = refl
 
 -- ---- trees of v2

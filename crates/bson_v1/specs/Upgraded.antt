@@ -76,11 +76,11 @@ regex_json pattern options =
 abbrev pub date_json : List ℕ → Json
 date_json s = of_one (codes "$date") (json.string (with_colon s))
 
-abbrev pub renewed : Shape → Members → Json
-renewed (binary base64 sub_type) ms = binary_json base64 sub_type
-renewed (regex pattern options) ms = regex_json pattern options
-renewed (date s) ms = date_json s
-renewed other ms = json.object ms
+abbrev pub upgraded_wrapper : Shape → Members → Json
+upgraded_wrapper (binary base64 sub_type) ms = binary_json base64 sub_type
+upgraded_wrapper (regex pattern options) ms = regex_json pattern options
+upgraded_wrapper (date s) ms = date_json s
+upgraded_wrapper other ms = json.object ms
 
 -- ---- scopes
 
@@ -102,7 +102,7 @@ abbrev mutual
   upgraded (json.number s) = json.number s
   upgraded (json.string s) = json.string s
   upgraded (json.array js) = json.array (upgraded_items js)
-  upgraded (json.object ms) = renewed (older ms) (upgraded_object ms)
+  upgraded (json.object ms) = upgraded_wrapper (older ms) (upgraded_object ms)
 
   -- what is at `$scope` next to code
   pub upgraded_scope : Json → Json

@@ -26,8 +26,8 @@ pub data IsVersion1 : Members → Json → Type 0 where
   date : (s : List ℕ) → ends_in_offset s ≡ true
       → IsVersion1 (member (codes "$date") (json.string s) no_members) (date_json s)
 
-abbrev pub HasNoShape : Members → Type 0
-HasNoShape ms = (t : Json) → IsVersion1 ms t → ⊥
+abbrev pub IsNotVersion1 : Members → Type 0
+IsNotVersion1 ms = (t : Json) → IsVersion1 ms t → ⊥
 
 mutual
   -- no object of the tree has a shape of v1, except scopes
@@ -37,7 +37,7 @@ mutual
     number : (s : List ℕ) → IsVersion2 (json.number s)
     string : (s : List ℕ) → IsVersion2 (json.string s)
     array : (js : Items) → AllVersion2 js → IsVersion2 (json.array js)
-    object : (ms : Members) → HasNoShape ms → HasVersion2 ms → IsVersion2 (json.object ms)
+    object : (ms : Members) → IsNotVersion1 ms → HasVersion2 ms → IsVersion2 (json.object ms)
 
   pub data AllVersion2 : Items → Type 0 where
     none : AllVersion2 no_items

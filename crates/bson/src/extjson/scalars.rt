@@ -39,7 +39,7 @@ pub(crate) fn of_scalar(value: Scalar) -> Bson
         Scalar::JavaScriptCode(code) => Bson::JavaScriptCode(code),
         Scalar::RegularExpression(regex) => Bson::RegularExpression(regex),
         Scalar::Timestamp(stamp) => Bson::Timestamp(stamp),
-        Scalar::Binary(binary) => Bson::Binary(of_bytes(binary)),
+        Scalar::Binary(binary) => Bson::Binary(normal_binary(binary)),
         Scalar::ObjectId(id) => Bson::ObjectId(of_twelve(id)),
         Scalar::DateTime(date) => Bson::DateTime(date),
         Scalar::Decimal128(decimal) => Bson::Decimal128(decimal),
@@ -78,7 +78,7 @@ pub(crate) fn has_text(value: &ScalarRef<'_>)
     }
 }
 
-fn of_bytes(binary: Binary) -> Binary
+fn normal_binary(binary: Binary) -> Binary
     ensures same { result ≡ binary }
     ensures ranged { (subtype_byte binary.subtype < 256) × IsBytes binary.bytes.items }
 {

@@ -1,6 +1,6 @@
 use Rattle.std.proofs.Common.{◌≡◌, ◌≤◌, ◌+◌, length, drop}
 use Rattle.bson_bytes.specs.Putting.{put_items, put_elements}
-use Rattle.bson_bytes.specs.Writing.{TypedItems, TypedPairs}
+use Rattle.bson_bytes.specs.Writing.{AreWellTyped, PairsAreWellTyped}
 use Rattle.bson.specs.Iter.{pairs_left}
 use Rattle.bson.specs.View.{bson_view, scoped_view, document_view, values_view, pairs_view, contents}
 use Rattle.bson.proofs.Offered.{weight, weight_items, weight_pairs}
@@ -24,7 +24,7 @@ invariant-put_document-elements l = record {
   put : put_elements (pairs_view (pairs_left l.pairs)) l.out.items ≡ put_elements (pairs_view (contents l.document)) l.initial.out.items;
   lighter : weight_pairs (pairs_view (pairs_left l.pairs)) ≤ weight_pairs (pairs_view (contents l.document));
   room : l.start + 4 ≤ length l.out.items;
-  typed : TypedPairs (pairs_view (pairs_left l.pairs)) → TypedPairs (pairs_view (contents l.document));
+  typed : PairsAreWellTyped (pairs_view (pairs_left l.pairs)) → PairsAreWellTyped (pairs_view (contents l.document));
 }
 
 abbrev pub decreases-put_document-elements : goal.decreases-put_document-elements
@@ -34,5 +34,5 @@ abbrev pub invariant-put_array-loop-i : goal.invariant-put_array-loop-i
 invariant-put_array-loop-i l = record {
   put : put_items l.i (values_view (drop l.i l.value-items)) l.out.items ≡ put_items 0 (values_view l.value-items) l.initial.out.items;
   room : l.start + 4 ≤ length l.out.items;
-  typed : TypedItems (values_view (drop l.i l.value-items)) → TypedItems (values_view l.value-items);
+  typed : AreWellTyped (values_view (drop l.i l.value-items)) → AreWellTyped (values_view l.value-items);
 }

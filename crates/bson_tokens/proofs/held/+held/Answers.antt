@@ -12,7 +12,7 @@ use Rattle.bson_tokens.proofs.Collecting.{none_yet, one_collected, all_collected
 use Rattle.bson_tokens.proofs.Pruned.{kept_put, pruned_object, pruned_primitive}
 use Rattle.bson_tokens.proofs.HeldRounds.{no_item, no_key, no_member}
 use Rattle.bson_tokens.proofs.Starts.{primitive_read, array_read, object_read}
-use Rattle.bson_tokens.specs.Start.{primitive_tree}
+use Rattle.bson_tokens.specs.ValueStart.{primitive_tree}
 use Rattle.bson_tokens.proofs.held.+held.Goals as goal
 
 pub held_value-returns-in_ok-primitive_value-in-Primitive-clause-ok :

@@ -143,7 +143,7 @@ write_members-members-init t c =
         body = [];
         text_is = sym (append-nil c.begin_object.new.self.text.items);
         stand = none_stand [] c.new-spans.result.items refl (grind arith);
-        behind_is = c.in_ok-start.ensures.1.behind;
+        behind_is = c.in_ok-start.ensures.1.needs_comma;
       };
       found = refl;
     }
@@ -228,4 +228,4 @@ write_members-returns-clause-ok t c =
     let close = c.in_ok-close.ensures in
     members_passed c.args.depth c.args.reader.now l.reader c.next_key.new.self c.args.out.now c.begin_object.new.self
     l.out later h.entries fs body c.in_ok-start.ensures.1 h.found h.arrangement ended stand.spelled_is put
-    (close.arrangement ∙ settled.0) close.behind (close.text ∙ ap (λ b. b ++ 125 ∷ []) text)
+    (close.arrangement ∙ settled.0) close.needs_comma (close.text ∙ ap (λ b. b ++ 125 ∷ []) text)

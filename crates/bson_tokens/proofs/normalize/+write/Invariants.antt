@@ -29,7 +29,7 @@ abbrev pub invariant-write_members-members : goal.invariant-write_members-member
 invariant-write_members-members l = record {
   arrangement : l.out.arrangement ≡ l.initial.out.arrangement;
   entries : List Entry;
-  grown : Grown l.initial.out.text.items l.out.text.items l.out.behind l.spans.items entries;
+  grown : Grown l.initial.out.text.items l.out.text.items l.out.needs_comma l.spans.items entries;
   found : found l.out.arrangement [] (sound ranged_members (inside l.depth l.initial.reader))
       ≡ found l.out.arrangement entries (sound ranged_members (inside l.depth l.reader));
 }

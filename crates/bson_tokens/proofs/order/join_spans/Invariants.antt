@@ -1,6 +1,6 @@
 use Rattle.std.proofs.Common.{◌≡◌, ◌≤◌, drop, take, length, map}
 use Rattle.std.specs.List.{All}
-use Rattle.bson_tokens.specs.Normalizing.{entry_at, IsSpan, Stand, MemberSpanValues}
+use Rattle.bson_tokens.specs.Normalizing.{entry_at, IsSpan, EntriesAreKept, MemberSpanValues}
 use Rattle.bson_tokens.proofs.order.join_spans.Given as goal
 
 -- those that were joined stand in the text; those that are left are as they were
@@ -12,5 +12,5 @@ invariant-spans l =
       long : length l.spans.items ≡ length all;
       left : drop l.at l.spans.items ≡ drop l.at all;
       stand : (values : MemberSpanValues) → All (IsSpan l.body values) all
-          → Stand l.text.items (take l.at l.spans.items) (map (entry_at values) (take l.at all));
+          → EntriesAreKept l.text.items (take l.at l.spans.items) (map (entry_at values) (take l.at all));
     }

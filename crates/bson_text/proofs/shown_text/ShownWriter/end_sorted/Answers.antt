@@ -7,7 +7,7 @@ use Rattle.bson_model.specs.Sorted.{sorted_pairs}
 use Rattle.bson_model.specs.Value.{document}
 use Rattle.bson_text.specs.MemberSpans.{spans_from, IsObjectWritten, IsOpenObject, IsSpanWithin}
 use Rattle.bson_text.specs.ShownWritten.{next_display, pairs_shown, separator_if}
-use Rattle.bson_text.specs.Walked.{keys_of, once}
+use Rattle.bson_text.specs.Walked.{keys_of, each_key_once}
 use Rattle.bson_text.proofs.ShownMembers.{document_stands, ended_shown, same_order}
 use Rattle.bson_text.proofs.Standing.{own_starts, are_held, others_held, all_within, stands_open, has_members}
 use Rattle.bson_text.proofs.shown_text.ShownWriter.end_sorted.Goals as goal
@@ -59,7 +59,7 @@ returns-clause-written c = λ start mid ps mark written named.
     let ks = c.args.keys.now in
     let texts = c.args.self.now.text.items in
     let new = c.end_object.new.text.items in
-    let qs = sorted_pairs (once ps) in
+    let qs = sorted_pairs (each_key_once ps) in
     let h = has_members d new
     (subst (λ starts. IsObjectWritten (spans_from ks starts (length texts)) (take c.args.mark.start texts) texts new)
     (own_starts d c.deref.result.now c.deref.ensures.value) c.in_ok-end_object.ensures.ended) in
@@ -67,7 +67,7 @@ returns-clause-written c = λ start mid ps mark written named.
     let ordered = same_order ps mid c.args.self.now written ∙ mark.2.1 in
     let ascending : Ascending ≡ start.arrangement = sym c.requires.ascending ∙ ordered in
     let whole = append_assoc start.text.items (separator_if start.needs_comma) (display_text (document qs))
-    ∙ ap (λ a. start.text.items ++ (separator_if start.needs_comma ++ display_text (document (pairs_shown a (once ps))))) ascending in
+    ∙ ap (λ a. start.text.items ++ (separator_if start.needs_comma ++ display_text (document (pairs_shown a (each_key_once ps))))) ascending in
     let many : length (keys_of ps) ≡ length ks = ap length named ∙ length-map ks (λ k. k.now) in
     let none : c.is_empty.result ≡ (length (keys_of ps) == 0) = c.is_empty.ensures ∙ ap (λ n. n == 0) (sym many) in (
       refl,

@@ -5,7 +5,7 @@ use Rattle.std.proofs.Common.{◌≡◌, map, length, take, refl, sym, ap, ◌�
 use Rattle.std.specs.List.{All}
 use Rattle.bson_model.specs.Sorted.{sorted_pairs}
 use Rattle.bson_text.specs.MemberSpans.{spans_from, IsObjectWritten, IsOpenObject, IsSpanWithin}
-use Rattle.bson_text.specs.Walked.{once}
+use Rattle.bson_text.specs.Walked.{each_key_once}
 use Rattle.bson_text.proofs.SortedMembers.{document_added, document_stands}
 use Rattle.bson_text.proofs.Standing.{own_starts, are_held, others_held, all_within, stands_open, has_members}
 use Rattle.bson_text.proofs.sorted_text.SortedWriterValueWriter.end.Goals as goal
@@ -57,7 +57,7 @@ returns-clause-written c = λ start mid ps mark written named.
     let ks = c.args.keys.now in
     let texts = c.args.self.now.text.items in
     let new = c.end_object.new.text.items in
-    let (ms, is, text) = document_added start.doubles start.form start texts new (sorted_pairs (once ps))
+    let (ms, is, text) = document_added start.doubles start.form start texts new (sorted_pairs (each_key_once ps))
     (has_members d new
     (subst (λ starts. IsObjectWritten (spans_from ks starts (length texts)) (take c.args.mark.start texts) texts new)
     (own_starts d c.deref.result.now c.deref.ensures.value) c.in_ok-end_object.ensures.ended)) in

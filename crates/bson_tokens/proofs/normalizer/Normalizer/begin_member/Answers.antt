@@ -14,9 +14,9 @@ returns c =
       c.place-place.ensures ∙ ap (λ t. length t - c.args.start) comma.text,
       record {
         arrangement = named.arrangement ∙ comma.arrangement;
-        behind = named.behind;
+        needs_comma = named.needs_comma;
         text = named.text ∙ ap (λ t. t ++ print (key k ∷ [])) comma.text
-            ∙ append_assoc old.text.items (comma_if old.behind) (print (key k ∷ []))
-            ∙ ap (λ t. old.text.items ++ (comma_if old.behind ++ t)) (key_alone k);
+            ∙ append_assoc old.text.items (comma_if old.needs_comma) (print (key k ∷ []))
+            ∙ ap (λ t. old.text.items ++ (comma_if old.needs_comma ++ t)) (key_alone k);
       },
     )

@@ -8,7 +8,7 @@ use Rattle.json.proofs.Grammar.{value_is, value-begin_array, value-begin_object}
 use Rattle.serde_json.specs.Data.{number}
 use Rattle.serde_json.specs.Read.{of_json, converted}
 use Rattle.bson_tokens.proofs.Starts.{none_begins, too_deep_array, too_deep_object}
-use Rattle.bson_tokens.proofs.start.read_start.Goals as goal
+use Rattle.bson_tokens.proofs.value_start.read_start.Goals as goal
 
 pub returns-in-String-clause-ok : goal.returns-in-String-clause-ok
 returns-in-String-clause-ok c =

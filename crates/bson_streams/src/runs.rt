@@ -1,5 +1,5 @@
 //! A run, and what is told of it.
-use crate::coded;
+use crate::codec_runs;
 use crate::failing::{Drip, MemberSpans};
 use crate::order::{Call, Order};
 use bson::extjson::{KeyOrder, Options};
@@ -61,10 +61,10 @@ pub(crate) fn ran(alloc: Global, order: Order, input: &[u8]) -> Result<Vec<u8>, 
             converted(alloc, output, &mut ends)?
         }
         Call::RunLines(task, on_refusal) => by_lines(alloc, task, on_refusal, &mut ends)?,
-        Call::FromReader => coded::read(alloc, &mut ends)?,
-        Call::ToWriter => coded::write_document(alloc, input, &mut ends)?,
+        Call::FromReader => codec_runs::read(alloc, &mut ends)?,
+        Call::ToWriter => codec_runs::write_document(alloc, input, &mut ends)?,
         Call::RunDocuments(line, on_refusal) => {
-            coded::documents(alloc, line, on_refusal, &mut ends)?
+            codec_runs::documents(alloc, line, on_refusal, &mut ends)?
         }
     };
     tell(

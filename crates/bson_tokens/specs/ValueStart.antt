@@ -6,10 +6,10 @@ use Rattle.json.specs.Json.{items, members, value, parse_map}
 use Rattle.serde_json.specs.Data.{Data, null, boolean, number, string}
 use Rattle.serde_json.specs.Read.{number_of}
 use Rattle.serde_json.specs.View.{number_view}
-use Rattle.bson_tokens.specs.declared.start.Primitive.{Primitive}
-use Rattle.bson_tokens.specs.declared.start.Primitive.TheVariants.{Null, Bool, Number, String}
-use Rattle.bson_tokens.specs.declared.start.Start.{Start}
-use Rattle.bson_tokens.specs.declared.start.Start.TheVariants as start
+use Rattle.bson_tokens.specs.declared.value_start.Primitive.{Primitive}
+use Rattle.bson_tokens.specs.declared.value_start.Primitive.TheVariants.{Null, Bool, Number, String}
+use Rattle.bson_tokens.specs.declared.value_start.ValueStart.{ValueStart}
+use Rattle.bson_tokens.specs.declared.value_start.ValueStart.TheVariants as start
 
 abbrev pub primitive_tree : Primitive → Data
 primitive_tree Null = null
@@ -25,9 +25,9 @@ IsPrimitive (Number n) j = (s : List ℕ) × (j ≡ json.number s) × (number_of
 IsPrimitive (String s) j = j ≡ json.string s.now
 
 -- a value starts so, and these tokens are left: behind the value, or behind its bracket or brace
-abbrev pub Starts : ℕ → List Token → Start → List Token → Type 0
-Starts depth ts (start.Primitive p) rest = (j : json.Json) × (value depth ts ≡ Some (j, rest)) × IsPrimitive p j
-Starts depth ts start.Array rest = (0 < depth)
+abbrev pub StartsValue : ℕ → List Token → ValueStart → List Token → Type 0
+StartsValue depth ts (start.Primitive p) rest = (j : json.Json) × (value depth ts ≡ Some (j, rest)) × IsPrimitive p j
+StartsValue depth ts start.Array rest = (0 < depth)
     × (value depth ts ≡ parse_map json.array (items (value (depth - 1)) (length rest) rest))
-Starts depth ts start.Object rest = (0 < depth)
+StartsValue depth ts start.Object rest = (0 < depth)
     × (value depth ts ≡ parse_map json.object (members (value (depth - 1)) (length rest) rest))

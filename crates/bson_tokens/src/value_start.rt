@@ -4,7 +4,7 @@ ghost use Rattle.json.specs.Json.{value};
 ghost use Rattle.serde_json.specs.Read.{of_json, converted};
 ghost use Rattle.serde_json.specs.View.{view};
 ghost use Rattle.bson_tokens.specs.Parts.{InvalidMeansNone};
-ghost use Rattle.bson_tokens.specs.Start.{Starts, primitive_tree};
+ghost use Rattle.bson_tokens.specs.ValueStart.{StartsValue, primitive_tree};
 
 use crate::number::number;
 use json::{Error, Reader, Token};
@@ -22,7 +22,7 @@ pub enum Primitive<'a> {
 
 /// How a value starts.
 #[derive(Drop)]
-pub enum Start<'a> {
+pub enum ValueStart<'a> {
     /// The value as a whole.
     Primitive(Primitive<'a>),
     /// The bracket of an array.
@@ -39,32 +39,32 @@ pub enum Start<'a> {
 /// - `Invalid`: the next token starts no value, is a number out of range, or is the bracket or
 ///   brace of a value that nests deeper.
 #[inline(always)]
-pub fn read_start<'a>(reader: &mut Reader<'a>, depth: usize) -> Result<Start<'a>, Error>
-    ensures ok { IfOk result (λ start. Starts depth reader.old start reader.new) }
+pub fn read_start<'a>(reader: &mut Reader<'a>, depth: usize) -> Result<ValueStart<'a>, Error>
+    ensures ok { IfOk result (λ start. StartsValue depth reader.old start reader.new) }
     ensures broken { IfErr result (InvalidMeansNone (converted of_json (value depth reader.old))) }
     ensures shorter { OnOk result (length reader.new < length reader.old) }
 {
     let token = reader.next().ok_or(Error::Invalid)?;
     match token {
-        Token::String(text) => Ok(Start::Primitive(Primitive::String(text))),
+        Token::String(text) => Ok(ValueStart::Primitive(Primitive::String(text))),
         Token::Number(text) => match number(text) {
-            Some(n) => Ok(Start::Primitive(Primitive::Number(n))),
+            Some(n) => Ok(ValueStart::Primitive(Primitive::Number(n))),
             None => Err(Error::Invalid),
         },
-        Token::Bool(b) => Ok(Start::Primitive(Primitive::Bool(b))),
-        Token::Null => Ok(Start::Primitive(Primitive::Null)),
+        Token::Bool(b) => Ok(ValueStart::Primitive(Primitive::Bool(b))),
+        Token::Null => Ok(ValueStart::Primitive(Primitive::Null)),
         Token::EndObject | Token::EndArray | Token::Key(_) | Token::Bad => Err(Error::Invalid),
         Token::BeginArray => {
             if depth == 0 {
                 return Err(Error::Invalid);
             }
-            Ok(Start::Array)
+            Ok(ValueStart::Array)
         }
         Token::BeginObject => {
             if depth == 0 {
                 return Err(Error::Invalid);
             }
-            Ok(Start::Object)
+            Ok(ValueStart::Object)
         }
     }
 }

@@ -1,5 +1,5 @@
 //! Runs of the calls on BSON bytes.
-use crate::ran::Ends;
+use crate::runs::Ends;
 use bson::extjson::{Doubles, KeyOrder, Options};
 use bson::{Bson, Document};
 use bson_codec::de::DEPTH;
