@@ -86,7 +86,7 @@ mutual
   found_within before ms path (place.inside {path = w} b k j rest absent d) =
       ap (λ s. or_path (at_key (not s) k (double j)) (double_members (k ∷ b) rest)) (new b k absent)
       ∙ ap (λ v. or_path (path_within (key k) v) (double_members (k ∷ b) rest)) (found j w d)
-  found_within before ms path (place.later b k j rest absent h d) =
+  found_within before ms path (place.later_member b k j rest absent h d) =
       ap (λ s. or_path (at_key (not s) k (double j)) (double_members (k ∷ b) rest)) (new b k absent)
       ∙ ap (λ v. or_path (path_within (key k) v) (double_members (k ∷ b) rest)) (none j h)
       ∙ found_within (k ∷ b) rest path d

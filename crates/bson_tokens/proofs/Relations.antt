@@ -105,7 +105,7 @@ in_member : (before : List (List ℕ)) (k : List ℕ) (j : Json) (ms : Members) 
 in_member before k j ms true v path stood is e first later =
     subst (DoubleWithin before (member k j ms)) (same_Some _ _ e) (place.again before k j ms (stands before k stood))
 in_member before k j ms false None path stood is e first later =
-    place.later before k j ms (stands_not before k stood) (unique j is) (later e)
+    place.later_member before k j ms (stands_not before k stood) (unique j is) (later e)
 in_member before k j ms false (Some w) path stood is e first later =
     subst (DoubleWithin before (member k j ms)) (same_Some _ _ e)
     (place.inside before k j ms (stands_not before k stood) (first w is))

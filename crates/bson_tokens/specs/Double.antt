@@ -33,7 +33,7 @@ mutual
         → DoubleWithin before (member k j ms) (key k ∷ [])
     inside : {path : List PathSegment} (before : List (List ℕ)) (k : List ℕ) (j : Json) (ms : Members)
         → ¬ (Contains before k) → DuplicateAt j path → DoubleWithin before (member k j ms) (path ++ key k ∷ [])
-    later : {path : List PathSegment} (before : List (List ℕ)) (k : List ℕ) (j : Json) (ms : Members)
+    later_member : {path : List PathSegment} (before : List (List ℕ)) (k : List ℕ) (j : Json) (ms : Members)
         → ¬ (Contains before k) → HasUniqueKeys j → DoubleWithin (k ∷ before) ms path
         → DoubleWithin before (member k j ms) path
 

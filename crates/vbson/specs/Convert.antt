@@ -9,7 +9,7 @@ use Rattle.bson.specs.Doubles.TheVariants.{Special, Finite}
 use Rattle.bson.specs.TextMeaning.{IsNoText, IsTextOf}
 use Rattle.bson.specs.declared.extjson.options.Options.{Options}
 use Rattle.bson_convert.specs.Convert.{newline}
-use Rattle.bson_run.specs.InOrder.{ConvertsBy}
+use Rattle.bson_run.specs.InOrder.{ConvertsBy, IsKeptBy}
 use Rattle.bson_convert.specs.declared.mode.Mode.{Mode}
 use Rattle.bson_convert.specs.declared.mode.Mode.TheVariants.{Canonical, Relaxed, Show}
 use Rattle.bson_convert.specs.declared.error.Error.{Error}
@@ -37,13 +37,15 @@ options_of_flags options = record {
   key_order = order_of options;
 }
 
--- the line that the input is converted to in the mode of the number, which is UTF-8, with a NUL in its newline's place
+-- the line that the input is converted to in the mode of the number, with a NUL in place of its newline: it is UTF-8, and
+-- in a form it is accepted again, with itself as its output
 pub record IsConvertedBy (k : KeyOrder) (o : Options) (number : ℕ) (input : List ℕ) (out : Text) : Type 0 where
   pub mode : Mode
   pub named : mode_at number ≡ Some mode
   pub text : List ℕ
   pub converts : ConvertsBy k o mode input (text ++ newline)
   pub utf8 : IsUtf8 (text ++ newline)
+  pub again : IsKeptBy k o mode (text ++ newline)
   pub is_text : IsOwnedText text out
 
 -- the text of an object id alone is wrong
