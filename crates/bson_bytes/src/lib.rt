@@ -16,7 +16,7 @@ pub mod fixed;
 pub mod iter;
 pub mod keys;
 pub mod laws;
-mod scalars;
+mod scalar_parts;
 pub mod nothing;
 pub mod parts;
 pub mod put;

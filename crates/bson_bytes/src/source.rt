@@ -7,7 +7,7 @@ ghost use Rattle.bson_bytes.specs.Source.{ReadsTo, ReadsAllTo, keys_before};
 
 use crate::fault::FaultKind;
 use crate::fixed::FixedScalar;
-use crate::scalars::{
+use crate::scalar_parts::{
     bare_at, binary_at, boolean_at, code_at, date_at, decimal_at, double_at, id_at, int32_at,
     int64_at, pointer_at, regex_at, string_at, symbol_at, timestamp_at,
 };
