@@ -16,7 +16,7 @@ pop_distinct-requires c =
 pub returns-clause-given : goal.returns-clause-given
 returns-clause-given c = λ start ps begun.
     let now = c.args.self.now in
-    let new : TextSink = record { alloc = now.alloc; form = now.form; out = c.end_object.new.self; key_hashes = c.pop_distinct.new.key_digests } in
+    let new : TextSink = record { alloc = now.alloc; form = now.form; out = c.end_object.new.self; key_hashes = c.pop_distinct.new.key_hashes } in
     let at = begun.2 in
     let ds = begun.3.2 in
     let more = map key_hash (pair_keys ps) in
