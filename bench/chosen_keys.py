@@ -13,6 +13,9 @@ out, hashed, compared, written, read twice) in both kinds; reading the row and w
 
 Where `crates/bson_program` is built it also times each command on the inputs of `tests/rows/growth.py` at 1 and 8 MB, and
 prints for each command the greatest times at both, and how many times longer the larger input needs at most.
+
+Where `./vbson` has built the library it also times calls of Python at both sizes, on ascending keys and then the same keys
+again, and prints the ratio.
 """
 import argparse
 import os
@@ -20,6 +23,7 @@ import resource
 import subprocess
 import sys
 import tempfile
+import time
 
 sys.dont_write_bytecode = True
 TOP = os.path.dirname(os.path.dirname(os.path.abspath(__file__)))
@@ -32,6 +36,7 @@ from run import BYTES, ROUNDS
 OWN = os.path.join(TOP, "crates", "bson_cli", "out", "bson_cli")
 LINES = os.path.join(TOP, "crates", "bson_program", "out", "bson_program")
 ROWS = os.path.join(TOP, "crates", "bson_rows", "out", "bson_rows")
+LIBRARY = os.path.join(TOP, "languages", "out", "lib", "libvbson.so")
 SIZES = [BYTES // 10] if BYTES else [10_000, 100_000, 400_000]
 # The bytes of the smaller inputs of tests/rows/growth.py.
 SMALLER = BYTES or growth.LARGE
@@ -117,6 +122,30 @@ def growths(room, longest):
             print(f"| {words} | {small:.3f} s | {large:.3f} s | {found[name][1] / found[name][0]:.2f} | {name} |", flush=True)
 
 
+def library_calls():
+    """A line for each call: the times at both sizes, and the ratio."""
+    sys.path.append(os.path.join(TOP, "languages", "python"))
+    os.environ.setdefault("VBSON_LIBRARY", LIBRARY)
+    import vbson
+
+    def seconds(call, text):
+        started = time.process_time()
+        call(text)
+        return time.process_time() - started
+    given = [growth.members(growth.twice(size // growth.MEMBER)) for size in (SMALLER, growth.PARTS * SMALLER)]
+    named = {
+        "convert": vbson.convert,
+        "encode": vbson.encode,
+        "hash_of": vbson.hash_of,
+        "same": lambda text: vbson.same(text, text),
+    }
+    print(f"\n| vbson | {SMALLER / 1e6:g} MB | {growth.PARTS * SMALLER / 1e6:g} MB | ratio |")
+    print("|---|---|---|---|")
+    for name, call in named.items():
+        small, large = (min(seconds(call, text) for _ in range(ROUNDS)) for text in given)
+        print(f"| {name} | {small:.3f} s | {large:.3f} s | {large / small:.2f} |", flush=True)
+
+
 def main():
     parser = argparse.ArgumentParser()
     parser.add_argument("--keys", type=int, nargs="+", default=SIZES)
@@ -129,6 +158,8 @@ def main():
             calls(room, given.longest)
         if os.path.exists(LINES):
             growths(room, given.longest)
+    if os.path.exists(LIBRARY):
+        library_calls()
 
 
 if __name__ == "__main__":

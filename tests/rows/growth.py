@@ -5,15 +5,19 @@ A step that looks at every key so far for each key would need 64 times as long f
 """
 from many_keys import encoded
 
-# The commands of bson_program that read texts, and those that read BSON.
+# The commands of bson_program that read texts, and those that read BSON, from standard input, which is a file.
 COMMANDS = (
     "canonical --strict", "relaxed --strict", "show --strict", "check --strict",
     "canonical", "relaxed", "show", "check", "canonical --sort-keys",
     "canonical --strict --no-double-keys", "canonical --strict --legacy", "canonical --strict --indent 1",
     "canonical --no-double-keys", "canonical --legacy", "canonical --indent 1",
-    "lines canonical --strict", "lines canonical", "encode", "encode --sort-keys", "encode --strict",
+    "check --canonical", "hash", "same /dev/stdin /dev/stdin",
+    "lines canonical --strict", "lines canonical", "lines hash", "encode", "encode --sort-keys", "encode --strict",
 )
-COMMANDS_OF_BSON = ("decode canonical", "decode canonical --sort-keys", "decode canonical --strict", "decode show", "decode check")
+COMMANDS_OF_BSON = (
+    "decode canonical", "decode canonical --sort-keys", "decode canonical --strict", "decode show", "decode check",
+    "decode hash", "decode same /dev/stdin /dev/stdin",
+)
 
 LARGE = 1_000_000
 PARTS = 8
