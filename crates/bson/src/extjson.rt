@@ -8,7 +8,6 @@
 //! text is read).
 mod builder;
 pub mod de;
-mod without_tree;
 mod key_order;
 mod options;
 mod read;
@@ -18,6 +17,7 @@ mod text;
 mod text_error;
 mod text_reader;
 mod value_writer;
+mod without_tree;
 mod write;
 
 pub use crate::extjson::key_order::KeyOrder;

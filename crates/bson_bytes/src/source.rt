@@ -7,11 +7,11 @@ ghost use Rattle.bson_bytes.specs.Source.{ReadsTo, ReadsAllTo, keys_before};
 
 use crate::fault::FaultKind;
 use crate::fixed::FixedScalar;
+use crate::parts::{byte_at, kind_of, size_at, text_at};
 use crate::scalar_parts::{
     bare_at, binary_at, boolean_at, code_at, date_at, decimal_at, double_at, id_at, int32_at,
     int64_at, pointer_at, regex_at, string_at, symbol_at, timestamp_at,
 };
-use crate::parts::{byte_at, kind_of, size_at, text_at};
 use crate::sink::ValueSink;
 use crate::stop::{Stop, fault_at};
 use bson_types::spec::ElementType;

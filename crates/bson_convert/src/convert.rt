@@ -177,7 +177,12 @@ fn finish(alloc: Global, options: Options, mode: Mode, attempt: Attempt) -> Resu
 {
     match attempt {
         Attempt::Written(text) => Ok(text),
-        Attempt::Normalized(normalized) => read_normalized(alloc, options, mode, normalized.as_str()),
+        Attempt::Normalized(normalized) => read_normalized(
+            alloc,
+            options,
+            mode,
+            normalized.as_str(),
+        ),
     }
 }
 

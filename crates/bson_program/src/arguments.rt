@@ -6,10 +6,13 @@ ghost use Rattle.bson_program.specs.Invocation.{IsAnswer, IsWrongRequest, IsInit
 ghost use Rattle.bson_run.specs.Words.{task_name};
 
 use crate::choices::{
-    awaited, first_preprocessed, in_order, is_sorted, judged, options_of, set, requested_preprocessing,
+    awaited, first_preprocessed, in_order, is_sorted, judged, options_of, requested_preprocessing,
+    set,
 };
 use crate::fits::misfit;
-use crate::invocation::{Request, Command, Flag, Input, Misuse, Invocation, Purpose, STANDARD, Wrong};
+use crate::invocation::{
+    Command, Flag, Input, Invocation, Misuse, Purpose, Request, STANDARD, Wrong,
+};
 use crate::values::{inputs_of, is_dashed, number, output_in};
 use bson_convert::mode::Mode;
 use bson_run::order::{OnRefusal, Task};

@@ -1,6 +1,6 @@
 //! A comparison of the values of two files.
-use crate::messages::show_name;
 use crate::invocation::{Input, Invocation, STANDARD};
+use crate::messages::show_name;
 use crate::progress::Progress;
 use crate::run::{Stop, run_one, total, try_input};
 use crate::same::{Difference, compare_outputs, difference_line};
@@ -19,7 +19,11 @@ pub fn compare_files<'a>(
     for name in invocation.inputs.iter() {
         try_input(rt, invocation, name.as_str())?;
     }
-    let progress = Progress::new(rt, total(rt, invocation), invocation.input != Input::Documents);
+    let progress = Progress::new(
+        rt,
+        total(rt, invocation),
+        invocation.input != Input::Documents,
+    );
     let difference = compare(rt, invocation, &progress, hints);
     progress.clear();
     difference

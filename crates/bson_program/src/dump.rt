@@ -65,7 +65,8 @@ fn run_of(invocation: &Invocation) -> Run
             Task::WriteInOrder(Mode::Relaxed) => Line::TextInOrder(Form::Relaxed),
             Task::Write(Mode::Show) | Task::WriteInOrder(Mode::Show) => Line::Shown,
             // (bytes are made of texts alone)
-            Task::Check(_) | Task::Encode | Task::EncodeInOrder | Task::Preprocessed(..) => Line::Nothing,
+            Task::Check(_) | Task::Encode | Task::EncodeInOrder | Task::Preprocessed(..) =>
+                Line::Nothing,
         },
         keep_going: invocation.on_refusal == OnRefusal::KeepGoing,
     }

@@ -6,8 +6,8 @@ ghost use Rattle.bson_program.specs.Hints.{hint_of, hint_of_dump, hint_of_lines,
 ghost use Rattle.bson_program.specs.Hints.{has_content, is_high_first, is_length, is_low_first};
 ghost use Rattle.bson_program.specs.Hints.{is_opening, little, opens_over_lines, starts_text};
 
-use crate::messages::line_len;
 use crate::invocation::Input;
+use crate::messages::line_len;
 
 /// The greatest length of a document that is told from text by its first bytes.
 const MOST: usize = 1 << 27;

@@ -162,7 +162,10 @@ impl Invocation {
             ⊎ ((preprocessing : Preprocessing) × (self.now.task ≡ Task.Preprocessed preprocessing Work.Check))) }
     {
         self.purpose == Purpose::Comparison
-            || matches!(self.task, Task::Check(_) | Task::Preprocessed(_, Work::Check))
+            || matches!(
+                self.task,
+                Task::Check(_) | Task::Preprocessed(_, Work::Check)
+            )
     }
 }
 

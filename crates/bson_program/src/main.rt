@@ -15,9 +15,9 @@ mod digests;
 mod dump;
 mod fits;
 mod hints;
+mod invocation;
 mod messages;
 mod misuse;
-mod invocation;
 mod output;
 mod progress;
 mod rejected;
@@ -30,9 +30,11 @@ mod whole;
 mod words;
 
 use crate::compared::{compare_files, line_for};
+use crate::invocation::{
+    Command, Invocation, Misuse, Purpose, Request, STANDARD, Wrong, parse_arguments,
+};
 use crate::messages::{line_of, summary};
 use crate::misuse::misuse_line;
-use crate::invocation::{Request, Command, Misuse, Invocation, Purpose, STANDARD, Wrong, parse_arguments};
 use crate::run::{Stop, run};
 use crate::words::{OUT_OF_MEMORY, VERSION, help_of, usage_of};
 use bson_convert::fault::Fault;
@@ -49,7 +51,10 @@ const NO_READER: u8 = 141;
 // nobody reads the output any more, and nothing is told.
 fn main(rt: HostRuntime) -> ExitCode {
     match read_order(&rt) {
-        Ok(Request::Run(invocation)) if invocation.purpose == Purpose::Comparison => compare_order(&rt, &invocation),
+        Ok(Request::Run(invocation)) if invocation.purpose == Purpose::Comparison => compare_order(
+            &rt,
+            &invocation,
+        ),
         Ok(Request::Run(invocation)) => run_order(&rt, &invocation),
         Ok(Request::Help(command)) => print_text(&rt, help_of(command)),
         Ok(Request::Version) => print_text(&rt, VERSION),

@@ -8,8 +8,8 @@ ghost use Rattle.bson_convert.specs.Words.{name_of};
 ghost use Rattle.bson_run.specs.Words.{task_name};
 ghost use Rattle.bson_run.specs.declared.order.Task.{Task};
 
-use crate::messages::escape_name;
 use crate::invocation::{Command, Flag, Misuse, Purpose, Wrong};
+use crate::messages::escape_name;
 use bson_convert::mode::Mode;
 use bson_run::order::{Criterion, Task, Work};
 use std::alloc::{AllocError, Global};
@@ -173,9 +173,8 @@ fn task_name(task: Task) -> &'static str
         Task::Write(mode) | Task::WriteInOrder(mode) => mode_name(mode),
         Task::Check(_) | Task::Preprocessed(_, Work::Check) => "check",
         Task::Encode | Task::EncodeInOrder => "encode",
-        Task::Preprocessed(_, Work::Write(mode)) | Task::Preprocessed(_, Work::WriteInOrder(mode)) => mode_name(
-            mode,
-        ),
+        Task::Preprocessed(_, Work::Write(mode))
+        | Task::Preprocessed(_, Work::WriteInOrder(mode)) => mode_name(mode),
     }
 }
 

@@ -4,9 +4,9 @@ ghost use Rattle.bson_program.specs.Hints.{IsHelpFor, hint_line, is_rejected, is
 ghost use Rattle.bson_program.specs.Hints.{sorts_keys, preprocessing_options, hint_text};
 
 use crate::hints::{Hint, Rejected, hint_for};
+use crate::invocation::{Input, Invocation, Purpose, STANDARD};
 use crate::messages::show_name;
 use crate::misuse::mode_word;
-use crate::invocation::{Input, Invocation, Purpose, STANDARD};
 use crate::run::Stop;
 use bson::extjson::{Doubles, Options};
 use bson_codec::run_end::RunFault;

@@ -6,8 +6,8 @@ ghost use Rattle.bson_program.specs.Stops.{IsTitle, IsUnread, IsUnwritten};
 
 use crate::digests::hasher_for;
 use crate::dump::run_dump;
-use crate::messages::head_of;
 use crate::invocation::{Input, Invocation, STANDARD};
+use crate::messages::head_of;
 use crate::output::Output;
 use crate::progress::{Counted, Progress, Verdicts};
 use crate::rejected::{ends_at_double, is_rejected, rejection_help};
@@ -51,7 +51,10 @@ pub fn run<'a>(
     invocation: &'a Invocation,
     hints: &mut Vec<String>,
 ) -> Result<Counts, Stop<'a>> {
-    if invocation.writes_bytes() && invocation.output.as_str() == STANDARD && rt.stdout().is_terminal() {
+    if invocation.writes_bytes()
+        && invocation.output.as_str() == STANDARD
+        && rt.stdout().is_terminal()
+    {
         return Err(Stop::Terminal);
     }
     for name in invocation.inputs.iter() {
@@ -63,7 +66,11 @@ pub fn run<'a>(
         Err(error) => return Err(Stop::Output(name, Some(error))),
     };
     output.sink.hasher = hasher_for(rt.alloc(), invocation.purpose);
-    let progress = Progress::new(rt, total(rt, invocation), invocation.input != Input::Documents);
+    let progress = Progress::new(
+        rt,
+        total(rt, invocation),
+        invocation.input != Input::Documents,
+    );
     let counts = run_all(rt, invocation, &mut output.sink, &progress, hints);
     progress.clear();
     match counts {
@@ -168,7 +175,11 @@ fn place_in(alloc: Global, run: &LineRun, fault: &error::Error) -> String
 }
 
 /// What could not be written: verdicts, or else the output.
-pub fn write_stop<'a>(invocation: &'a Invocation, sink: &Sink, report: &Verdicts<'_, Stderr>) -> Stop<'a>
+pub fn write_stop<'a>(
+    invocation: &'a Invocation,
+    sink: &Sink,
+    report: &Verdicts<'_, Stderr>,
+) -> Stop<'a>
     ensures { IsUnwritten invocation.now report.now.error sink.now.error result }
 {
     match report.error {
@@ -210,7 +221,11 @@ fn source<'a>(rt: &HostRuntime, name: &'a str) -> Result<Source, Stop<'a>>
 }
 
 // The name that stands before verdicts, but those on lines of standard input.
-fn title<'a>(rt: &HostRuntime, invocation: &Invocation, name: &'a str) -> Result<Option<String>, Stop<'a>>
+fn title<'a>(
+    rt: &HostRuntime,
+    invocation: &Invocation,
+    name: &'a str,
+) -> Result<Option<String>, Stop<'a>>
     ensures title { IfOk result (IsTitle invocation.now.input name.now) }
     ensures stop { IfErr result (IsUnread name.now) }
 {
@@ -224,7 +239,11 @@ fn title<'a>(rt: &HostRuntime, invocation: &Invocation, name: &'a str) -> Result
 }
 
 /// A file to read opens, and is none of those that are written.
-pub fn try_input<'a>(rt: &HostRuntime, invocation: &Invocation, name: &'a str) -> Result<(), Stop<'a>> {
+pub fn try_input<'a>(
+    rt: &HostRuntime,
+    invocation: &Invocation,
+    name: &'a str,
+) -> Result<(), Stop<'a>> {
     let input = if name == STANDARD {
         fs::metadata(rt, "/dev/stdin")
     } else {

@@ -38,7 +38,11 @@ pub fn accept(alloc: Global, invocation: &Invocation, bytes: &[u8]) -> Result<Ac
         Task::EncodeInOrder => {
             Ok(Accepted::Output(encode_ordered(alloc, invocation.options, bytes)?))
         }
-        Task::Preprocessed(preprocessing, work) => match preprocess_text(alloc, preprocessing, bytes)? {
+        Task::Preprocessed(preprocessing, work) => match preprocess_text(
+            alloc,
+            preprocessing,
+            bytes,
+        )? {
             Some(upgraded) => accept_upgraded(alloc, invocation, work, upgraded),
             None => accept_preprocessed(alloc, invocation, work, bytes),
         },
@@ -69,7 +73,12 @@ fn accept_upgraded(
 }
 
 // What a text gives that was taken.
-fn accept_preprocessed(alloc: Global, invocation: &Invocation, work: Work, bytes: &[u8]) -> Result<Accepted, Error>
+fn accept_preprocessed(
+    alloc: Global,
+    invocation: &Invocation,
+    work: Work,
+    bytes: &[u8],
+) -> Result<Accepted, Error>
     ensures ok { IfOk result (HasOutput invocation.now.options (Works invocation.now work bytes.now)) }
     ensures utf8 { IfOk result IsUtf8Accepted }
     ensures fault { IfErr result (λ fault. IsRefusedIn invocation.now.options fault bytes.now) }
@@ -82,7 +91,12 @@ fn accept_preprocessed(alloc: Global, invocation: &Invocation, work: Work, bytes
 }
 
 // The output in the mode, over several lines where that is asked for.
-fn accept_text(alloc: Global, invocation: &Invocation, mode: Mode, bytes: &[u8]) -> Result<Accepted, Error>
+fn accept_text(
+    alloc: Global,
+    invocation: &Invocation,
+    mode: Mode,
+    bytes: &[u8],
+) -> Result<Accepted, Error>
     ensures ok { IfOk result (HasOutput invocation.now.options (WritesIndented invocation.now.options invocation.now.indent mode bytes.now)) }
     ensures utf8 { IfOk result IsUtf8Accepted }
     ensures fault { IfErr result (λ fault. IsRefusedIn invocation.now.options fault bytes.now) }

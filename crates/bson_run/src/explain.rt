@@ -5,10 +5,10 @@ ghost use Rattle.bson_run.specs.Place.{IsExplanation, IsQuote, IsReasonIn, IsWhe
 ghost use Rattle.bson_run.specs.Place.{words_at};
 
 use crate::order::{Preprocessing, Task};
+use crate::preprocessed::{DUPLICATE_KEY, preprocess_text};
 use crate::quoted::quote;
 use crate::shorten::shorten;
 use crate::stop::Stop;
-use crate::preprocessed::{DUPLICATE_KEY, preprocess_text};
 use bson_convert::error::Error;
 use bson_tree::place::{Place, Reason, Segment};
 use std::alloc::{AllocError, Global};

@@ -8,7 +8,7 @@ ghost use Rattle.bson_run.specs.LinesSteps.{CannotWriteBoth, CountsFit, HasWritt
 ghost use Rattle.bson_run.specs.LinesSteps.{IsStart, Running};
 ghost use Rattle.bson_run.specs.Place.{IsWhere};
 
-use crate::collected::{Settings, Collected, empty};
+use crate::collected::{Collected, Settings, empty};
 use crate::order::{OnRefusal, Task};
 use bson::extjson::Options;
 use bson_convert::error::Error;

@@ -31,7 +31,11 @@ pub(crate) const DUPLICATE_KEY: &str = "duplicate key";
 ///     println!(rt; "{newer}")?; // {"$regularExpression":{"pattern":"^a","options":"i"}}
 /// }
 /// ```
-pub fn preprocess_text(alloc: Global, preprocessing: Preprocessing, bytes: &[u8]) -> Result<Option<String>, Error>
+pub fn preprocess_text(
+    alloc: Global,
+    preprocessing: Preprocessing,
+    bytes: &[u8],
+) -> Result<Option<String>, Error>
     ensures ok { IfOk result (λ text. IsPreprocessedAs preprocessing bytes.now (preprocessed_of bytes.now text)) }
     ensures fault { IfErr result (λ fault. IsNotPreprocessed preprocessing fault bytes.now) }
 {

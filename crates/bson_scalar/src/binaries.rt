@@ -18,8 +18,8 @@ ghost use Rattle.bson_scalar.specs.View.{scalar_view};
 
 use crate::error::Error;
 use crate::scalar::Scalar;
-use crate::tree_parts::{are_bytes, expect, text_in, two_keys_in};
 use crate::sink::Sink;
+use crate::tree_parts::{are_bytes, expect, text_in, two_keys_in};
 use crate::wrapped::{begin, end_one, two_texts};
 use base64::engine::general_purpose::STANDARD;
 use bson_types::binary::{self, Binary};

@@ -11,8 +11,8 @@ ghost use Rattle.bson_scalar.specs.View.{scalar_view};
 
 use crate::error::Error;
 use crate::scalar::Scalar;
-use crate::tree_parts::whole_of;
 use crate::sink::Sink;
+use crate::tree_parts::whole_of;
 use crate::wrapped::{begin, end_one};
 use serde_json::Value;
 use std::alloc::AllocError;

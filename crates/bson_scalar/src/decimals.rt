@@ -9,8 +9,8 @@ ghost use Rattle.bson_scalar.specs.View.{scalar_view};
 
 use crate::error::Error;
 use crate::scalar::Scalar;
-use crate::tree_parts::{expect, text_in};
 use crate::sink::Sink;
+use crate::tree_parts::{expect, text_in};
 use crate::wrapped::wrapped_owned;
 use bson_decimal::Decimal128;
 use serde_json::Value;

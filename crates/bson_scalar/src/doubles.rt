@@ -18,8 +18,8 @@ ghost use Rattle.bson_scalar.specs.declared.form.Form.TheVariants.{Canonical, Re
 use crate::error::Error;
 use crate::form::{Doubles, Form};
 use crate::scalar::Scalar;
-use crate::tree_parts::{expect, text_in};
 use crate::sink::Sink;
+use crate::tree_parts::{expect, text_in};
 use crate::wrapped::wrapped_text;
 use crate::write_error::WriteError;
 use serde_json::{Number, Value};

@@ -14,8 +14,8 @@ ghost use Rattle.bson_scalar.specs.View.{scalar_view};
 
 use crate::error::Error;
 use crate::scalar::Scalar;
-use crate::tree_parts::{single_key_in, text_in, two_keys_in};
 use crate::sink::Sink;
+use crate::tree_parts::{single_key_in, text_in, two_keys_in};
 use crate::wrapped::{begin, begin_second, end_one, end_two, wrapped_owned};
 use bson_types::db_pointer::DbPointer;
 use bson_types::oid::{self, ObjectId};

@@ -6,6 +6,7 @@ ghost use Rattle.bson_scalar.specs.Table.{wrapper_of};
 ghost use Rattle.bson_scalar.specs.View.{scalar_view};
 
 use crate::binaries::{read_binary, read_uuid};
+use crate::constants::{read_max_key, read_min_key, read_undefined};
 use crate::dates::read_date;
 use crate::decimals::read_decimal;
 use crate::doubles::read_double;
@@ -13,7 +14,6 @@ use crate::error::Error;
 use crate::form::Doubles;
 use crate::ids::{read_oid, read_pointer};
 use crate::ints::{read_int32, read_int64};
-use crate::constants::{read_max_key, read_min_key, read_undefined};
 use crate::regexes::read_regex;
 use crate::scalar::Scalar;
 use crate::texts::{read_code, read_symbol};

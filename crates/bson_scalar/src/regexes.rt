@@ -10,8 +10,8 @@ ghost use Rattle.bson_scalar.specs.View.{scalar_view};
 
 use crate::error::Error;
 use crate::scalar::Scalar;
-use crate::tree_parts::{text_in, two_keys_in};
 use crate::sink::Sink;
+use crate::tree_parts::{text_in, two_keys_in};
 use crate::wrapped::{begin, end_one, two_texts};
 use bson_types::regex::{Regex, sort_characters};
 use serde_json::Value;

@@ -8,8 +8,8 @@ ghost use Rattle.bson_scalar.specs.View.{scalar_view};
 
 use crate::error::Error;
 use crate::scalar::Scalar;
-use crate::tree_parts::text_in;
 use crate::sink::Sink;
+use crate::tree_parts::text_in;
 use crate::wrapped::wrapped_owned;
 use serde_json::Value;
 use std::alloc::AllocError;

@@ -10,8 +10,8 @@ ghost use Rattle.bson_scalar.specs.View.{scalar_view};
 
 use crate::error::Error;
 use crate::scalar::Scalar;
-use crate::tree_parts::{two_keys_in, u32_of};
 use crate::sink::Sink;
+use crate::tree_parts::{two_keys_in, u32_of};
 use crate::wrapped::{begin, begin_second, end_one, end_two};
 use bson_types::timestamp::Timestamp;
 use serde_json::Value;

@@ -10,13 +10,13 @@ ghost use Rattle.bson_scalar.specs.View.{scalar_view};
 ghost use Rattle.bson_scalar.specs.Written.{Writes, writes_scalar_in};
 
 use crate::binaries::{write_binary, write_owned};
+use crate::constants::{write_max_key, write_min_key, write_undefined};
 use crate::dates::write_date;
 use crate::decimals::write_decimal;
 use crate::doubles::write_double;
 use crate::form::{Doubles, Form};
 use crate::ids::{write_oid, write_pointer};
 use crate::ints::{write_int32, write_int64};
-use crate::constants::{write_max_key, write_min_key, write_undefined};
 use crate::regexes::write_regex;
 use crate::scalar::Scalar;
 use crate::sink::{Sink, Trees};

@@ -15,7 +15,7 @@ ghost use Rattle.bson_tree.specs.Place.{segment_of, path_of};
 
 use crate::builder::{Nothing, ValueBuilder};
 use crate::place::{Place, Reason, Segment};
-use crate::shape::{CODE, SCOPE, other_keys_reason, first_wrapper};
+use crate::shape::{CODE, SCOPE, first_wrapper, other_keys_reason};
 use bson_scalar::code::is_code_with_scope;
 use bson_scalar::doubles::read_number;
 use bson_scalar::error::Error;

@@ -67,7 +67,12 @@ pub(crate) fn write_held(texts: Texts<'_>, out: &mut Writer) -> Result<(), Alloc
 }
 
 // Writes what the object of this member alone stands for: a date, or itself.
-fn write_single_key(alloc: Global, key: &str, text: &str, out: &mut Writer) -> Result<(), AllocError>
+fn write_single_key(
+    alloc: Global,
+    key: &str,
+    text: &str,
+    out: &mut Writer,
+) -> Result<(), AllocError>
     ensures ok { OnOk result (out.new.tokens ≡ out.old.tokens ++ of_value (of_one key.now (string text.now))) }
     ensures before { out.new.before ≡ out.old.before }
 {

@@ -22,10 +22,10 @@ ghost use Rattle.bson.specs.View.{bson_view, scoped_view, values_view, pairs_vie
 
 use crate::bson::{Bson, JavaScriptCodeWithScope};
 use crate::document::Document;
-use crate::extjson::without_tree::{is_without_tree, print_without_tree, put_code};
 use crate::extjson::key_order::KeyOrder;
 use crate::extjson::options::Options;
 use crate::extjson::scalars::has_text;
+use crate::extjson::without_tree::{is_without_tree, print_without_tree, put_code};
 use crate::scalar::scalar_ref;
 use bson_scalar::form::{Doubles, Form};
 use bson_scalar::scalar_ref::ScalarRef;
