@@ -149,7 +149,7 @@ pub struct Invocation {
 impl Invocation {
     /// Whether BSON bytes are written, and no text.
     pub fn writes_bytes(&self) -> bool
-        ensures { IsTrue result ↔ self.now.task ≡ Task.Encode }
+        ensures { IsTrue result ↔ (self.now.task ≡ Task.Encode) }
     {
         self.task == Task::Encode
     }

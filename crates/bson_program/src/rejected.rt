@@ -120,7 +120,10 @@ fn words_of(alloc: Global, invocation: &Invocation) -> Result<String, AllocError
 {
     let mode = mode_for(invocation);
     let options = invocation.options;
-    let sorts_keys = option_if(sorts_keys(invocation.purpose, options), " --sort-keys");
+    let sorts_keys = option_if(
+        sorts_keys(invocation.purpose, options.doubles, options.key_order),
+        " --sort-keys",
+    );
     let strict = option_if(is_strict(options.doubles), " --strict");
     let preprocessing = preprocessing_options(invocation.task);
     format!(in alloc; "{mode}{sorts_keys}{strict}{preprocessing}")
@@ -163,13 +166,13 @@ fn preprocessing_options(task: Task) -> &'static str
 }
 
 // Whether the option that sorts keys is given, and not another that sorts them.
-fn sorts_keys(purpose: Purpose, options: Options) -> bool
-    ensures { result ≡ sorts_keys purpose options.doubles options.key_order }
+fn sorts_keys(purpose: Purpose, doubles: Doubles, order: KeyOrder) -> bool
+    ensures { result ≡ sorts_keys purpose doubles order }
 {
-    matches!(
-        (purpose, options.doubles, options.key_order),
-        (Purpose::Output, Doubles::Finite, KeyOrder::Ascending)
-    )
+    match (purpose, doubles, order) {
+        (Purpose::Output, Doubles::Finite, KeyOrder::Ascending) => true,
+        _ => false,
+    }
 }
 
 // The line for a hint.
