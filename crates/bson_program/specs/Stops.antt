@@ -6,7 +6,7 @@ use Rattle.std.specs.declared.io.Error.{Error}
 use Rattle.bson_codec.specs.declared.documents.Line as documents
 use Rattle.bson_codec.specs.declared.documents.Line.TheVariants as line
 use Rattle.bson.specs.Form.{Form}
-use Rattle.bson.specs.Form.TheVariants as form
+use Rattle.bson.specs.Form.TheVariants as forms
 use Rattle.bson.specs.declared.extjson.key_order.KeyOrder.{KeyOrder}
 use Rattle.bson.specs.declared.extjson.key_order.KeyOrder.TheVariants.{Ascending, AsGiven}
 use Rattle.bson_convert.specs.declared.mode.Mode.TheVariants.{Canonical, Relaxed, Show}
@@ -52,8 +52,8 @@ line_in AsGiven form = line.TextInOrder form
 
 -- what is written of each document: its text in the mode, what Display has of it, or nothing
 abbrev pub line_of : KeyOrder → Task → documents.Line
-line_of order (task.Write Canonical) = line_in order form.Canonical
-line_of order (task.Write Relaxed) = line_in order form.Relaxed
+line_of order (task.Write Canonical) = line_in order forms.Canonical
+line_of order (task.Write Relaxed) = line_in order forms.Relaxed
 line_of order (task.Write Show) = line.Shown
 line_of order other = line.Nothing
 
