@@ -12,7 +12,7 @@ use Rattle.bson_run.specs.declared.order.Preprocessing.{Preprocessing}
 use Rattle.bson_run.specs.declared.order.Task.{Task}
 use Rattle.bson_run.specs.declared.order.Task.TheVariants.{Write, Check, Encode, Preprocessed}
 use Rattle.bson_program.specs.Flags.{has_flag}
-use Rattle.bson_program.specs.Invocation.{first_preprocessed, is_option, judged, mode_word, order_of, AreGiven, one_more, IsAnswer}
+use Rattle.bson_program.specs.Invocation.{first_preprocessed, is_option, judged, mode_word, requested_order, AreGiven, one_more, IsAnswer}
 use Rattle.bson_program.specs.Invocation.{requested_preprocessing, IsRequestedBy, IsNamed, IsTaskFor, IsVerbFor, IsWordAfter}
 use Rattle.bson_program.specs.Invocation.{command_of, IsDashed, IsValueInWord, IsNumbered, IsMisuse, IsParsed, AcceptsWord}
 use Rattle.bson_program.specs.declared.arguments.Given.{Given}
@@ -56,7 +56,7 @@ named_for purpose.Digests task verb e = refl
 named_for purpose.Comparison task verb e = refl
 
 canonical_taken : (preprocessing : Option Preprocessing) (it : Purpose) (sorts strict : Bool)
-    → IsTaskFor it (order_of it sorts strict)
+    → IsTaskFor it (requested_order it sorts strict)
     (option_map_or (λ t. first_preprocessed t (Write modes.Canonical)) preprocessing (Write modes.Canonical))
 canonical_taken preprocessing purpose.Output sorts strict = tt
 canonical_taken None purpose.Digests sorts strict = (refl, refl)
@@ -70,7 +70,7 @@ unjudged false = refl
 
 -- with what sorts the keys, and what is looked for in a text first
 sorted_for : (it : Purpose) (b sorts strict : Bool) (preprocessing : Option Preprocessing) (verb : Task) → IsVerbFor it verb
-    → IsTaskFor it (order_of it sorts strict)
+    → IsTaskFor it (requested_order it sorts strict)
     (let task = judged b verb in option_map_or (λ t. first_preprocessed t task) preprocessing task)
 sorted_for purpose.Output b sorts strict preprocessing verb is = tt
 sorted_for purpose.Digests b sorts strict preprocessing verb is =
@@ -100,7 +100,7 @@ answered words given (Run invocation) are h is =
           (subst (Contains words) (sym (named_for given.purpose invocation.task is.verb name)) there.0),
       subst (λ it. IsTaskFor it invocation.options.key_order invocation.task) (sym is.purpose)
           (subst (λ order. IsTaskFor given.purpose order invocation.task) (sym (ap (λ (o : Options). o.key_order) is.options))
-          (subst (IsTaskFor given.purpose (order_of given.purpose given.sorts_keys given.is_strict)) (sym is.task)
+          (subst (IsTaskFor given.purpose (requested_order given.purpose given.sorts_keys given.is_strict)) (sym is.task)
           (sorted_for given.purpose given.is_canonical given.sorts_keys given.is_strict
           (requested_preprocessing given.is_distinct given.is_legacy) is.verb there.1))),
       (given, are, is),

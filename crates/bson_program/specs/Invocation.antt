@@ -66,9 +66,9 @@ doubles_of true = Special
 doubles_of false = Finite
 
 -- keys keep their order, unless they are sorted, the run is strict, or it has digests or a comparison
-abbrev pub order_of : Purpose → (sorts_keys is_strict : Bool) → KeyOrder
-order_of purpose.Output false false = AsGiven
-order_of purpose sorts_keys is_strict = Ascending
+abbrev pub requested_order : Purpose → (sorts_keys is_strict : Bool) → KeyOrder
+requested_order purpose.Output false false = AsGiven
+requested_order purpose sorts_keys is_strict = Ascending
 
 -- ---- words
 
@@ -300,7 +300,7 @@ task_of given verb =
 abbrev pub options_of : Given → Options
 options_of given = record {
   doubles = doubles_of given.is_strict;
-  key_order = order_of given.purpose given.sorts_keys given.is_strict;
+  key_order = requested_order given.purpose given.sorts_keys given.is_strict;
 }
 
 -- the files, or the standard stream where none is given

@@ -46,16 +46,16 @@ reported_under (Some name) verdicts = all_under (string_bytes name) verdicts
 -- ---- documents
 
 -- the text of each document in the form, with its keys in the order
-abbrev pub line_in : KeyOrder → Form → documents.Line
-line_in Ascending form = line.Text form
-line_in AsGiven form = line.TextInOrder form
+abbrev pub form_line : KeyOrder → Form → documents.Line
+form_line Ascending form = line.Text form
+form_line AsGiven form = line.TextInOrder form
 
 -- what is written of each document: its text in the mode, what Display has of it, or nothing
-abbrev pub line_of : KeyOrder → Task → documents.Line
-line_of order (task.Write Canonical) = line_in order forms.Canonical
-line_of order (task.Write Relaxed) = line_in order forms.Relaxed
-line_of order (task.Write Show) = line.Shown
-line_of order other = line.Nothing
+abbrev pub document_line : KeyOrder → Task → documents.Line
+document_line order (task.Write Canonical) = form_line order forms.Canonical
+document_line order (task.Write Relaxed) = form_line order forms.Relaxed
+document_line order (task.Write Show) = line.Shown
+document_line order other = line.Nothing
 
 -- ---- files
 

@@ -6,7 +6,7 @@ ghost use Rattle.bson_program.specs.Invocation.{IsAnswer, IsWrongRequest, IsInit
 ghost use Rattle.bson_run.specs.Words.{task_name};
 
 use crate::choices::{
-    awaited, doubles_of, first_preprocessed, judged, order_of, requested_preprocessing, set,
+    awaited, doubles_of, first_preprocessed, judged, requested_order, requested_preprocessing, set,
 };
 use crate::fits::misfit;
 use crate::invocation::{Request, Command, Flag, Input, Misuse, Invocation, Purpose, STANDARD, Wrong};
@@ -367,7 +367,7 @@ impl Given {
             },
             options: Options {
                 doubles: doubles_of(is_strict),
-                key_order: order_of(purpose, sorts_keys, is_strict),
+                key_order: requested_order(purpose, sorts_keys, is_strict),
             },
             on_refusal: if keeps_going {
                 OnRefusal::KeepGoing

@@ -1,7 +1,7 @@
 //! What follows from the options that are given: the task, which doubles have a text, the order of keys,
 //! and that an option is given once.
 ghost use Rattle.std.specs.Prelude.{◌≡◌, true, if◌then◌else◌};
-ghost use Rattle.bson_program.specs.Invocation.{awaited, doubles_of, first_preprocessed, judged, order_of, requested_preprocessing};
+ghost use Rattle.bson_program.specs.Invocation.{awaited, doubles_of, first_preprocessed, judged, requested_order, requested_preprocessing};
 
 use crate::arguments::{Next, Parsed};
 use crate::invocation::{Flag, Misuse, Purpose};
@@ -45,8 +45,8 @@ pub fn doubles_of(is_strict: bool) -> Doubles
 
 /// Returns the order of keys. They are sorted if that is asked for, if the run is strict, or if it has
 /// digests or a comparison.
-pub fn order_of(purpose: Purpose, sorts_keys: bool, is_strict: bool) -> KeyOrder
-    ensures { result ≡ order_of purpose sorts_keys is_strict }
+pub fn requested_order(purpose: Purpose, sorts_keys: bool, is_strict: bool) -> KeyOrder
+    ensures { result ≡ requested_order purpose sorts_keys is_strict }
 {
     match (purpose, sorts_keys, is_strict) {
         (Purpose::Output, false, false) => KeyOrder::AsGiven,

@@ -5,7 +5,7 @@ ghost use Rattle.std.specs.Io.KnownBytes.{Appends};
 ghost use Rattle.bson_codec.specs.Documents.{EndsAt, IsOfBytes};
 ghost use Rattle.bson_codec.specs.Diagnostics.{diagnostic_of};
 ghost use Rattle.bson_program.specs.Dump.{IsDoneDump};
-ghost use Rattle.bson_program.specs.Stops.{line_in, line_of};
+ghost use Rattle.bson_program.specs.Stops.{form_line, document_line};
 
 use crate::invocation::Invocation;
 use crate::progress::{Counted, Verdicts};
@@ -52,24 +52,24 @@ pub fn run_dump<'a>(
 fn run_of(invocation: &Invocation) -> Run
     ensures depth { result.depth ≡ DEPTH }
     ensures options { result.options ≡ invocation.now.options }
-    ensures line { result.line ≡ line_of invocation.now.options.key_order invocation.now.task }
+    ensures line { result.line ≡ document_line invocation.now.options.key_order invocation.now.task }
     ensures refusal { IsTrue result.keep_going ↔ (invocation.now.on_refusal ≡ OnRefusal.KeepGoing) }
 {
     Run {
         depth: DEPTH,
         options: invocation.options,
-        line: line_of(invocation.options.key_order, invocation.task),
+        line: document_line(invocation.options.key_order, invocation.task),
         keep_going: invocation.on_refusal == OnRefusal::KeepGoing,
     }
 }
 
 // What is written of each document.
-fn line_of(order: KeyOrder, task: Task) -> Line
-    ensures { result ≡ line_of order task }
+fn document_line(order: KeyOrder, task: Task) -> Line
+    ensures { result ≡ document_line order task }
 {
     match task {
-        Task::Write(Mode::Canonical) => line_in(order, Form::Canonical),
-        Task::Write(Mode::Relaxed) => line_in(order, Form::Relaxed),
+        Task::Write(Mode::Canonical) => form_line(order, Form::Canonical),
+        Task::Write(Mode::Relaxed) => form_line(order, Form::Relaxed),
         Task::Write(Mode::Show) => Line::Shown,
         // (bytes are made of texts alone)
         Task::Check(_) | Task::Encode | Task::Preprocessed(..) => Line::Nothing,
@@ -77,8 +77,8 @@ fn line_of(order: KeyOrder, task: Task) -> Line
 }
 
 // Its text in the form, with its keys in the order.
-fn line_in(order: KeyOrder, form: Form) -> Line
-    ensures { result ≡ line_in order form }
+fn form_line(order: KeyOrder, form: Form) -> Line
+    ensures { result ≡ form_line order form }
 {
     match order {
         KeyOrder::Ascending => Line::Text(form),
