@@ -49,7 +49,7 @@ HasNoBytesFor means TooLong = FailsFor means too_long
 abbrev pub Encodes : KeyOrder → Options → (text bytes : List ℕ) → Type 0
 Encodes k o text bytes = IsBytesOf (HasTextMeaningBy k o.doubles text) bytes
 
--- the text means a value that has no bytes
+-- why the text gives no bytes
 abbrev pub HasNoBytesBy : KeyOrder → Options → NoBytes → List ℕ → Type 0
 HasNoBytesBy k o why text = HasNoBytesFor (HasTextMeaningBy k o.doubles text) why
 
