@@ -14,10 +14,11 @@ use Rattle.bson.specs.Scalar.{code, regex, timestamp, binary, object_id, date, d
 use Rattle.bson.specs.Texts.{IsTextInOrder}
 use Rattle.bson.specs.Value.{Value, scalar, code_scope, array, document, Values, no_values, value, Pairs, no_pairs, pair}
 use Rattle.bson.specs.WrittenInOrder.{WrittenInOrder}
-use Rattle.bson.specs.declared.extjson.options.Options.{Options}
+use Rattle.bson.specs.Options.{mongodb_options}
+use Rattle.bson.specs.declared.extjson.key_order.KeyOrder.TheVariants.{AsGiven}
 use Rattle.bson_codec.specs.Canonical.{NestsPairs, as_written, by_byte, document_bytes}
 use Rattle.bson_codec.specs.Laws.{IsRead}
-use Rattle.bson_run.specs.Encode.{EncodesInOrder}
+use Rattle.bson_run.specs.Encode.{Encodes}
 use Rattle.bson_scalar.specs.Normal.{normal_scalar}
 use Rattle.bson_pairs.specs.Again.{RoundTrips, NestsAtMost}
 
@@ -95,20 +96,15 @@ module _ (ps : Pairs) (text : List ℕ) (is : IsTextInOrder Finite Canonical (do
 
   -- ---- bytes
 
-  meant_by : (o : Options) (out : List ℕ) → o.doubles ≡ Finite → (e : EncodesInOrder o text out) → e.pairs ≡ ps
-  meant_by o out finite e =
-      meant e.pairs (subst (λ D. HasMeaningInOrder D text (document e.pairs)) finite e.meaning.1)
-
   -- the bytes that the text is encoded as are those of the document
-  pub encoded_again : (o : Options) (out : List ℕ) → o.doubles ≡ Finite → EncodesInOrder o text out
-      → out ≡ document_bytes ps
-  encoded_again o out finite e = e.canonical ∙ ap document_bytes (meant_by o out finite e)
+  pub encoded_again : (out : List ℕ) → Encodes AsGiven mongodb_options text out → out ≡ document_bytes ps
+  encoded_again out e = e.canonical ∙ ap document_bytes (meant e.pairs e.meaning.1)
 
   -- and they are read as it
-  pub decoded_again : (o : Options) (out : List ℕ) (depth : ℕ) → o.doubles ≡ Finite → EncodesInOrder o text out
-      → NestsAtMost depth ps → IsRead depth out ps
-  decoded_again o out depth finite e nests =
-      let same = meant_by o out finite e in
+  pub decoded_again : (out : List ℕ) (depth : ℕ) → Encodes AsGiven mongodb_options text out → NestsAtMost depth ps
+      → IsRead depth out ps
+  decoded_again out depth e nests =
+      let same = meant e.pairs e.meaning.1 in
       let deep : NestsPairs e.pairs nests.0 = subst (λ qs. NestsPairs qs nests.0) (sym same) nests.2 in
       let read : IsRead (suc nests.0) out (as_written e.pairs) = e.back nests.0 deep in
       subst (λ n. IsRead n out ps) (sym nests.1)

@@ -3,6 +3,7 @@
 ghost use Rattle.std.specs.Prelude.{◌≡◌, IfOk, IfErr, string_bytes};
 ghost use Rattle.bson.specs.Doubles.TheVariants.{Finite};
 ghost use Rattle.bson.specs.Form.TheVariants.{Canonical};
+ghost use Rattle.bson.specs.Options.{mongodb_options};
 ghost use Rattle.bson.specs.Texts.{IsTextInOrder};
 ghost use Rattle.bson.specs.Value.{Pairs, document};
 ghost use Rattle.bson_codec.specs.Canonical.{FitsDocument};
@@ -10,10 +11,10 @@ ghost use Rattle.bson_codec.specs.Laws.{IsCanonical, IsRead};
 ghost use Rattle.bson_pairs.specs.Again.{RoundTrips, IsWant, NestsAtMost};
 
 use bson::Bson;
-use bson::extjson::{Doubles, Form, KeyOrder, Options, WriteError};
+use bson::extjson::{Form, Options, WriteError};
 use bson_codec::{de, from_slice};
 use bson_convert::error::Error;
-use bson_run::encode::encode_ordered;
+use bson_run::encode::encode;
 use std::alloc::Global;
 
 /// Why there is no way and back.
@@ -27,14 +28,11 @@ pub enum NotAgain {
     NoText(WriteError),
 }
 
-// Doubles are taken, as bytes have them.
+// Doubles are read as bytes have them, and keys are as given.
 fn options() -> Options
-    ensures { result.doubles ≡ Finite }
+    ensures { result ≡ mongodb_options }
 {
-    Options {
-        doubles: Doubles::Finite,
-        key_order: KeyOrder::AsGiven,
-    }
+    Options::mongodb()
 }
 
 /// Returns the text of the document that the bytes encode: canonical, its keys in their own order.
@@ -49,11 +47,7 @@ pub fn decode_bytes(alloc: Global, bytes: &[u8], depth: usize) -> Result<String,
         Ok(document) => document,
         Err(error) => return Err(NotAgain::NoDocument(error)),
     };
-    let ordered = Options {
-        key_order: KeyOrder::AsGiven,
-        ..options()
-    };
-    match Bson::Document(document).into_text(alloc, ordered, Form::Canonical) {
+    match Bson::Document(document).into_text(alloc, options(), Form::Canonical) {
         Ok(text) => Ok(text),
         Err(error) => Err(NotAgain::NoText(error)),
     }
@@ -68,7 +62,7 @@ pub fn text_again(alloc: Global, text: &str, depth: usize) -> Result<String, Not
     ensures only { (ps : Pairs) → IsTextInOrder Finite Canonical (document ps) text.now → RoundTrips ps → NestsAtMost depth ps
         → FitsDocument ps → IfErr result (λ e. IsWant e) }
 {
-    let bytes = match encode_ordered(alloc, options(), text.as_bytes()) {
+    let bytes = match encode(alloc, options(), text.as_bytes()) {
         Ok(bytes) => bytes,
         Err(fault) => return Err(NotAgain::NoBytes(fault)),
     };
@@ -84,7 +78,7 @@ pub fn bytes_again(alloc: Global, bytes: &[u8], depth: usize) -> Result<Vec<u8>,
     ensures only { (ps : Pairs) → IsCanonical depth bytes.now ps → RoundTrips ps → IfErr result (λ e. IsWant e) }
 {
     let text = decode_bytes(alloc, bytes, depth)?;
-    match encode_ordered(alloc, options(), text.as_bytes()) {
+    match encode(alloc, options(), text.as_bytes()) {
         Ok(again) => Ok(again),
         Err(fault) => Err(NotAgain::NoBytes(fault)),
     }

@@ -1,17 +1,18 @@
 -- What the words ask for.
-use Rattle.std.proofs.Common.{◌≡◌, ◌⊎◌, codes, inl, inr, ◌<◌, ◌∙◌, ℕ, Bool, true, false, cond, List, Option, Some, None, map, length}
-use Rattle.std.proofs.Common.{not, ◌||◌, refl, sym, ap, subst, get_or, Result, Ok, Err, IfOk, zero, suc, [], ◌∷◌, ◌++◌, ◌+◌, take, add-one, arith}
+use Rattle.std.proofs.Common.{◌≡◌, ◌⊎◌, codes, inl, inr, ◌<◌, ◌∙◌, ℕ, Bool, true, false, List, Option, Some, None, map, length}
+use Rattle.std.proofs.Common.{refl, sym, ap, subst, get_or, Result, Ok, Err, IfOk, zero, suc, [], ◌∷◌, ◌++◌, ◌+◌, take, add-one, arith}
 use Rattle.std.proofs.lemmas.List.{get_or-map, length-map}
 use Rattle.std.specs.List.{Contains}
 use Rattle.std.specs.Option.{IfSome, option_map_or}
+use Rattle.bson.specs.declared.extjson.key_order.KeyOrder.TheVariants.{Ascending}
+use Rattle.bson.specs.declared.extjson.options.Options.{Options}
 use Rattle.bson_run.specs.Words.{task_name}
 use Rattle.bson_run.specs.declared.order.Criterion.TheVariants.{Canonical, Valid}
 use Rattle.bson_run.specs.declared.order.Preprocessing.{Preprocessing}
 use Rattle.bson_run.specs.declared.order.Task.{Task}
-use Rattle.bson_run.specs.declared.order.Task.TheVariants.{Write, WriteInOrder, Check, Encode, EncodeInOrder}
-use Rattle.bson_run.specs.declared.order.Task.TheVariants.{Preprocessed}
+use Rattle.bson_run.specs.declared.order.Task.TheVariants.{Write, Check, Encode, Preprocessed}
 use Rattle.bson_program.specs.Flags.{has_flag}
-use Rattle.bson_program.specs.Invocation.{first_preprocessed, task_in_order, is_option, is_output, judged, mode_word, AreGiven, one_more, IsAnswer}
+use Rattle.bson_program.specs.Invocation.{first_preprocessed, is_option, judged, mode_word, requested_order, AreGiven, one_more, IsAnswer}
 use Rattle.bson_program.specs.Invocation.{requested_preprocessing, IsRequestedBy, IsNamed, IsTaskFor, IsVerbFor, IsWordAfter}
 use Rattle.bson_program.specs.Invocation.{command_of, IsDashed, IsValueInWord, IsNumbered, IsMisuse, IsParsed, AcceptsWord}
 use Rattle.bson_program.specs.declared.arguments.Given.{Given}
@@ -28,41 +29,24 @@ use Rattle.bson_convert.specs.declared.mode.Mode.TheVariants as modes
 
 -- ---- options leave a task its name
 
-ordered_name : (task : Task) → task_name (task_in_order task) ≡ task_name task
-ordered_name (Write mode) = refl
-ordered_name (WriteInOrder mode) = refl
-ordered_name (Check criterion) = refl
-ordered_name Encode = refl
-ordered_name EncodeInOrder = refl
-ordered_name (Preprocessed preprocessing work) = refl
-
 taken_name : (preprocessing : Preprocessing) (task : Task) → task_name (first_preprocessed preprocessing task) ≡ task_name task
 taken_name preprocessing (Write mode) = refl
-taken_name preprocessing (WriteInOrder mode) = refl
 taken_name preprocessing (Check Valid) = refl
 taken_name preprocessing (Check Canonical) = refl
 taken_name preprocessing Encode = refl
-taken_name preprocessing EncodeInOrder = refl
 taken_name preprocessing (Preprocessed other work) = refl
 
 judged_name : (b : Bool) (task : Task) → task_name (judged b task) ≡ task_name task
 judged_name false task = refl
 judged_name true (Write mode) = refl
-judged_name true (WriteInOrder mode) = refl
 judged_name true (Check criterion) = refl
 judged_name true Encode = refl
-judged_name true EncodeInOrder = refl
 judged_name true (Preprocessed preprocessing work) = refl
 
-chosen_name : (b : Bool) (task : Task) → task_name (cond b task (task_in_order task)) ≡ task_name task
-chosen_name true task = refl
-chosen_name false task = ordered_name task
-
-named : (preprocessing : Option Preprocessing) (b : Bool) (task : Task)
-    → task_name (option_map_or (λ it. first_preprocessed it (cond b task (task_in_order task))) preprocessing (cond b task (task_in_order task)))
-    ≡ task_name task
-named None b task = chosen_name b task
-named (Some it) b task = taken_name it (cond b task (task_in_order task)) ∙ chosen_name b task
+named : (preprocessing : Option Preprocessing) (task : Task)
+    → task_name (option_map_or (λ it. first_preprocessed it task) preprocessing task) ≡ task_name task
+named None task = refl
+named (Some it) task = taken_name it task
 
 -- ---- digests and comparisons are of canonical text, with keys in ascending order
 
@@ -71,14 +55,14 @@ named_for purpose.Output task verb e = e
 named_for purpose.Digests task verb e = refl
 named_for purpose.Comparison task verb e = refl
 
-canonical_taken : (preprocessing : Option Preprocessing) (it : Purpose)
-    → IsTaskFor it (option_map_or (λ t. first_preprocessed t (Write modes.Canonical)) preprocessing (Write modes.Canonical))
-canonical_taken None purpose.Output = tt
-canonical_taken None purpose.Digests = refl
-canonical_taken None purpose.Comparison = refl
-canonical_taken (Some preprocessing) purpose.Output = tt
-canonical_taken (Some preprocessing) purpose.Digests = refl
-canonical_taken (Some preprocessing) purpose.Comparison = refl
+canonical_taken : (preprocessing : Option Preprocessing) (it : Purpose) (sorts strict : Bool)
+    → IsTaskFor it (requested_order it sorts strict)
+    (option_map_or (λ t. first_preprocessed t (Write modes.Canonical)) preprocessing (Write modes.Canonical))
+canonical_taken preprocessing purpose.Output sorts strict = tt
+canonical_taken None purpose.Digests sorts strict = (refl, refl)
+canonical_taken None purpose.Comparison sorts strict = (refl, refl)
+canonical_taken (Some preprocessing) purpose.Digests sorts strict = (refl, refl)
+canonical_taken (Some preprocessing) purpose.Comparison sorts strict = (refl, refl)
 
 unjudged : (b : Bool) → judged b (Write modes.Canonical) ≡ Write modes.Canonical
 unjudged true = refl
@@ -86,15 +70,15 @@ unjudged false = refl
 
 -- with what sorts the keys, and what is looked for in a text first
 sorted_for : (it : Purpose) (b sorts strict : Bool) (preprocessing : Option Preprocessing) (verb : Task) → IsVerbFor it verb
-    → IsTaskFor it (let task = cond (not (is_output it) || sorts || strict) (judged b verb) (task_in_order (judged b verb)) in
-    option_map_or (λ t. first_preprocessed t task) preprocessing task)
+    → IsTaskFor it (requested_order it sorts strict)
+    (let task = judged b verb in option_map_or (λ t. first_preprocessed t task) preprocessing task)
 sorted_for purpose.Output b sorts strict preprocessing verb is = tt
 sorted_for purpose.Digests b sorts strict preprocessing verb is =
-    subst (λ task. IsTaskFor purpose.Digests (option_map_or (λ t. first_preprocessed t task) preprocessing task))
-    (sym (ap (judged b) is ∙ unjudged b)) (canonical_taken preprocessing purpose.Digests)
+    subst (λ task. IsTaskFor purpose.Digests Ascending (option_map_or (λ t. first_preprocessed t task) preprocessing task))
+    (sym (ap (judged b) is ∙ unjudged b)) (canonical_taken preprocessing purpose.Digests sorts strict)
 sorted_for purpose.Comparison b sorts strict preprocessing verb is =
-    subst (λ task. IsTaskFor purpose.Comparison (option_map_or (λ t. first_preprocessed t task) preprocessing task))
-    (sym (ap (judged b) is ∙ unjudged b)) (canonical_taken preprocessing purpose.Comparison)
+    subst (λ task. IsTaskFor purpose.Comparison Ascending (option_map_or (λ t. first_preprocessed t task) preprocessing task))
+    (sym (ap (judged b) is ∙ unjudged b)) (canonical_taken preprocessing purpose.Comparison sorts strict)
 
 -- ---- the answer
 
@@ -111,13 +95,14 @@ answered : (words : List (List ℕ)) (given : Given) (requested : Request) → A
 answered words given (Run invocation) are h is =
     let there : IsThere words given.purpose is.verb = verb_there words given.purpose given.task is.verb h is.is_verb in
     let name : task_name invocation.task ≡ task_name is.verb =
-    ap task_name is.task ∙ named _ _ (judged given.is_canonical is.verb) ∙ judged_name given.is_canonical is.verb in (
+    ap task_name is.task ∙ named _ (judged given.is_canonical is.verb) ∙ judged_name given.is_canonical is.verb in (
       subst (λ it. Contains words (mode_word it invocation.task)) (sym is.purpose)
           (subst (Contains words) (sym (named_for given.purpose invocation.task is.verb name)) there.0),
-      subst (λ it. IsTaskFor it invocation.task) (sym is.purpose)
-          (subst (IsTaskFor given.purpose) (sym is.task)
+      subst (λ it. IsTaskFor it invocation.options.key_order invocation.task) (sym is.purpose)
+          (subst (λ order. IsTaskFor given.purpose order invocation.task) (sym (ap (λ (o : Options). o.key_order) is.options))
+          (subst (IsTaskFor given.purpose (requested_order given.purpose given.sorts_keys given.is_strict)) (sym is.task)
           (sorted_for given.purpose given.is_canonical given.sorts_keys given.is_strict
-          (requested_preprocessing given.is_distinct given.is_legacy) is.verb there.1)),
+          (requested_preprocessing given.is_distinct given.is_legacy) is.verb there.1))),
       (given, are, is),
     )
 answered words given (Help command) are h is = absurd is

@@ -4,6 +4,8 @@ use Rattle.std.specs.Prelude.{if◌then◌else◌, codes, length, nat_eq, nat_le
 use Rattle.std.specs.List.{find, starts_with}
 use Rattle.bson.specs.Doubles.{Doubles}
 use Rattle.bson.specs.Doubles.TheVariants.{Finite, Special}
+use Rattle.bson.specs.declared.extjson.key_order.KeyOrder.{KeyOrder}
+use Rattle.bson.specs.declared.extjson.key_order.KeyOrder.TheVariants.{Ascending}
 use Rattle.bson_codec.specs.declared.run_end.RunFault.{RunFault}
 use Rattle.bson_codec.specs.declared.run_end.RunFault.TheVariants as run_fault
 use Rattle.bson_convert.specs.declared.error.Error.{Error}
@@ -12,7 +14,6 @@ use Rattle.bson_run.specs.declared.lines.Counts.{Counts}
 use Rattle.bson_run.specs.declared.order.Preprocessing.TheVariants as preprocessing
 use Rattle.bson_run.specs.declared.order.Task.{Task}
 use Rattle.bson_run.specs.declared.order.Task.TheVariants as task
-use Rattle.bson_run.specs.declared.order.Work.TheVariants as work
 use Rattle.bson_program.specs.Messages.{line_len, shown_name}
 use Rattle.bson_program.specs.Invocation.{mode_word}
 use Rattle.bson_program.specs.declared.hints.Hint.{Hint}
@@ -179,15 +180,12 @@ hint_text hint.Doubles words = codes "has numbers that are read without --strict
 -- the mode of a command that reads the input; lines that become bytes are texts for `canonical`
 abbrev pub reading_mode : Input → Purpose → Task → List ℕ
 reading_mode Lines purpose task.Encode = codes "canonical"
-reading_mode Lines purpose task.EncodeInOrder = codes "canonical"
 reading_mode input purpose task = mode_word purpose task
 
 -- the option that sorts keys is given, and not another that sorts them
-abbrev pub sorts_keys : Purpose → Doubles → Task → Bool
-sorts_keys purpose.Output Finite (task.Write mode) = true
-sorts_keys purpose.Output Finite task.Encode = true
-sorts_keys purpose.Output Finite (task.Preprocessed preprocessing (work.Write mode)) = true
-sorts_keys purpose doubles task = false
+abbrev pub sorts_keys : Purpose → Doubles → KeyOrder → Bool
+sorts_keys purpose.Output Finite Ascending = true
+sorts_keys purpose doubles order = false
 
 abbrev pub is_strict : Doubles → Bool
 is_strict Special = true
@@ -205,7 +203,7 @@ option_if is_given option = if is_given then option else []
 -- the mode and the options of a command that reads the input
 abbrev pub reading_words : Invocation → List ℕ
 reading_words invocation = reading_mode invocation.input invocation.purpose invocation.task
-    ++ option_if (sorts_keys invocation.purpose invocation.options.doubles invocation.task) (codes " --sort-keys")
+    ++ option_if (sorts_keys invocation.purpose invocation.options.doubles invocation.options.key_order) (codes " --sort-keys")
     ++ option_if (is_strict invocation.options.doubles) (codes " --strict") ++ preprocessing_options invocation.task
 
 -- the line on standard error

@@ -1,6 +1,6 @@
 -- What the words after the program's name ask for.
 use Rattle.std.specs.Prelude.{◌≡◌, ◌==◌, ◌≢◌, ◌⊎◌, ◌<◌, ◌≤◌, ◌++◌, ℕ, Bool, true, false, List, [], ◌∷◌, Option, None, Some, codes}
-use Rattle.std.specs.Prelude.{bytes_eq, ◌||◌, not, Contains, get_or, length, map, string_bytes, slice_index, take, vec_len}
+use Rattle.std.specs.Prelude.{bytes_eq, ◌||◌, Contains, get_or, length, map, string_bytes, slice_index, take, vec_len}
 use Rattle.std.specs.Prelude.{if◌then◌else◌, String, Vec}
 use Rattle.std.specs.declared.alloc.Global.{Global}
 use Rattle.std.specs.Fmt.{decimal}
@@ -12,8 +12,7 @@ use Rattle.bson_run.specs.declared.order.OnRefusal.TheVariants.{KeepGoing, Stop}
 use Rattle.bson_run.specs.declared.order.Preprocessing.{Preprocessing}
 use Rattle.bson_run.specs.declared.order.Preprocessing.TheVariants.{Distinct, Legacy, DistinctLegacy}
 use Rattle.bson_run.specs.declared.order.Task.{Task}
-use Rattle.bson_run.specs.declared.order.Task.TheVariants.{Write, WriteInOrder, Check, Encode, EncodeInOrder}
-use Rattle.bson_run.specs.declared.order.Task.TheVariants.{Preprocessed}
+use Rattle.bson_run.specs.declared.order.Task.TheVariants.{Write, Check, Encode, Preprocessed}
 use Rattle.bson_run.specs.declared.order.Work.TheVariants as work
 use Rattle.bson_program.specs.Flags.{clashes, has_flag}
 use Rattle.bson_program.specs.declared.invocation.Request.{Request}
@@ -34,17 +33,13 @@ use Rattle.bson_program.specs.declared.arguments.Parsed as arguments
 use Rattle.bson_program.specs.declared.arguments.Parsed.TheVariants as parsed
 use Rattle.bson_program.specs.declared.arguments.Next.{Next}
 use Rattle.bson_program.specs.declared.arguments.Next.TheVariants.{Any, Output, Indent, Jobs, Name}
+use Rattle.bson.specs.Doubles.{Doubles}
 use Rattle.bson.specs.Doubles.TheVariants.{Finite, Special}
-use Rattle.bson.specs.declared.extjson.key_order.KeyOrder.TheVariants.{Ascending}
+use Rattle.bson.specs.declared.extjson.key_order.KeyOrder.{KeyOrder}
+use Rattle.bson.specs.declared.extjson.key_order.KeyOrder.TheVariants.{Ascending, AsGiven}
 use Rattle.bson.specs.declared.extjson.options.Options.{Options}
 
--- ---- tasks
-
--- with the keys of each document in their own order
-abbrev pub task_in_order : Task → Task
-task_in_order (Write mode) = WriteInOrder mode
-task_in_order Encode = EncodeInOrder
-task_in_order task = task
+-- ---- tasks and options
 
 -- a check by the criterion that the option sets
 abbrev pub judged : (is_canonical : Bool) → Task → Task
@@ -62,14 +57,18 @@ requested_preprocessing false false = None
 -- of texts that are taken so; bytes are made of texts that are not, and those that are to be canonical are not either
 abbrev pub first_preprocessed : Preprocessing → Task → Task
 first_preprocessed preprocessing (Write mode) = Preprocessed preprocessing (work.Write mode)
-first_preprocessed preprocessing (WriteInOrder mode) = Preprocessed preprocessing (work.WriteInOrder mode)
 first_preprocessed preprocessing (Check Valid) = Preprocessed preprocessing work.Check
 first_preprocessed preprocessing task = task
 
 -- all doubles have a text; or, if the run is strict, those of the specification
-abbrev pub options_of : (is_strict : Bool) → Options
-options_of true = record { doubles = Special; key_order = Ascending }
-options_of false = record { doubles = Finite; key_order = Ascending }
+abbrev pub doubles_of : (is_strict : Bool) → Doubles
+doubles_of true = Special
+doubles_of false = Finite
+
+-- keys keep their order, unless they are sorted, the run is strict, or it has digests or a comparison
+abbrev pub requested_order : Purpose → (sorts_keys is_strict : Bool) → KeyOrder
+requested_order purpose.Output false false = AsGiven
+requested_order purpose sorts_keys is_strict = Ascending
 
 -- ---- words
 
@@ -104,16 +103,11 @@ IsVerbFor purpose.Output verb = Unit {0}
 IsVerbFor other verb = verb ≡ Write modes.Canonical
 
 -- with the keys of each document in ascending order
-abbrev pub IsTaskFor : Purpose → Task → Type 0
-IsTaskFor purpose.Output task = Unit {0}
-IsTaskFor other (Write mode) = mode ≡ modes.Canonical
-IsTaskFor other (Preprocessed preprocessing (work.Write mode)) = mode ≡ modes.Canonical
-IsTaskFor other task = ⊥
-
--- the output is written as it is
-abbrev pub is_output : Purpose → Bool
-is_output purpose.Output = true
-is_output other = false
+abbrev pub IsTaskFor : Purpose → KeyOrder → Task → Type 0
+IsTaskFor purpose.Output order task = Unit {0}
+IsTaskFor other order (Write mode) = (mode ≡ modes.Canonical) × (order ≡ Ascending)
+IsTaskFor other order (Preprocessed preprocessing (work.Write mode)) = (mode ≡ modes.Canonical) × (order ≡ Ascending)
+IsTaskFor other order task = ⊥
 
 -- the word names this mode
 abbrev pub IsNamed : (word : List ℕ) → Purpose → (verb : Task) → Type 0
@@ -221,8 +215,7 @@ pub data AreGiven : List (List ℕ) → Given → Type 0 where
 abbrev pub IsMode : Input → (word : List ℕ) → Type 0
 IsMode Text word = ((purpose : Purpose) × (task : Task) × (word ≡ mode_word purpose task)) ⊎ (word ≡ codes "lines")
     ⊎ (word ≡ codes "decode")
-IsMode input word = (purpose : Purpose) × (task : Task) × (task ≢ Encode) × (task ≢ EncodeInOrder)
-    × (word ≡ mode_word purpose task)
+IsMode input word = (purpose : Purpose) × (task : Task) × (task ≢ Encode) × (word ≡ mode_word purpose task)
 
 -- the value that is expected of the word, or of what is behind its option, is not there
 abbrev pub IsUnnumbered : (most : ℕ) → (option word : List ℕ) → Type 0
@@ -298,13 +291,17 @@ awaited next = None
 
 -- ---- what is asked for
 
--- the task of a verb with the options: keys keep their order, unless they are sorted, the run is strict, or it has digests
--- or a comparison
+-- the task of a verb with the options
 abbrev pub task_of : Given → (verb : Task) → Task
 task_of given verb =
-    let it = judged given.is_canonical verb in
-    let task = if not (is_output given.purpose) || given.sorts_keys || given.is_strict then it else task_in_order it in
+    let task = judged given.is_canonical verb in
     option_map_or (λ preprocessing. first_preprocessed preprocessing task) (requested_preprocessing given.is_distinct given.is_legacy) task
+
+abbrev pub options_of : Given → Options
+options_of given = record {
+  doubles = doubles_of given.is_strict;
+  key_order = requested_order given.purpose given.sorts_keys given.is_strict;
+}
 
 -- the files, or the standard stream where none is given
 abbrev pub or_standard : List (List ℕ) → List (List ℕ)
@@ -318,7 +315,7 @@ pub record IsGiven (given : Given) (invocation : Invocation) : Type 0 where
   pub ended : awaited given.next ≡ None
   pub fits : TaskFits given (judged given.is_canonical verb)
   pub task : invocation.task ≡ task_of given verb
-  pub options : invocation.options ≡ options_of given.is_strict
+  pub options : invocation.options ≡ options_of given
   pub on_refusal : invocation.on_refusal ≡ (if given.keeps_going then KeepGoing else Stop)
   pub purpose : invocation.purpose ≡ given.purpose
   pub unordered : invocation.is_unordered ≡ given.is_unordered
@@ -350,7 +347,8 @@ pub record IsWordAfter (words : List (List ℕ)) (given : Given) (word : List �
 -- asks for help, or is not accepted, or to all words
 abbrev pub IsRequestedBy : (words : List (List ℕ)) → Request → Type 0
 IsRequestedBy words (Run invocation) =
-    Contains words (mode_word invocation.purpose invocation.task) × IsTaskFor invocation.purpose invocation.task
+    Contains words (mode_word invocation.purpose invocation.task)
+    × IsTaskFor invocation.purpose invocation.options.key_order invocation.task
     × ((given : Given) × AreGiven words given × IsGiven given invocation)
 IsRequestedBy words (Help command) = (given : Given) × (word : List ℕ) × IsWordAfter words given word × IsHelp given word
     × (command ≡ command_of given.input given.task)

@@ -5,8 +5,11 @@ use Rattle.std.specs.declared.alloc.Global.{Global}
 use Rattle.std.specs.declared.io.Error.{Error}
 use Rattle.bson_codec.specs.declared.documents.Line as documents
 use Rattle.bson_codec.specs.declared.documents.Line.TheVariants as line
-use Rattle.bson_run.specs.Indent.{mode_of}
-use Rattle.bson_convert.specs.declared.mode.Mode.TheVariants.{Show}
+use Rattle.bson.specs.Form.{Form}
+use Rattle.bson.specs.Form.TheVariants as forms
+use Rattle.bson.specs.declared.extjson.key_order.KeyOrder.{KeyOrder}
+use Rattle.bson.specs.declared.extjson.key_order.KeyOrder.TheVariants.{Ascending, AsGiven}
+use Rattle.bson_convert.specs.declared.mode.Mode.TheVariants.{Canonical, Relaxed, Show}
 use Rattle.bson_run.specs.declared.order.Task.{Task}
 use Rattle.bson_run.specs.declared.order.Task.TheVariants as task
 use Rattle.bson_program.specs.Messages.{all_under, head_of, is_standard}
@@ -42,18 +45,17 @@ reported_under (Some name) verdicts = all_under (string_bytes name) verdicts
 
 -- ---- documents
 
--- what is written of each document: its text in the mode, with its keys in ascending order or in its own, what Display
--- has of it, or nothing
-abbrev pub IsDocumentLine : Task → documents.Line → Type 0
-IsDocumentLine (task.Write mode) (line.Text form) = mode ≡ mode_of form
-IsDocumentLine (task.Write mode) line.Shown = mode ≡ Show
-IsDocumentLine (task.WriteInOrder mode) (line.TextInOrder form) = mode ≡ mode_of form
-IsDocumentLine (task.WriteInOrder mode) line.Shown = mode ≡ Show
-IsDocumentLine (task.Check criterion) line.Nothing = Unit {0}
-IsDocumentLine task.Encode line.Nothing = Unit {0}
-IsDocumentLine task.EncodeInOrder line.Nothing = Unit {0}
-IsDocumentLine (task.Preprocessed preprocessing work) line.Nothing = Unit {0}
-IsDocumentLine other line = ⊥
+-- the text of each document in the form, with its keys in the order
+abbrev pub form_line : KeyOrder → Form → documents.Line
+form_line Ascending form = line.Text form
+form_line AsGiven form = line.TextInOrder form
+
+-- what is written of each document: its text in the mode, what Display has of it, or nothing
+abbrev pub document_line : KeyOrder → Task → documents.Line
+document_line order (task.Write Canonical) = form_line order forms.Canonical
+document_line order (task.Write Relaxed) = form_line order forms.Relaxed
+document_line order (task.Write Show) = line.Shown
+document_line order other = line.Nothing
 
 -- ---- files
 

@@ -6,14 +6,14 @@ ghost use Rattle.bson_program.specs.Invocation.{IsAnswer, IsWrongRequest, IsInit
 ghost use Rattle.bson_run.specs.Words.{task_name};
 
 use crate::choices::{
-    awaited, first_preprocessed, in_order, is_sorted, judged, options_of, requested_preprocessing,
-    set,
+    awaited, doubles_of, first_preprocessed, judged, requested_order, requested_preprocessing, set,
 };
 use crate::fits::misfit;
 use crate::invocation::{
     Command, Flag, Input, Invocation, Misuse, Purpose, Request, STANDARD, Wrong,
 };
 use crate::values::{inputs_of, is_dashed, number, output_in};
+use bson::extjson::Options;
 use bson_convert::mode::Mode;
 use bson_run::order::{OnRefusal, Task};
 use std::alloc::{AllocError, Global};
@@ -362,17 +362,15 @@ impl Given {
             Some(name) => name,
             None => String::from_str(alloc, STANDARD)?,
         };
-        let task = if is_sorted(purpose, sorts_keys) || is_strict {
-            task
-        } else {
-            in_order(task)
-        };
         Ok(Request::Run(Invocation {
             task: match requested_preprocessing(is_distinct, is_legacy) {
                 Some(preprocessing) => first_preprocessed(preprocessing, task),
                 None => task,
             },
-            options: options_of(is_strict),
+            options: Options {
+                doubles: doubles_of(is_strict),
+                key_order: requested_order(purpose, sorts_keys, is_strict),
+            },
             on_refusal: if keeps_going {
                 OnRefusal::KeepGoing
             } else {

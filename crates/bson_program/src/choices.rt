@@ -1,11 +1,11 @@
-//! What follows from the options that are given: the task, which doubles have a text, and that an option
-//! is given once.
-ghost use Rattle.std.specs.Prelude.{◌≡◌, ◌||◌, not, true, if◌then◌else◌};
-ghost use Rattle.bson_program.specs.Invocation.{awaited, first_preprocessed, is_output, task_in_order, judged, options_of, requested_preprocessing};
+//! What follows from the options that are given: the task, which doubles have a text, the order of keys,
+//! and that an option is given once.
+ghost use Rattle.std.specs.Prelude.{◌≡◌, true, if◌then◌else◌};
+ghost use Rattle.bson_program.specs.Invocation.{awaited, doubles_of, first_preprocessed, judged, requested_order, requested_preprocessing};
 
 use crate::arguments::{Next, Parsed};
 use crate::invocation::{Flag, Misuse, Purpose};
-use bson::extjson::{Doubles, KeyOrder, Options};
+use bson::extjson::{Doubles, KeyOrder};
 use bson_run::order::{Criterion, Preprocessing, Task, Work};
 
 /// Sets what an option sets, unless it is given twice.
@@ -33,35 +33,24 @@ pub fn awaited(next: Next) -> Option<Flag>
 }
 
 /// Returns which doubles have a text: all, or those of the specification.
-pub fn options_of(is_strict: bool) -> Options
-    ensures { result ≡ options_of is_strict }
+pub fn doubles_of(is_strict: bool) -> Doubles
+    ensures { result ≡ doubles_of is_strict }
 {
-    let doubles = if is_strict {
+    if is_strict {
         Doubles::Special
     } else {
         Doubles::Finite
-    };
-    Options {
-        doubles,
-        key_order: KeyOrder::Ascending,
     }
 }
 
-/// Returns whether keys are sorted: that is asked for, or the run has digests or a comparison.
-pub fn is_sorted(purpose: Purpose, sorts_keys: bool) -> bool
-    ensures { result ≡ (not (is_output purpose) || sorts_keys) }
+/// Returns the order of keys. They are sorted if that is asked for, if the run is strict, or if it has
+/// digests or a comparison.
+pub fn requested_order(purpose: Purpose, sorts_keys: bool, is_strict: bool) -> KeyOrder
+    ensures { result ≡ requested_order purpose sorts_keys is_strict }
 {
-    purpose != Purpose::Output || sorts_keys
-}
-
-/// Returns the task that keeps the keys of each document in their order.
-pub fn in_order(task: Task) -> Task
-    ensures { result ≡ task_in_order task }
-{
-    match task {
-        Task::Write(mode) => Task::WriteInOrder(mode),
-        Task::Encode => Task::EncodeInOrder,
-        other => other,
+    match (purpose, sorts_keys, is_strict) {
+        (Purpose::Output, false, false) => KeyOrder::AsGiven,
+        _ => KeyOrder::Ascending,
     }
 }
 
@@ -93,7 +82,6 @@ pub fn first_preprocessed(preprocessing: Preprocessing, task: Task) -> Task
 {
     match task {
         Task::Write(mode) => Task::Preprocessed(preprocessing, Work::Write(mode)),
-        Task::WriteInOrder(mode) => Task::Preprocessed(preprocessing, Work::WriteInOrder(mode)),
         Task::Check(Criterion::Valid) => Task::Preprocessed(preprocessing, Work::Check),
         other => other,
     }

@@ -128,7 +128,7 @@ pub enum Input {
 pub struct Invocation {
     /// What is done with each line, or each document.
     pub task: Task,
-    /// Which texts have a meaning, and which values a text.
+    /// Which texts have a meaning, which values a text, and the order of keys in the output.
     pub options: Options,
     /// What becomes of the run at a line or a document that is refused.
     pub on_refusal: OnRefusal,
@@ -149,9 +149,9 @@ pub struct Invocation {
 impl Invocation {
     /// Whether BSON bytes are written, and no text.
     pub fn writes_bytes(&self) -> bool
-        ensures { IsTrue result ↔ ((self.now.task ≡ Task.Encode) ⊎ (self.now.task ≡ Task.EncodeInOrder)) }
+        ensures { IsTrue result ↔ (self.now.task ≡ Task.Encode) }
     {
-        self.task == Task::Encode || self.task == Task::EncodeInOrder
+        self.task == Task::Encode
     }
 
     /// Whether what is read is only judged or compared.

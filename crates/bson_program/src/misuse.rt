@@ -170,11 +170,9 @@ fn task_name(task: Task) -> &'static str
     ensures { result.now ≡ task_name task }
 {
     match task {
-        Task::Write(mode) | Task::WriteInOrder(mode) => mode_name(mode),
+        Task::Write(mode) | Task::Preprocessed(_, Work::Write(mode)) => mode_name(mode),
         Task::Check(_) | Task::Preprocessed(_, Work::Check) => "check",
-        Task::Encode | Task::EncodeInOrder => "encode",
-        Task::Preprocessed(_, Work::Write(mode))
-        | Task::Preprocessed(_, Work::WriteInOrder(mode)) => mode_name(mode),
+        Task::Encode => "encode",
     }
 }
 

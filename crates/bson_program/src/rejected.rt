@@ -8,11 +8,11 @@ use crate::invocation::{Input, Invocation, Purpose, STANDARD};
 use crate::messages::show_name;
 use crate::misuse::mode_word;
 use crate::run::Stop;
-use bson::extjson::{Doubles, Options};
+use bson::extjson::{Doubles, KeyOrder, Options};
 use bson_codec::run_end::RunFault;
 use bson_convert::error::Error;
 use bson_run::lines::Counts;
-use bson_run::order::{Preprocessing, Task, Work};
+use bson_run::order::{Preprocessing, Task};
 use bson_run::rule::Rule;
 use bson_run::stop;
 use bson_scalar::doubles::NUMBER;
@@ -119,12 +119,12 @@ fn words_of(alloc: Global, invocation: &Invocation) -> Result<String, AllocError
     ensures { IfOk result (λ words. string_bytes words ≡ reading_words invocation.now) }
 {
     let mode = mode_for(invocation);
-    let doubles = invocation.options.doubles;
+    let options = invocation.options;
     let sorts_keys = option_if(
-        sorts_keys(invocation.purpose, doubles, invocation.task),
+        sorts_keys(invocation.purpose, options.doubles, options.key_order),
         " --sort-keys",
     );
-    let strict = option_if(is_strict(doubles), " --strict");
+    let strict = option_if(is_strict(options.doubles), " --strict");
     let preprocessing = preprocessing_options(invocation.task);
     format!(in alloc; "{mode}{sorts_keys}{strict}{preprocessing}")
 }
@@ -134,7 +134,7 @@ fn mode_for(invocation: &Invocation) -> &'static str
     ensures { result.now ≡ reading_mode invocation.now.input invocation.now.purpose invocation.now.task }
 {
     match (invocation.input, invocation.task) {
-        (Input::Lines, Task::Encode | Task::EncodeInOrder) => "canonical",
+        (Input::Lines, Task::Encode) => "canonical",
         (_, task) => mode_word(invocation.purpose, task),
     }
 }
@@ -166,16 +166,11 @@ fn preprocessing_options(task: Task) -> &'static str
 }
 
 // Whether the option that sorts keys is given, and not another that sorts them.
-fn sorts_keys(purpose: Purpose, doubles: Doubles, task: Task) -> bool
-    ensures { result ≡ sorts_keys purpose doubles task }
+fn sorts_keys(purpose: Purpose, doubles: Doubles, order: KeyOrder) -> bool
+    ensures { result ≡ sorts_keys purpose doubles order }
 {
-    match (purpose, doubles) {
-        (Purpose::Output, Doubles::Finite) => {
-            matches!(
-                task,
-                Task::Write(_) | Task::Encode | Task::Preprocessed(_, Work::Write(_))
-            )
-        }
+    match (purpose, doubles, order) {
+        (Purpose::Output, Doubles::Finite, KeyOrder::Ascending) => true,
         _ => false,
     }
 }

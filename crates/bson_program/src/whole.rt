@@ -4,7 +4,7 @@ ghost use Rattle.bson_convert.specs.Convert.{IsRefusedIn};
 ghost use Rattle.bson_run.specs.Accepted.{HasOutput, IsUtf8Accepted};
 ghost use Rattle.bson_run.specs.Indent.{mode_of};
 ghost use Rattle.bson_run.specs.Lines.{ChecksIn, WritesText};
-ghost use Rattle.bson_program.specs.Whole.{Checks, WritesOutput, IsUnchecked, IsUngiven, WritesIndented, WritesIndentedInOrder};
+ghost use Rattle.bson_program.specs.Whole.{Checks, WritesOutput, IsUnchecked, IsUngiven, WritesIndented};
 ghost use Rattle.bson_program.specs.Whole.{Works, judged_of, without_newline};
 
 use crate::invocation::Invocation;
@@ -15,8 +15,8 @@ use bson_convert::converted::refuse;
 use bson_convert::error::Error;
 use bson_convert::mode::Mode;
 use bson_run::accepted::Accepted;
-use bson_run::encode::{encode_ordered, encode_sorted};
-use bson_run::indented::{convert_in_order_indented, convert_indented};
+use bson_run::encode::encode;
+use bson_run::indented::convert_indented;
 use bson_run::order::{Criterion, Task, Work};
 use bson_run::preprocessed::preprocess_text;
 use std::alloc::Global;
@@ -32,17 +32,9 @@ pub fn accept(alloc: Global, invocation: &Invocation, bytes: &[u8]) -> Result<Ac
 {
     match invocation.task {
         Task::Write(mode) => accept_text(alloc, invocation, mode, bytes),
-        Task::WriteInOrder(mode) => accept_in_order(alloc, invocation, mode, bytes),
         Task::Check(criterion) => check(alloc, invocation, criterion, bytes),
-        Task::Encode => Ok(Accepted::Output(encode_sorted(alloc, invocation.options, bytes)?)),
-        Task::EncodeInOrder => {
-            Ok(Accepted::Output(encode_ordered(alloc, invocation.options, bytes)?))
-        }
-        Task::Preprocessed(preprocessing, work) => match preprocess_text(
-            alloc,
-            preprocessing,
-            bytes,
-        )? {
+        Task::Encode => Ok(Accepted::Output(encode(alloc, invocation.options, bytes)?)),
+        Task::Preprocessed(preprocessing, work) => match preprocess_text(alloc, preprocessing, bytes)? {
             Some(upgraded) => accept_upgraded(alloc, invocation, work, upgraded),
             None => accept_preprocessed(alloc, invocation, work, bytes),
         },
@@ -67,7 +59,6 @@ fn accept_upgraded(
     refuse(alloc, invocation.options, upgraded.as_str())?;
     match work {
         Work::Write(mode) => Ok(Accepted::Normalized(mode, upgraded)),
-        Work::WriteInOrder(mode) => Ok(Accepted::NormalizedInOrder(mode, upgraded)),
         Work::Check => check(alloc, invocation, Criterion::Valid, upgraded.as_bytes()),
     }
 }
@@ -85,7 +76,6 @@ fn accept_preprocessed(
 {
     match work {
         Work::Write(mode) => accept_text(alloc, invocation, mode, bytes),
-        Work::WriteInOrder(mode) => accept_in_order(alloc, invocation, mode, bytes),
         Work::Check => check(alloc, invocation, Criterion::Valid, bytes),
     }
 }
@@ -107,26 +97,6 @@ fn accept_text(
             Ok(Accepted::Output(convert_indented(alloc, options, form, spaces, bytes)?))
         }
         None => Accepted::of(alloc, options, mode, bytes),
-    }
-}
-
-// The same in the order of the text's keys.
-fn accept_in_order(
-    alloc: Global,
-    invocation: &Invocation,
-    mode: Mode,
-    bytes: &[u8],
-) -> Result<Accepted, Error>
-    ensures ok { IfOk result (HasOutput invocation.now.options (WritesIndentedInOrder invocation.now.options invocation.now.indent mode bytes.now)) }
-    ensures utf8 { IfOk result IsUtf8Accepted }
-    ensures fault { IfErr result (λ fault. IsRefusedIn invocation.now.options fault bytes.now) }
-{
-    let options = invocation.options;
-    match layout(invocation, mode) {
-        Some((form, spaces)) => {
-            Ok(Accepted::Output(convert_in_order_indented(alloc, options, form, spaces, bytes)?))
-        }
-        None => Accepted::in_order_of(alloc, options, mode, bytes),
     }
 }
 

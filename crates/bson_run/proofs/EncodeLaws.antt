@@ -1,12 +1,13 @@
 -- The bytes of what a text means: there is one such, and what has none by one meaning has none by another.
 use Rattle.std.proofs.Common.{◌≡◌, ℕ, List, Some, sym, ap, ◌∙◌, subst, rules}
 use Rattle.std.specs.Prelude.{IsUtf8}
-use Rattle.serde_json.specs.Data.{Data}
-use Rattle.bson.specs.TextMeaning.{HasTextMeaningIn, IsTextOf}
+use Rattle.bson.specs.TextMeaning.{HasTextMeaningBy, MeansBy}
 use Rattle.bson.specs.View.{bson_view, document_view}
 use Rattle.bson.specs.declared.bson.Bson.{the_lemmas}
 use Rattle.bson.specs.declared.bson.Bson.TheVariants.{Document as held}
 use Rattle.bson.specs.declared.document.Document.{Document}
+use Rattle.bson.specs.declared.extjson.key_order.KeyOrder.{KeyOrder}
+use Rattle.bson.specs.declared.extjson.key_order.KeyOrder.TheVariants.{Ascending, AsGiven}
 use Rattle.bson.proofs.Offered.{tree_one}
 use Rattle.bson_codec.specs.Canonical.{Cause, document_bytes}
 use Rattle.bson_model.specs.Means.{MeansIn}
@@ -15,8 +16,7 @@ use Rattle.bson_model.specs.Kept.{read_kept}
 use Rattle.bson_model.specs.OrderedMeans.{MeansInOrder}
 use Rattle.bson_codec.specs.Packed.{IsPackedText}
 use Rattle.bson_convert.specs.Convert.{IsRefusedIn}
-use Rattle.bson_run.specs.Encode.{EncodesIn, EncodesInOrder, FailsAlone, FailsFor, IsBytesOf}
-use Rattle.bson_run.specs.Encode.{IsUnencodedFor, IsUnencodedIn, IsUnencodedInOrder, MeansKept}
+use Rattle.bson_run.specs.Encode.{Encodes, FailsAlone, FailsFor, IsBytesOf, IsUnencodedBy, IsUnencodedFor}
 use Rattle.bson_run.specs.LinesSteps.{Options, Error, CannotRead, NotJson, NotExtendedJson, NoBytes, OutOfMemory}
 use Rattle.bson_run.specs.LinesSteps.{CannotWrite, NotCanonical}
 use Rattle.bson_convert.specs.declared.no_bytes.NoBytes.TheVariants.{NoDocument, ZeroInKey, ZeroInRegex, TooLong}
@@ -75,71 +75,55 @@ module _ (P : Value → Type 0) (value : Value) (h : P value) where
   unencoded_by OutOfMemory f = tt
   unencoded_by CannotWrite f = f
 
--- where one value alone is meant, one string of bytes is
-bytes_one : (P : Value → Type 0) (value : Value) → ((v : Value) → P v → v ≡ value) → (a b : List ℕ)
-    → IsBytesOf (λ v. v ≡ value) a → IsBytesOf P b → b ≡ a
-bytes_one P value one a b x y =
-    let same : document y.pairs ≡ document x.pairs = one (document y.pairs) y.meaning ∙ sym x.meaning in
-    y.canonical ∙ ap document_bytes (same_pairs same) ∙ sym x.canonical
-
 -- ---- a text
 
-module _ (o : Options) (text : List ℕ) where
-  -- a text means one value, with its keys in ascending order
-  pub value_one : (value : Value) → HasTextMeaningIn o.doubles text value → (v : Value)
-      → HasTextMeaningIn o.doubles text v → v ≡ value
-  value_one value h v m =
-      h.meaning.one v (subst (λ t. MeansIn o.doubles t v) (tree_one text m.tree h.tree m.text h.text) m.meaning.means)
+-- a text means one value, its keys in the order
+pub value_one : (k : KeyOrder) (o : Options) (text : List ℕ) (v w : Value) → HasTextMeaningBy k o.doubles text v
+    → HasTextMeaningBy k o.doubles text w → v ≡ w
+value_one Ascending o text v w h m =
+    m.meaning.one v (subst (λ t. MeansIn o.doubles t v) (tree_one text h.tree m.tree h.text m.text) h.meaning.means)
+value_one AsGiven o text v w h m =
+    let a : read_kept text ≡ Some h.1.tree = h.1.tree_read in
+    let b : read_kept text ≡ Some m.1.tree = m.1.tree_read in
+    let same : h.1.tree ≡ m.1.tree = cc in
+    m.1.one v (subst (λ t. MeansInOrder o.doubles t v) same h.1.means)
 
-  pub kept_one : (value : Value) → MeansKept o text value → (v : Value) → MeansKept o text v → v ≡ value
-  kept_one value h v m =
-      let a : read_kept text ≡ Some h.1.tree = h.1.tree_read in
-      let b : read_kept text ≡ Some m.1.tree = m.1.tree_read in
-      let same : m.1.tree ≡ h.1.tree = cc in
-      h.1.one v (subst (λ t. MeansInOrder o.doubles t v) same m.1.means)
+-- the pairs that a text means are those that were read
+pub is_meant : (k : KeyOrder) (o : Options) (text : List ℕ) (ps : Pairs) (value : Value)
+    → MeansBy k o.doubles text (document ps) → HasTextMeaningBy k o.doubles text value → value ≡ document ps
+is_meant Ascending o text ps value m h =
+    sym (h.meaning.one (document ps)
+    (subst (λ d. MeansIn o.doubles d (document ps)) (tree_one text m.0 h.tree m.1 h.text) m.2))
+is_meant AsGiven o text ps value m h =
+    let a : read_kept text ≡ Some h.1.tree = h.1.tree_read in
+    let b : read_kept text ≡ Some m.0 = m.2 in
+    let same : m.0 ≡ h.1.tree = cc in
+    sym (h.1.one (document ps) (subst (λ d. MeansInOrder o.doubles d (document ps)) same m.3))
 
-  pub encoded : (value : Value) (out : List ℕ) → HasTextMeaningIn o.doubles text value
-      → IsBytesOf (λ v. v ≡ value) out → EncodesIn o text out
-  encoded value out h b = bytes_by (HasTextMeaningIn o.doubles text) value h out b
+-- what was written from the tokens of a text
+pub packed : (o : Options) (text out : List ℕ) → IsUtf8 text → IsPackedText o.doubles text out → Encodes AsGiven o text out
+packed o text out utf8 x = record {
+  pairs = x.pairs;
+  meaning = (utf8, x.meaning);
+  fits = x.fits;
+  canonical = x.canonical;
+  back = x.back;
+}
 
-  pub encoded_one : (value : Value) (out other : List ℕ) → HasTextMeaningIn o.doubles text value
-      → IsBytesOf (λ v. v ≡ value) out → EncodesIn o text other → other ≡ out
-  encoded_one value out other h b e =
-      bytes_one (HasTextMeaningIn o.doubles text) value (value_one value h) out other b e
+module _ (k : KeyOrder) (o : Options) (text : List ℕ) where
+  pub encoded : (value : Value) (out : List ℕ) → HasTextMeaningBy k o.doubles text value
+      → IsBytesOf (λ v. v ≡ value) out → Encodes k o text out
+  encoded value out h b = bytes_by (HasTextMeaningBy k o.doubles text) value h out b
 
-  pub encoded_kept : (value : Value) (out : List ℕ) → MeansKept o text value → IsBytesOf (λ v. v ≡ value) out
-      → EncodesInOrder o text out
-  encoded_kept value out h b = bytes_by (MeansKept o text) value h out b
-
-  pub kept_encoded_one : (value : Value) (out other : List ℕ) → MeansKept o text value
-      → IsBytesOf (λ v. v ≡ value) out → EncodesInOrder o text other → other ≡ out
-  kept_encoded_one value out other h b e = bytes_one (MeansKept o text) value (kept_one value h) out other b e
-
-  -- what was written from the tokens of a text
-  pub packed : (out : List ℕ) → IsUtf8 text → IsPackedText o.doubles text out → EncodesInOrder o text out
-  packed out utf8 x = record {
-    pairs = x.pairs;
-    meaning = (utf8, x.meaning);
-    fits = x.fits;
-    canonical = x.canonical;
-    back = x.back;
-  }
-
-  pub ascending_one : (out other : List ℕ) → EncodesIn o text out → EncodesIn o text other → other ≡ out
-  ascending_one out other x y =
+  pub encoded_one : (out other : List ℕ) → Encodes k o text out → Encodes k o text other → other ≡ out
+  encoded_one out other x y =
       let same : document y.pairs ≡ document x.pairs =
-      value_one (document x.pairs) x.meaning (document y.pairs) y.meaning in
-      y.canonical ∙ ap document_bytes (same_pairs same) ∙ sym x.canonical
-
-  pub in_order_one : (out other : List ℕ) → EncodesInOrder o text out → EncodesInOrder o text other → other ≡ out
-  in_order_one out other x y =
-      let same : document y.pairs ≡ document x.pairs =
-      kept_one (document x.pairs) x.meaning (document y.pairs) y.meaning in
+      value_one k o text (document y.pairs) (document x.pairs) y.meaning x.meaning in
       y.canonical ∙ ap document_bytes (same_pairs same) ∙ sym x.canonical
 
   -- ---- what gives no bytes
 
-  reported : (fault : Error) → IsUnencodedFor (HasTextMeaningIn o.doubles text) fault → IsUnencodedIn o fault text
+  reported : (fault : Error) → IsUnencodedFor (HasTextMeaningBy k o.doubles text) fault → IsUnencodedBy k o fault text
   reported CannotRead f = f
   reported NotJson f = absurd f
   reported (NotExtendedJson place) f = absurd f
@@ -148,25 +132,12 @@ module _ (o : Options) (text : List ℕ) where
   reported OutOfMemory f = tt
   reported CannotWrite f = f
 
-  told_kept : (fault : Error) → IsUnencodedFor (MeansKept o text) fault → IsUnencodedInOrder o fault text
-  told_kept CannotRead f = f
-  told_kept NotJson f = absurd f
-  told_kept (NotExtendedJson place) f = absurd f
-  told_kept (NoBytes why) f = f
-  told_kept (NotCanonical column) f = f
-  told_kept OutOfMemory f = tt
-  told_kept CannotWrite f = f
-
-  pub unencoded : (value : Value) (fault : Error) → HasTextMeaningIn o.doubles text value
-      → IsUnencodedFor (λ v. v ≡ value) fault → IsUnencodedIn o fault text
-  unencoded value fault h f = reported fault (unencoded_by (HasTextMeaningIn o.doubles text) value h fault f)
-
-  pub unencoded_kept : (value : Value) (fault : Error) → MeansKept o text value
-      → IsUnencodedFor (λ v. v ≡ value) fault → IsUnencodedInOrder o fault text
-  unencoded_kept value fault h f = told_kept fault (unencoded_by (MeansKept o text) value h fault f)
+  pub unencoded : (value : Value) (fault : Error) → HasTextMeaningBy k o.doubles text value
+      → IsUnencodedFor (λ v. v ≡ value) fault → IsUnencodedBy k o fault text
+  unencoded value fault h f = reported fault (unencoded_by (HasTextMeaningBy k o.doubles text) value h fault f)
 
   -- a text that means nothing
-  pub unread : (fault : Error) → IsRefusedIn o fault text → IsUnencodedIn o fault text
+  pub unread : (fault : Error) → IsRefusedIn o fault text → IsUnencodedBy k o fault text
   unread CannotRead f = f
   unread NotJson f = f
   unread (NotExtendedJson place) f = f
@@ -174,28 +145,3 @@ module _ (o : Options) (text : List ℕ) where
   unread (NotCanonical column) f = f
   unread OutOfMemory f = f
   unread CannotWrite f = f
-
-  pub unread_kept : (fault : Error) → IsRefusedIn o fault text → IsUnencodedInOrder o fault text
-  unread_kept CannotRead f = f
-  unread_kept NotJson f = f
-  unread_kept (NotExtendedJson place) f = f
-  unread_kept (NoBytes why) f = absurd f
-  unread_kept (NotCanonical column) f = f
-  unread_kept OutOfMemory f = f
-  unread_kept CannotWrite f = f
-
-  -- ---- a document that has bytes
-
-  -- the pairs that a text means are those that were read
-  pub is_meant : (tree : Data) (ps : Pairs) (value : Value) → IsTextOf text tree → MeansIn o.doubles tree (document ps)
-      → HasTextMeaningIn o.doubles text value → value ≡ document ps
-  is_meant tree ps value t m h =
-      sym (h.meaning.one (document ps)
-      (subst (λ d. MeansIn o.doubles d (document ps)) (tree_one text tree h.tree t h.text) m))
-
-  pub is_meant_kept : (tree : Data) (ps : Pairs) (value : Value) → read_kept text ≡ Some tree
-      → MeansInOrder o.doubles tree (document ps) → MeansKept o text value → value ≡ document ps
-  is_meant_kept tree ps value t m h =
-      let a : read_kept text ≡ Some h.1.tree = h.1.tree_read in
-      let same : tree ≡ h.1.tree = cc in
-      sym (h.1.one (document ps) (subst (λ d. MeansInOrder o.doubles d (document ps)) same m))

@@ -4,7 +4,9 @@ use Rattle.std.proofs.lemmas.List.{append_cancel_right}
 use Rattle.std.specs.Prelude.{IsUtf8}
 use Rattle.serde_json.specs.Read.{read}
 use Rattle.bson.proofs.Offered.{tree_one}
-use Rattle.bson.specs.TextMeaning.{HasTextMeaningIn, IsNoText}
+use Rattle.bson.specs.TextMeaning.{HasTextMeaningBy, HasTextMeaningIn, IsNoText}
+use Rattle.bson.specs.declared.extjson.key_order.KeyOrder.{KeyOrder}
+use Rattle.bson.specs.declared.extjson.key_order.KeyOrder.TheVariants.{Ascending, AsGiven}
 use Rattle.bson.specs.declared.extjson.options.Options.{Options}
 use Rattle.bson_codec.specs.Canonical.{Cause, zero_in_key, zero_in_regex, too_long, DocumentFails, FitsDocument}
 use Rattle.bson_model.specs.Means.{MeansIn}
@@ -24,17 +26,17 @@ use Rattle.bson_convert.specs.declared.mode.Mode.{Mode}
 use Rattle.bson_convert.specs.declared.mode.Mode.TheVariants.{Canonical, Relaxed, Show}
 use Rattle.bson_convert.specs.declared.no_bytes.NoBytes as without
 use Rattle.bson_convert.specs.declared.no_bytes.NoBytes.TheVariants.{NoDocument, ZeroInKey, ZeroInRegex, TooLong}
-use Rattle.bson_run.proofs.EncodeLaws.{ascending_one, in_order_one, kept_one, same_pairs, value_one}
+use Rattle.bson_run.proofs.EncodeLaws.{encoded_one, same_pairs, value_one}
 use Rattle.bson_run.proofs.OneRead.{blank_taken, blank_turned, one_taken}
-use Rattle.bson_run.specs.Encode.{FailsFor, HasNoBytesFor, IsBytesOf, IsNoDocument, MeansKept}
-use Rattle.bson_run.specs.InOrder.{ConvertsInOrder, IsOutputInOrder}
+use Rattle.bson_run.specs.Encode.{FailsFor, HasNoBytesFor, IsBytesOf, IsNoDocument}
+use Rattle.bson_run.specs.InOrder.{ConvertsBy, ConvertsInOrder, IsOutputInOrder}
 use Rattle.bson_run.specs.Lines.{ChecksIn, IsBlank, IsUncanonicalFor, IsWithoutBytes, WorksIn, WritesIn}
 use Rattle.bson_run.specs.Preprocessed.{IsPreprocessedAs, IsRejectedBefore}
 use Rattle.bson_run.specs.declared.order.Criterion.{Criterion}
 use Rattle.bson_run.specs.declared.order.Criterion.TheVariants as criterion
 use Rattle.bson_run.specs.declared.order.Criterion.TheVariants.{Valid}
 use Rattle.bson_run.specs.declared.order.Task.{Task}
-use Rattle.bson_run.specs.declared.order.Task.TheVariants.{Write, WriteInOrder, Check, Encode, EncodeInOrder, Preprocessed}
+use Rattle.bson_run.specs.declared.order.Task.TheVariants.{Write, Check, Encode, Preprocessed}
 use Rattle.bson_run.specs.declared.order.Work.{Work}
 use Rattle.bson_run.specs.declared.order.Work.TheVariants as work
 
@@ -50,26 +52,20 @@ Turned task place text = ⊥
 
 pub one_read : (task : Task) (text a b : List ℕ) → Reads task text a → Reads task text b → a ≡ b
 one_read (Write mode) text a b x y = x ∙ sym y
-one_read (WriteInOrder mode) text a b x y = x ∙ sym y
 one_read (Check criterion) text a b x y = x ∙ sym y
 one_read Encode text a b x y = x ∙ sym y
-one_read EncodeInOrder text a b x y = x ∙ sym y
 one_read (Preprocessed preprocessing work) text a b x y = one_taken preprocessing text a b x y
 
 pub blank_read : (task : Task) (text a : List ℕ) → IsBlank text → Reads task text a → a ≡ text
 blank_read (Write mode) text a h x = x
-blank_read (WriteInOrder mode) text a h x = x
 blank_read (Check criterion) text a h x = x
 blank_read Encode text a h x = x
-blank_read EncodeInOrder text a h x = x
 blank_read (Preprocessed preprocessing work) text a h x = blank_taken preprocessing text a h x
 
 pub turned_blank : (task : Task) (place : Place) (text : List ℕ) → IsBlank text → Turned task place text → ⊥
 turned_blank (Write mode) place text h x = x
-turned_blank (WriteInOrder mode) place text h x = x
 turned_blank (Check criterion) place text h x = x
 turned_blank Encode place text h x = x
-turned_blank EncodeInOrder place text h x = x
 turned_blank (Preprocessed preprocessing work) place text h x = blank_turned preprocessing place text h x
 
 -- ---- causes
@@ -119,22 +115,23 @@ module _ (o : Options) where
   by_default text v utf8 m =
       (m.by_default.0, sorted v, record { utf8 = utf8; tree_read = m.by_default.1 }, m.by_default.2.means)
 
-  meant : (text : List ℕ) (v : Value) → HasTextMeaningIn o.doubles text v → IsAccepted o text
-  meant text v m = (m.tree, v, m.text, m.meaning.means)
+  meant : (k : KeyOrder) (text : List ℕ) (v : Value) → HasTextMeaningBy k o.doubles text v → IsAccepted o text
+  meant Ascending text v m = (m.tree, v, m.text, m.meaning.means)
+  meant AsGiven text v m = by_default text v m.0 m.1
 
   converts : (mode : Mode) (text out : List ℕ) → ConvertsIn o mode text out → IsAccepted o text
   converts mode text out x = (x.tree, x.value, x.text, x.meaning.means)
 
-  converts_in_order : (mode : Mode) (text out : List ℕ) → ConvertsInOrder o mode text out → IsAccepted o text
-  converts_in_order mode text out x = by_default text x.value x.utf8 x.meaning
+  converts_by : (k : KeyOrder) (mode : Mode) (text out : List ℕ) → ConvertsBy k o mode text out → IsAccepted o text
+  converts_by Ascending mode text out x = converts mode text out x
+  converts_by AsGiven mode text out x = by_default text x.value x.utf8 x.meaning
 
   checks : (it : Criterion) (text : List ℕ) → ChecksIn o it text → IsAccepted o text
   checks Valid text x = converts Canonical text x.0 x.1
   checks criterion.Canonical text x = converts Canonical text (text ++ newline) x
 
   works : (it : Work) (text out : List ℕ) → WorksIn o it text out → IsAccepted o text
-  works (work.Write mode) text out x = converts mode text out x
-  works (work.WriteInOrder mode) text out x = converts_in_order mode text out x
+  works (work.Write mode) text out x = converts_by o.key_order mode text out x
   works work.Check text out x = checks Valid text x.0
 
   pub no_text : (text : List ℕ) → IsAccepted o text → IsNoText text → ⊥
@@ -174,7 +171,7 @@ module _ (o : Options) where
       let other : HasTextMeaningIn o.doubles text y.value =
       record { tree = y.tree; text = y.text; meaning = y.meaning } in
       one_output mode x.value a b x.is_output
-      (subst (λ v. IsOutputIn o mode v b) (value_one o text x.value mine y.value other) y.is_output)
+      (subst (λ v. IsOutputIn o mode v b) (value_one Ascending o text y.value x.value other mine) y.is_output)
 
   one_output_in_order : (mode : Mode) (v : Value) (a b : List ℕ) → IsOutputInOrder o mode v a
       → IsOutputInOrder o mode v b → a ≡ b
@@ -195,19 +192,21 @@ module _ (o : Options) where
   one_in_order mode text a b x y =
       one_output_in_order mode x.value a b x.is_output
       (subst (λ v. IsOutputInOrder o mode v b)
-      (kept_one o text x.value (x.utf8, x.meaning) y.value (y.utf8, y.meaning)) y.is_output)
+      (value_one AsGiven o text y.value x.value (y.utf8, y.meaning) (x.utf8, x.meaning)) y.is_output)
+
+  one_by : (k : KeyOrder) (mode : Mode) (text a b : List ℕ) → ConvertsBy k o mode text a → ConvertsBy k o mode text b
+      → a ≡ b
+  one_by Ascending mode text a b x y = one_converted mode text a b x y
+  one_by AsGiven mode text a b x y = one_in_order mode text a b x y
 
   one_work : (it : Work) (text a b : List ℕ) → WorksIn o it text a → WorksIn o it text b → a ≡ b
-  one_work (work.Write mode) text a b x y = one_converted mode text a b x y
-  one_work (work.WriteInOrder mode) text a b x y = one_in_order mode text a b x y
+  one_work (work.Write mode) text a b x y = one_by o.key_order mode text a b x y
   one_work work.Check text a b x y = x.1 ∙ sym y.1
 
   pub one_written : (task : Task) (text a b : List ℕ) → WritesIn o task text a → WritesIn o task text b → a ≡ b
-  one_written (Write mode) text a b x y = one_converted mode text a b x y
-  one_written (WriteInOrder mode) text a b x y = one_in_order mode text a b x y
+  one_written (Write mode) text a b x y = one_by o.key_order mode text a b x y
   one_written (Check criterion) text a b x y = x.1 ∙ sym y.1
-  one_written Encode text a b x y = ascending_one o text b a y x
-  one_written EncodeInOrder text a b x y = in_order_one o text b a y x
+  one_written Encode text a b x y = encoded_one o.key_order o text b a y x
   one_written (Preprocessed preprocessing it) text a b x y =
       one_work it x.0 a b x.2
       (subst (λ t. WorksIn o it t b) (one_taken preprocessing text y.0 x.0 y.1 x.1) y.2)
@@ -215,40 +214,24 @@ module _ (o : Options) where
   -- what is written of a text means something
   pub written_read : (task : Task) (text a : List ℕ) → WritesIn o task text a
       → (read : List ℕ) × Reads task text read × IsAccepted o read
-  written_read (Write mode) text a x = (text, refl, converts mode text a x)
-  written_read (WriteInOrder mode) text a x = (text, refl, converts_in_order mode text a x)
+  written_read (Write mode) text a x = (text, refl, converts_by o.key_order mode text a x)
   written_read (Check criterion) text a x = (text, refl, checks criterion text x.0)
-  written_read Encode text a x = (text, refl, meant text (document x.pairs) x.meaning)
-  written_read EncodeInOrder text a x =
-      (text, refl, by_default text (document x.pairs) x.meaning.0 x.meaning.1)
+  written_read Encode text a x = (text, refl, meant o.key_order text (document x.pairs) x.meaning)
   written_read (Preprocessed preprocessing it) text a x = (x.0, x.1, works it x.0 a x.2)
 
   -- ---- what has no bytes
 
-  pub one_meant : (text : List ℕ) (v w : Value) → HasTextMeaningIn o.doubles text v → HasTextMeaningIn o.doubles text w
-      → v ≡ w
-  one_meant text v w x y = value_one o text w y v x
-
-  pub one_kept : (text : List ℕ) (v w : Value) → MeansKept o text v → MeansKept o text w → v ≡ w
-  one_kept text v w x y = kept_one o text w y v x
-
-  fails_meant : (text : List ℕ) (why : without.NoBytes) → Fails (HasTextMeaningIn o.doubles text) why
+  fails_meant : (k : KeyOrder) (text : List ℕ) (why : without.NoBytes) → Fails (HasTextMeaningBy k o.doubles text) why
       → IsAccepted o text
-  fails_meant text why (inl (e, n)) = meant text n.value n.meaning
-  fails_meant text why (inr (c, e, f)) = meant text (document f.pairs) f.meaning
-
-  fails_kept : (text : List ℕ) (why : without.NoBytes) → Fails (MeansKept o text) why → IsAccepted o text
-  fails_kept text why (inl (e, n)) = by_default text n.value n.meaning.0 n.meaning.1
-  fails_kept text why (inr (c, e, f)) = by_default text (document f.pairs) f.meaning.0 f.meaning.1
+  fails_meant k text why (inl (e, n)) = meant k text n.value n.meaning
+  fails_meant k text why (inr (c, e, f)) = meant k text (document f.pairs) f.meaning
 
   pub without_read : (task : Task) (why : without.NoBytes) (text : List ℕ) → IsWithoutBytes o task why text
       → Reads task text text × IsAccepted o text
   without_read (Write mode) why text h = absurd h
-  without_read (WriteInOrder mode) why text h = absurd h
   without_read (Check criterion) why text h = absurd h
   without_read Encode why text h =
-      (refl, fails_meant text why (fails_of (HasTextMeaningIn o.doubles text) why h))
-  without_read EncodeInOrder why text h = (refl, fails_kept text why (fails_of (MeansKept o text) why h))
+      (refl, fails_meant o.key_order text why (fails_of (HasTextMeaningBy o.key_order o.doubles text) why h))
   without_read (Preprocessed preprocessing it) why text h = absurd h
 
   -- ---- what is not canonical
@@ -256,43 +239,35 @@ module _ (o : Options) where
   pub uncanonical_read : (task : Task) (column : ℕ) (text : List ℕ) → IsUncanonicalFor o task column text
       → Reads task text text × IsAccepted o text
   uncanonical_read (Write mode) column text h = absurd h
-  uncanonical_read (WriteInOrder mode) column text h = absurd h
   uncanonical_read (Check Valid) column text h = absurd h
   uncanonical_read (Check criterion.Canonical) column text h = (refl, converts Canonical text (h.text ++ newline) h.converts)
   uncanonical_read Encode column text h = absurd h
-  uncanonical_read EncodeInOrder column text h = absurd h
   uncanonical_read (Preprocessed preprocessing it) column text h = absurd h
 
   pub uncanonical_bytes : (task : Task) (column : ℕ) (why : without.NoBytes) (text : List ℕ) → IsUncanonicalFor o task column text
       → IsWithoutBytes o task why text → ⊥
   uncanonical_bytes (Write mode) column why text h x = h
-  uncanonical_bytes (WriteInOrder mode) column why text h x = h
   uncanonical_bytes (Check criterion) column why text h x = x
   uncanonical_bytes Encode column why text h x = h
-  uncanonical_bytes EncodeInOrder column why text h x = h
   uncanonical_bytes (Preprocessed preprocessing it) column why text h x = h
 
   pub uncanonical_written : (task : Task) (column : ℕ) (text a : List ℕ) → IsUncanonicalFor o task column text
       → WritesIn o task text a → ⊥
   uncanonical_written (Write mode) column text a h x = h
-  uncanonical_written (WriteInOrder mode) column text a h x = h
   uncanonical_written (Check Valid) column text a h x = h
   uncanonical_written (Check criterion.Canonical) column text a h x =
       let ended = one_converted Canonical text (h.text ++ newline) (text ++ newline) h.converts x.0 in
       no_difference column text h.text h.differ (sym (append_cancel_right h.text text newline ended))
   uncanonical_written Encode column text a h x = h
-  uncanonical_written EncodeInOrder column text a h x = h
   uncanonical_written (Preprocessed preprocessing it) column text a h x = h
 
   pub one_column : (task : Task) (column other : ℕ) (text : List ℕ) → IsUncanonicalFor o task column text
       → IsUncanonicalFor o task other text → column ≡ other
   one_column (Write mode) column other text x y = absurd x
-  one_column (WriteInOrder mode) column other text x y = absurd x
   one_column (Check Valid) column other text x y = absurd x
   one_column (Check criterion.Canonical) column other text x y =
       let ended = one_converted Canonical text (y.text ++ newline) (x.text ++ newline) y.converts x.converts in
       let same : y.text ≡ x.text = append_cancel_right y.text x.text newline ended in
       one_difference column other text x.text x.differ (subst (IsFirstDifferenceAt other text) same y.differ)
   one_column Encode column other text x y = absurd x
-  one_column EncodeInOrder column other text x y = absurd x
   one_column (Preprocessed preprocessing it) column other text x y = absurd x

@@ -3,7 +3,7 @@ use Rattle.std.proofs.Common.{◌≡◌, inl, inr, ℕ, List, refl, subst}
 use Rattle.json.specs.Json.{Json}
 use Rattle.json.specs.Strict.{HasUniqueKeys}
 use Rattle.serde_json.specs.Read.{read}
-use Rattle.bson.specs.TextMeaning.{HasTextMeaningIn, IsNoText, IsTextOf}
+use Rattle.bson.specs.TextMeaning.{HasTextMeaningBy, IsNoText, IsTextOf}
 use Rattle.bson.specs.declared.extjson.options.Options.{Options}
 use Rattle.bson_codec.specs.Canonical.{Cause, DocumentFails, FitsDocument}
 use Rattle.bson_tokens.specs.Double.{DuplicateAt}
@@ -15,13 +15,13 @@ use Rattle.bson_convert.specs.declared.error.Error.{Error}
 use Rattle.bson_convert.specs.declared.error.Error.TheVariants.{CannotRead, NotJson, NotExtendedJson, NoBytes, OutOfMemory}
 use Rattle.bson_convert.specs.declared.error.Error.TheVariants.{CannotWrite, NotCanonical}
 use Rattle.bson_convert.specs.declared.no_bytes.NoBytes as without
+use Rattle.bson_run.proofs.EncodeLaws.{value_one}
 use Rattle.bson_run.proofs.OneRead.{blank_text, not_taken, one_turned}
-use Rattle.bson_run.specs.Encode.{MeansKept}
 use Rattle.bson_run.specs.Lines.{IsBadLineIn, IsBlank, IsUncanonicalFor, IsWithoutBytes, WritesIn}
 use Rattle.bson_run.specs.Outcomes.{IsSameFault}
 use Rattle.bson_run.specs.declared.order.Task.{Task}
-use Rattle.bson_run.specs.declared.order.Task.TheVariants.{Write, WriteInOrder, Check, Encode, EncodeInOrder, Preprocessed}
-use Rattle.bson_run.proofs.OneOutput.{Reads, Turned, blank_read, fails_of, fault_text, has_bytes, no_fault, no_text, one_kept, one_meant}
+use Rattle.bson_run.specs.declared.order.Task.TheVariants.{Write, Check, Encode, Preprocessed}
+use Rattle.bson_run.proofs.OneOutput.{Reads, Turned, blank_read, fails_of, fault_text, has_bytes, no_fault, no_text}
 use Rattle.bson_run.proofs.OneOutput.{one_column, one_read, one_written, same_cause, same_path, turned_blank, uncanonical_bytes}
 use Rattle.bson_run.proofs.OneOutput.{uncanonical_read, uncanonical_written, without_read, written_read}
 
@@ -47,16 +47,12 @@ data View (o : Options) (task : Task) (text : List ℕ) : Error → Type 0 where
 view : (o : Options) (task : Task) (text : List ℕ) (fault : Error) → IsBadLineIn o task fault text
     → View o task text fault
 view o (Write mode) text NotJson h = unread text refl h.0 h.1
-view o (WriteInOrder mode) text NotJson h = unread text refl h.0 h.1
 view o (Check criterion) text NotJson h = unread text refl h.0 h.1
 view o Encode text NotJson h = unread text refl h.0 h.1
-view o EncodeInOrder text NotJson h = unread text refl h.0 h.1
 view o (Preprocessed preprocessing it) text NotJson h = unread h.0.0 h.0.1 h.0.2 h.1
 view o (Write mode) text (NotExtendedJson place) h = meaningless place text refl h
-view o (WriteInOrder mode) text (NotExtendedJson place) h = meaningless place text refl h
 view o (Check criterion) text (NotExtendedJson place) h = meaningless place text refl h
 view o Encode text (NotExtendedJson place) h = meaningless place text refl h
-view o EncodeInOrder text (NotExtendedJson place) h = meaningless place text refl h
 view o (Preprocessed preprocessing it) text (NotExtendedJson place) (inl h) = meaningless place h.0 h.1 h.2
 view o (Preprocessed preprocessing it) text (NotExtendedJson place) (inr h) = turned place h
 view o task text (NoBytes why) h = bare why h
@@ -72,45 +68,33 @@ module _ (twice : (j : Json) (path : List PathSegment) → DuplicateAt j path �
     (o : Options) where
   not_turned : (task : Task) (place : Place) (text a : List ℕ) → Turned task place text → Reads task text a → ⊥
   not_turned (Write mode) place text a h is = h
-  not_turned (WriteInOrder mode) place text a h is = h
   not_turned (Check criterion) place text a h is = h
   not_turned Encode place text a h is = h
-  not_turned EncodeInOrder place text a h is = h
   not_turned (Preprocessed preprocessing it) place text a h is = not_taken twice preprocessing place text a h is
 
   both_turned : (task : Task) (place other : Place) (text : List ℕ) → Turned task place text → Turned task other text
       → path_of place ≡ path_of other
   both_turned (Write mode) place other text x y = absurd x
-  both_turned (WriteInOrder mode) place other text x y = absurd x
   both_turned (Check criterion) place other text x y = absurd x
   both_turned Encode place other text x y = absurd x
-  both_turned EncodeInOrder place other text x y = absurd x
   both_turned (Preprocessed preprocessing it) place other text x y = one_turned one_double preprocessing place other text x y
 
   both_bare : (task : Task) (why other : without.NoBytes) (text : List ℕ) → IsWithoutBytes o task why text
       → IsWithoutBytes o task other text → why ≡ other
   both_bare (Write mode) why other text x y = absurd x
-  both_bare (WriteInOrder mode) why other text x y = absurd x
   both_bare (Check criterion) why other text x y = absurd x
   both_bare Encode why other text x y =
-      let P = HasTextMeaningIn o.doubles text in
-      same_cause P (one_meant o text) no_cause one_cause why other (fails_of P why x) (fails_of P other y)
-  both_bare EncodeInOrder why other text x y =
-      let P = MeansKept o text in
-      same_cause P (one_kept o text) no_cause one_cause why other (fails_of P why x) (fails_of P other y)
+      let P = HasTextMeaningBy o.key_order o.doubles text in
+      same_cause P (value_one o.key_order o text) no_cause one_cause why other (fails_of P why x) (fails_of P other y)
   both_bare (Preprocessed preprocessing it) why other text x y = absurd x
 
   not_bare : (task : Task) (why : without.NoBytes) (text a : List ℕ) → WritesIn o task text a
       → IsWithoutBytes o task why text → ⊥
   not_bare (Write mode) why text a w h = h
-  not_bare (WriteInOrder mode) why text a w h = h
   not_bare (Check criterion) why text a w h = h
   not_bare Encode why text a w h =
-      let P = HasTextMeaningIn o.doubles text in
-      has_bytes P (one_meant o text) no_cause one_cause why a w (fails_of P why h)
-  not_bare EncodeInOrder why text a w h =
-      let P = MeansKept o text in
-      has_bytes P (one_kept o text) no_cause one_cause why a w (fails_of P why h)
+      let P = HasTextMeaningBy o.key_order o.doubles text in
+      has_bytes P (value_one o.key_order o text) no_cause one_cause why a w (fails_of P why h)
   not_bare (Preprocessed preprocessing it) why text a w h = h
 
   module _ (task : Task) (text : List ℕ) where

@@ -6,15 +6,14 @@ use Rattle.std.specs.Prelude.{codes}
 use Rattle.bson_run.specs.Lines.{lines, line_text, IsBlank}
 use Rattle.bson_run.specs.Place.{shown}
 use Rattle.bson_run.specs.Words.{task_name, words_broken}
-use Rattle.bson_run.specs.declared.order.Task.TheVariants.{Check, Encode, EncodeInOrder}
+use Rattle.bson_run.specs.declared.order.Task.TheVariants.{Check, Encode}
 use Rattle.bson_run.specs.declared.rule.Rule.TheVariants as rule
 
 -- ---- names of tasks
 
 tasks_named : ((criterion : _) → task_name (Check criterion) ≡ codes "check")
     × (task_name Encode ≡ codes "encode")
-    × (task_name EncodeInOrder ≡ codes "encode")
-tasks_named = (λ criterion. refl, refl, refl)
+tasks_named = (λ criterion. refl, refl)
 
 -- ---- words of rules of JSON
 

@@ -19,14 +19,16 @@ use Rattle.bson_model.specs.OrderedWriting.{writes_in_order, values_in_order, pa
 use Rattle.bson_model.specs.OrderedWritten.{WrittenInOrder}
 use Rattle.bson_model.proofs.OfferedInOrder.{default_written, one_written, ordered_text, text_means, written_from, written_to}
 use Rattle.bson.specs.Texts.{IsTextInOrder}
+use Rattle.bson.specs.declared.extjson.key_order.KeyOrder.{KeyOrder}
+use Rattle.bson.specs.declared.extjson.key_order.KeyOrder.TheVariants.{Ascending, AsGiven}
 use Rattle.bson.specs.declared.extjson.options.Options.{Options}
 use Rattle.bson_convert.specs.Convert.{newline}
 use Rattle.bson_convert.specs.declared.error.Error.{Error}
 use Rattle.bson_convert.specs.declared.mode.Mode.{Mode}
 use Rattle.bson_convert.specs.declared.mode.Mode.TheVariants.{Canonical, Relaxed, Show}
-use Rattle.bson_convert.proofs.Offered.{tokens_then}
-use Rattle.bson_run.specs.InOrder.{ConvertsInOrder, ConvertsToItselfInOrder, IsConvertedTextInOrder, IsKeptInOrder, IsLineInOrder}
-use Rattle.bson_run.specs.InOrder.{IsOutputInOrder}
+use Rattle.bson_convert.proofs.Offered.{output_kept as sorted_kept, tokens_then}
+use Rattle.bson_run.specs.InOrder.{ConvertsBy, ConvertsInOrder, ConvertsToItselfInOrder, IsConvertedTextInOrder, IsKeptBy}
+use Rattle.bson_run.specs.InOrder.{IsKeptInOrder, IsLineInOrder, IsOutputInOrder}
 use Rattle.bson_run.proofs.Ordered.{default_tree, text_converts}
 
 pub read_kept_then : (text : List ℕ) → read_kept (text ++ newline) ≡ read_kept text
@@ -109,13 +111,18 @@ module _ (o : Options) (f : Form) where
         (ap read_kept line.line ∙ read_kept_then line.text ∙ line_read bytes output v m line shallow);
   }
 
-pub output_kept : (o : Options) (mode : Mode) (bytes output : List ℕ) → ConvertsInOrder o mode bytes output → IsUtf8 output
+output_kept : (o : Options) (mode : Mode) (bytes output : List ℕ) → ConvertsInOrder o mode bytes output → IsUtf8 output
     → IsKeptInOrder o mode output
 output_kept o Canonical bytes output x utf8 =
     is_kept o form.Canonical Canonical bytes output x.value x.meaning utf8 x.is_output (λ w line. line)
 output_kept o Relaxed bytes output x utf8 =
     is_kept o form.Relaxed Relaxed bytes output x.value x.meaning utf8 x.is_output (λ w line. line)
 output_kept o Show bytes output x utf8 = tt
+
+pub kept_by : (k : KeyOrder) (o : Options) (mode : Mode) (bytes output : List ℕ) → ConvertsBy k o mode bytes output
+    → IsUtf8 output → IsKeptBy k o mode output
+kept_by Ascending o mode bytes output x utf8 = sorted_kept o mode bytes output x utf8
+kept_by AsGiven o mode bytes output x utf8 = output_kept o mode bytes output x utf8
 
 -- the same of a text that is ended
 pub kept_ok : (o : Options) (mode : Mode) (bytes text : List ℕ) (r : Result (Vec ℕ Global) Error)

@@ -10,13 +10,15 @@ use Rattle.bson_scalar.specs.TreeText.{tree_text}
 use Rattle.bson_scalar.specs.declared.form.Form.{Form}
 use Rattle.bson_scalar.specs.declared.form.Form.TheVariants.{Canonical, Relaxed}
 use Rattle.bson_model.specs.Value.{Value}
+use Rattle.bson.specs.declared.extjson.key_order.KeyOrder.{KeyOrder}
+use Rattle.bson.specs.declared.extjson.key_order.KeyOrder.TheVariants.{Ascending, AsGiven}
 use Rattle.bson.specs.declared.extjson.options.Options.{Options}
-use Rattle.bson_convert.specs.Convert.{IsConvertedText, IsOutputIn, IsWrittenIn, newline}
+use Rattle.bson_convert.specs.Convert.{IsOutputIn, IsWrittenIn, newline}
 use Rattle.bson_convert.specs.declared.error.Error.{Error}
 use Rattle.bson_convert.proofs.Offered.{again, parsed_whole, read_then, text_converts, tokens_then, whole}
-use Rattle.bson_run.specs.InOrder.{IsConvertedTextInOrder, IsLineInOrder, IsOutputInOrder}
-use Rattle.bson_run.specs.Indent.{mode_of, ConvertsIndented, ConvertsInOrderIndented, IsLaidOut, IsKeptIndented}
-use Rattle.bson_run.specs.Indent.{IsKeptInOrderIndented}
+use Rattle.bson_convert.specs.declared.mode.Mode.{Mode}
+use Rattle.bson_run.specs.InOrder.{ConvertsBy, IsConvertedTextBy, IsLineInOrder, IsOutputInOrder}
+use Rattle.bson_run.specs.Indent.{mode_of, ConvertsIndented, IsLaidOut, IsKeptIndented}
 use Rattle.bson_run.proofs.Ordered.{text_converts as converts_in_order}
 use Rattle.bson_run.proofs.TwiceInOrder.{again_in_order, line_read}
 
@@ -34,9 +36,9 @@ module _ (n : ℕ) (text output : List ℕ) (is : IsLaidOut n text output) where
   alike of t h = ap (λ ts. option_and_then of (whole (json_value max_depth ts))) (tokens_alike of t h) ∙ h
 
 module _ (o : Options) (f : Form) (n : ℕ) (bytes output : List ℕ) (utf8 : IsUtf8 output) where
-  laid_again : (x : ConvertsIndented o f n bytes output) → IsWrittenIn o f x.converts.value (x.text ++ newline)
+  laid_again : (x : ConvertsIndented Ascending o f n bytes output) → IsWrittenIn o f x.converts.value (x.text ++ newline)
       → ((v : Value) → IsWrittenIn o f v (x.text ++ newline) → IsOutputIn o (mode_of f) v (x.text ++ newline))
-      → IsKeptIndented o f n output
+      → IsKeptIndented Ascending o f n output
   laid_again x w of =
       let a = again o f bytes (x.text ++ newline) x.converts.tree x.converts.value x.converts.text x.converts.meaning w in
       record {
@@ -59,31 +61,13 @@ module _ (o : Options) (f : Form) (n : ℕ) (bytes output : List ℕ) (utf8 : Is
             };
       }
 
-pub laid_kept : (o : Options) (f : Form) (n : ℕ) (bytes output : List ℕ) → ConvertsIndented o f n bytes output
-    → IsUtf8 output → IsKeptIndented o f n output
-laid_kept o Canonical n bytes output x utf8 = laid_again o Canonical n bytes output utf8 x x.converts.is_output (λ v w. w)
-laid_kept o Relaxed n bytes output x utf8 = laid_again o Relaxed n bytes output utf8 x x.converts.is_output (λ v w. w)
-
-module _ (o : Options) (f : Form) (n : ℕ) (bytes text : List ℕ) (is : IsConvertedText o (mode_of f) bytes text) where
-  pub indented : (output : List ℕ) → IsLaidOut n text output → ConvertsIndented o f n bytes output
-  indented output laid = record {
-    text = text;
-    converts = text_converts o (mode_of f) bytes text (text ++ newline) is refl;
-    is_output = laid;
-  }
-
-  pub indented_kept : (r : Result (Vec ℕ Global) Error) → IfOk r (λ output. IsLaidOut n text output.items)
-      → IfOk r (λ output. IsUtf8 output.items) → IfOk r (λ output. IsKeptIndented o f n output.items)
-  indented_kept (Ok output) laid utf8 = laid_kept o f n bytes output.items (indented output.items laid) utf8
-  indented_kept (Err e) laid utf8 = tt
-
 -- ---- in the order of the keys
 
 module _ (o : Options) (f : Form) (n : ℕ) (bytes output : List ℕ) (utf8 : IsUtf8 output) where
-  laid_again_in_order : (x : ConvertsInOrderIndented o f n bytes output)
+  laid_again_in_order : (x : ConvertsIndented AsGiven o f n bytes output)
       → (line : IsLineInOrder o.doubles f x.converts.value (x.text ++ newline))
       → ((v : Value) → IsLineInOrder o.doubles f v (x.text ++ newline) → IsOutputInOrder o (mode_of f) v (x.text ++ newline))
-      → IsKeptInOrderIndented o f n output
+      → IsKeptIndented AsGiven o f n output
   laid_again_in_order x line of =
       let texts : x.text ≡ line.text = append_cancel_right x.text line.text newline line.line in
       record {
@@ -100,23 +84,30 @@ module _ (o : Options) (f : Form) (n : ℕ) (bytes output : List ℕ) (utf8 : Is
             };
       }
 
-pub laid_kept_in_order : (o : Options) (f : Form) (n : ℕ) (bytes output : List ℕ)
-    → ConvertsInOrderIndented o f n bytes output → IsUtf8 output → IsKeptInOrderIndented o f n output
-laid_kept_in_order o Canonical n bytes output x utf8 =
+-- ---- in either order
+
+pub laid_kept : (k : KeyOrder) (o : Options) (f : Form) (n : ℕ) (bytes output : List ℕ)
+    → ConvertsIndented k o f n bytes output → IsUtf8 output → IsKeptIndented k o f n output
+laid_kept Ascending o Canonical n bytes output x utf8 =
+    laid_again o Canonical n bytes output utf8 x x.converts.is_output (λ v w. w)
+laid_kept Ascending o Relaxed n bytes output x utf8 =
+    laid_again o Relaxed n bytes output utf8 x x.converts.is_output (λ v w. w)
+laid_kept AsGiven o Canonical n bytes output x utf8 =
     laid_again_in_order o Canonical n bytes output utf8 x x.converts.is_output (λ v line. line)
-laid_kept_in_order o Relaxed n bytes output x utf8 =
+laid_kept AsGiven o Relaxed n bytes output x utf8 =
     laid_again_in_order o Relaxed n bytes output utf8 x x.converts.is_output (λ v line. line)
 
-module _ (o : Options) (f : Form) (n : ℕ) (bytes text : List ℕ) (is : IsConvertedTextInOrder o (mode_of f) bytes text) where
-  pub indented_in_order : (output : List ℕ) → IsLaidOut n text output → ConvertsInOrderIndented o f n bytes output
-  indented_in_order output laid = record {
-    text = text;
-    converts = converts_in_order o (mode_of f) bytes text (text ++ newline) is refl;
-    is_output = laid;
-  }
+converts_by : (k : KeyOrder) (o : Options) (mode : Mode) (bytes text : List ℕ) → IsConvertedTextBy k o mode bytes text
+    → ConvertsBy k o mode bytes (text ++ newline)
+converts_by Ascending o mode bytes text is = text_converts o mode bytes text (text ++ newline) is refl
+converts_by AsGiven o mode bytes text is = converts_in_order o mode bytes text (text ++ newline) is refl
 
-  pub in_order_kept : (r : Result (Vec ℕ Global) Error) → IfOk r (λ output. IsLaidOut n text output.items)
-      → IfOk r (λ output. IsUtf8 output.items) → IfOk r (λ output. IsKeptInOrderIndented o f n output.items)
-  in_order_kept (Ok output) laid utf8 =
-      laid_kept_in_order o f n bytes output.items (indented_in_order output.items laid) utf8
-  in_order_kept (Err e) laid utf8 = tt
+module _ (k : KeyOrder) (o : Options) (f : Form) (n : ℕ) (bytes text : List ℕ)
+    (is : IsConvertedTextBy k o (mode_of f) bytes text) where
+  pub indented : (output : List ℕ) → IsLaidOut n text output → ConvertsIndented k o f n bytes output
+  indented output laid = record { text = text; converts = converts_by k o (mode_of f) bytes text is; is_output = laid }
+
+  pub indented_kept : (r : Result (Vec ℕ Global) Error) → IfOk r (λ output. IsLaidOut n text output.items)
+      → IfOk r (λ output. IsUtf8 output.items) → IfOk r (λ output. IsKeptIndented k o f n output.items)
+  indented_kept (Ok output) laid utf8 = laid_kept k o f n bytes output.items (indented output.items laid) utf8
+  indented_kept (Err e) laid utf8 = tt

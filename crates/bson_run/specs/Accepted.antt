@@ -1,22 +1,20 @@
 -- What a text gives that was accepted.
 use Rattle.std.specs.Prelude.{◌≡◌, ℕ, List, IsUtf8, string_bytes}
 use Rattle.bson.specs.declared.extjson.options.Options.{Options}
-use Rattle.bson_convert.specs.Convert.{ConvertsIn, IsAccepted}
-use Rattle.bson_run.specs.InOrder.{ConvertsInOrder}
+use Rattle.bson_convert.specs.Convert.{IsAccepted}
+use Rattle.bson_run.specs.InOrder.{ConvertsBy}
 use Rattle.bson_run.specs.declared.accepted.Accepted.{Accepted}
-use Rattle.bson_run.specs.declared.accepted.Accepted.TheVariants.{Output, Normalized, NormalizedInOrder}
+use Rattle.bson_run.specs.declared.accepted.Accepted.TheVariants.{Output, Normalized}
 
 -- the output of it
 abbrev pub Outputs : Options → Accepted → List ℕ → Type 0
 Outputs o (Output bytes) output = output ≡ bytes.items
-Outputs o (Normalized mode text) output = ConvertsIn o mode (string_bytes text) output
-Outputs o (NormalizedInOrder mode text) output = ConvertsInOrder o mode (string_bytes text) output
+Outputs o (Normalized mode text) output = ConvertsBy o.key_order o mode (string_bytes text) output
 
 -- the text that it has means something
 abbrev pub IsSure : Options → Accepted → Type 0
 IsSure o (Output bytes) = Unit {0}
 IsSure o (Normalized mode text) = IsAccepted o (string_bytes text)
-IsSure o (NormalizedInOrder mode text) = IsAccepted o (string_bytes text)
 
 -- an output that it has is UTF-8; the texts are by their type
 abbrev pub IsUtf8Accepted : Accepted → Type 0

@@ -1,15 +1,13 @@
 -- What encoding makes of bytes: the canonical bytes (BSON 1.1) of the document that they mean as a text, or why there
 -- are none.
-use Rattle.std.specs.Prelude.{◌≡◌, ℕ, suc, List, IsUtf8}
-use Rattle.bson.specs.TextMeaning.{HasTextMeaningIn}
+use Rattle.std.specs.Prelude.{◌≡◌, ℕ, suc, List}
+use Rattle.bson.specs.TextMeaning.{HasTextMeaningBy}
 use Rattle.bson.specs.declared.extjson.key_order.KeyOrder.{KeyOrder}
-use Rattle.bson.specs.declared.extjson.key_order.KeyOrder.TheVariants.{Ascending, AsGiven}
 use Rattle.bson.specs.declared.extjson.options.Options.{Options}
 use Rattle.bson_codec.specs.Canonical.{Cause, zero_in_key, zero_in_regex, too_long}
 use Rattle.bson_codec.specs.Canonical.{DocumentFails, FitsDocument, NestsPairs, as_written, document_bytes}
 use Rattle.bson_codec.specs.Laws.{IsRead}
 use Rattle.bson_model.specs.Value.{Value, Pairs, document}
-use Rattle.bson_model.specs.OrderedTexts.{HasMeaningInOrder}
 use Rattle.bson_convert.specs.Convert.{IsRefusedIn}
 use Rattle.bson_convert.specs.declared.no_bytes.NoBytes.{NoBytes}
 use Rattle.bson_convert.specs.declared.no_bytes.NoBytes.TheVariants.{NoDocument, ZeroInKey, ZeroInRegex, TooLong}
@@ -45,45 +43,20 @@ HasNoBytesFor means ZeroInKey = FailsFor means zero_in_key
 HasNoBytesFor means ZeroInRegex = FailsFor means zero_in_regex
 HasNoBytesFor means TooLong = FailsFor means too_long
 
--- ---- what a text means: with its keys in ascending order, or in the order of the text
-
--- the bytes are a text that means the value in the order of its keys
-abbrev pub MeansKept : Options → List ℕ → Value → Type 0
-MeansKept o text value = IsUtf8 text × HasMeaningInOrder o.doubles text value
-
-abbrev pub EncodesIn : Options → (text bytes : List ℕ) → Type 0
-EncodesIn o text bytes = IsBytesOf (HasTextMeaningIn o.doubles text) bytes
-
-abbrev pub EncodesInOrder : Options → (text bytes : List ℕ) → Type 0
-EncodesInOrder o text bytes = IsBytesOf (MeansKept o text) bytes
-
-abbrev pub HasNoBytesIn : Options → NoBytes → List ℕ → Type 0
-HasNoBytesIn o why text = HasNoBytesFor (HasTextMeaningIn o.doubles text) why
-
-abbrev pub HasNoBytesInOrder : Options → NoBytes → List ℕ → Type 0
-HasNoBytesInOrder o why text = HasNoBytesFor (MeansKept o text) why
-
--- the text means the value, its keys in the order
-abbrev pub HasMeaningBy : KeyOrder → Options → List ℕ → Value → Type 0
-HasMeaningBy Ascending o text = HasTextMeaningIn o.doubles text
-HasMeaningBy AsGiven o text = MeansKept o text
+-- ---- what a text gives, its keys in the order
 
 -- the text means a document, whose canonical bytes these are; they are read back as it
 abbrev pub Encodes : KeyOrder → Options → (text bytes : List ℕ) → Type 0
-Encodes k o text bytes = IsBytesOf (HasMeaningBy k o text) bytes
+Encodes k o text bytes = IsBytesOf (HasTextMeaningBy k o.doubles text) bytes
+
+-- why the text gives no bytes
+abbrev pub HasNoBytesBy : KeyOrder → Options → NoBytes → List ℕ → Type 0
+HasNoBytesBy k o why text = HasNoBytesFor (HasTextMeaningBy k o.doubles text) why
 
 -- what each fault says of the bytes
-abbrev pub IsUnencodedIn : Options → Error → List ℕ → Type 0
-IsUnencodedIn o (error.NoBytes why) text = HasNoBytesIn o why text
-IsUnencodedIn o it text = IsRefusedIn o it text
-
-abbrev pub IsUnencodedInOrder : Options → Error → List ℕ → Type 0
-IsUnencodedInOrder o (error.NoBytes why) text = HasNoBytesInOrder o why text
-IsUnencodedInOrder o it text = IsRefusedIn o it text
-
 abbrev pub IsUnencodedBy : KeyOrder → Options → Error → List ℕ → Type 0
-IsUnencodedBy Ascending o fault text = IsUnencodedIn o fault text
-IsUnencodedBy AsGiven o fault text = IsUnencodedInOrder o fault text
+IsUnencodedBy k o (error.NoBytes why) text = HasNoBytesBy k o why text
+IsUnencodedBy k o it text = IsRefusedIn o it text
 
 -- ---- for private clauses
 

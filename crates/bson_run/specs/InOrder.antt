@@ -13,7 +13,7 @@ use Rattle.bson.specs.Texts.{IsTextInOrder}
 use Rattle.bson.specs.declared.extjson.key_order.KeyOrder.{KeyOrder}
 use Rattle.bson.specs.declared.extjson.key_order.KeyOrder.TheVariants.{Ascending, AsGiven}
 use Rattle.bson.specs.declared.extjson.options.Options.{Options}
-use Rattle.bson_convert.specs.Convert.{ConvertsIn, IsKeptIn, newline}
+use Rattle.bson_convert.specs.Convert.{ConvertsIn, IsConvertedText, IsKeptIn, newline}
 use Rattle.bson_convert.specs.declared.mode.Mode.{Mode}
 use Rattle.bson_convert.specs.declared.mode.Mode.TheVariants.{Canonical, Relaxed, Show}
 
@@ -72,3 +72,8 @@ IsTextInOrderFor o Show value text = text ≡ display_text value
 abbrev pub IsConvertedTextInOrder : Options → Mode → List ℕ → List ℕ → Type 0
 IsConvertedTextInOrder o mode bytes text =
     (value : Value) × IsUtf8 bytes × HasMeaningInOrder o.doubles bytes value × IsTextInOrderFor o mode value text
+
+-- a text of the value that the bytes mean, its keys in the order
+abbrev pub IsConvertedTextBy : KeyOrder → Options → Mode → List ℕ → List ℕ → Type 0
+IsConvertedTextBy Ascending o mode bytes text = IsConvertedText o mode bytes text
+IsConvertedTextBy AsGiven o mode bytes text = IsConvertedTextInOrder o mode bytes text

@@ -11,11 +11,12 @@ use Rattle.json.specs.Token.{Token}
 use Rattle.serde_json.specs.Data.{Data, depth}
 use Rattle.serde_json.specs.Read.{max_depth}
 use Rattle.bson_scalar.specs.TreeText.{tree_text}
+use Rattle.bson.specs.declared.extjson.key_order.KeyOrder.{KeyOrder}
 use Rattle.bson.specs.declared.extjson.options.Options.{Options}
 use Rattle.bson_scalar.specs.declared.form.Form.{Form}
 use Rattle.bson_scalar.specs.declared.form.Form.TheVariants as form
-use Rattle.bson_convert.specs.Convert.{ConvertsIn, newline}
-use Rattle.bson_run.specs.InOrder.{ConvertsInOrder}
+use Rattle.bson_convert.specs.Convert.{newline}
+use Rattle.bson_run.specs.InOrder.{ConvertsBy}
 use Rattle.bson_convert.specs.declared.mode.Mode.{Mode}
 use Rattle.bson_convert.specs.declared.mode.Mode.TheVariants.{Canonical, Relaxed}
 use Rattle.bson_run.specs.declared.indent.Before.{Before}
@@ -74,28 +75,16 @@ mode_of form.Canonical = Canonical
 mode_of form.Relaxed = Relaxed
 
 -- the bytes are converted to a text, of which this is the layout
-pub record ConvertsIndented (o : Options) (f : Form) (n : ℕ) (bytes output : List ℕ) : Type 0 where
+pub record ConvertsIndented (k : KeyOrder) (o : Options) (f : Form) (n : ℕ) (bytes output : List ℕ) : Type 0 where
   pub text : List ℕ
-  pub converts : ConvertsIn o (mode_of f) bytes (text ++ newline)
-  pub is_output : IsLaidOut n text output
-
--- the same in the order of the keys
-pub record ConvertsInOrderIndented (o : Options) (f : Form) (n : ℕ) (bytes output : List ℕ) : Type 0 where
-  pub text : List ℕ
-  pub converts : ConvertsInOrder o (mode_of f) bytes (text ++ newline)
+  pub converts : ConvertsBy k o (mode_of f) bytes (text ++ newline)
   pub is_output : IsLaidOut n text output
 
 -- the layout of a tree's text; unless the tree nests deeper than a text may, the layout is converted to itself
-pub record IsKeptIndented (o : Options) (f : Form) (n : ℕ) (output : List ℕ) : Type 0 where
+pub record IsKeptIndented (k : KeyOrder) (o : Options) (f : Form) (n : ℕ) (output : List ℕ) : Type 0 where
   pub tree : Data
   pub laid : IsLaidOut n (tree_text o.doubles f tree) output
-  pub again : depth tree ≤ max_depth → ConvertsIndented o f n output output
-
--- the same in the order of the keys
-pub record IsKeptInOrderIndented (o : Options) (f : Form) (n : ℕ) (output : List ℕ) : Type 0 where
-  pub tree : Data
-  pub laid : IsLaidOut n (tree_text o.doubles f tree) output
-  pub again : depth tree ≤ max_depth → ConvertsInOrderIndented o f n output output
+  pub again : depth tree ≤ max_depth → ConvertsIndented k o f n output output
 
 -- ---- for private clauses
 

@@ -6,8 +6,8 @@ use Rattle.std.specs.List.{starts_with}
 use Rattle.std.specs.Io.KnownBytes.{Appends, Consumes}
 use Rattle.bson.specs.declared.extjson.options.Options.{Options}
 use Rattle.bson_convert.specs.Convert.{ConvertsIn, IsCanonicalText, IsRefusedIn, IsUncanonicalAt, newline}
-use Rattle.bson_run.specs.Encode.{EncodesIn, EncodesInOrder, HasNoBytesIn, HasNoBytesInOrder}
-use Rattle.bson_run.specs.InOrder.{ConvertsInOrder}
+use Rattle.bson_run.specs.Encode.{Encodes, HasNoBytesBy}
+use Rattle.bson_run.specs.InOrder.{ConvertsBy}
 use Rattle.bson_run.specs.Place.{IsWhere}
 use Rattle.bson_convert.specs.Run.{WritesBeginning, WritesPart}
 use Rattle.bson_convert.specs.Run.{ReadsAll}
@@ -25,8 +25,7 @@ use Rattle.bson_run.specs.declared.order.Criterion.TheVariants.{Valid}
 use Rattle.bson_run.specs.declared.order.OnRefusal.{OnRefusal}
 use Rattle.bson_run.specs.declared.order.OnRefusal.TheVariants.{Stop}
 use Rattle.bson_run.specs.declared.order.Task.{Task}
-use Rattle.bson_run.specs.declared.order.Task.TheVariants.{Write, WriteInOrder, Check, Encode, EncodeInOrder}
-use Rattle.bson_run.specs.declared.order.Task.TheVariants.{Preprocessed}
+use Rattle.bson_run.specs.declared.order.Task.TheVariants.{Write, Check, Encode, Preprocessed}
 use Rattle.bson_run.specs.declared.order.Work.{Work}
 use Rattle.bson_run.specs.declared.order.Work.TheVariants as work
 use Rattle.bson_tree.specs.declared.place.Place.{Place}
@@ -63,27 +62,23 @@ abbrev pub ChecksIn : Options → Criterion → List ℕ → Type 0
 ChecksIn o Valid text = (whole : List ℕ) × ConvertsIn o Canonical text whole
 ChecksIn o criterion.Canonical text = IsCanonicalText o text
 
--- what is written of a text that was taken, where it is accepted
+-- what is written of a text that was preprocessed, if it is accepted
 abbrev pub WorksIn : Options → Work → List ℕ → List ℕ → Type 0
-WorksIn o (work.Write mode) text output = ConvertsIn o mode text output
-WorksIn o (work.WriteInOrder mode) text output = ConvertsInOrder o mode text output
+WorksIn o (work.Write mode) text output = ConvertsBy o.key_order o mode text output
 WorksIn o work.Check text output = ChecksIn o Valid text × (output ≡ [])
 
--- what is written of a text that is accepted: its output in the mode, by ascending key or in the order of its keys, or
--- nothing where it is only checked; or the bytes of its document
+-- what is written of a text that is accepted: its output in the mode, or the bytes of its document, with keys in the order
+-- of the options; or nothing, if it is only checked
 abbrev pub WritesIn : Options → Task → List ℕ → List ℕ → Type 0
-WritesIn o (Write mode) text output = ConvertsIn o mode text output
-WritesIn o (WriteInOrder mode) text output = ConvertsInOrder o mode text output
+WritesIn o (Write mode) text output = ConvertsBy o.key_order o mode text output
 WritesIn o (Check criterion) text output = ChecksIn o criterion text × (output ≡ [])
-WritesIn o Encode text output = EncodesIn o text output
-WritesIn o EncodeInOrder text output = EncodesInOrder o text output
+WritesIn o Encode text output = Encodes o.key_order o text output
 WritesIn o (Preprocessed preprocessing work) text output =
     (preprocessed : List ℕ) × IsPreprocessedAs preprocessing text preprocessed × WorksIn o work preprocessed output
 
 -- the task writes texts, and no bytes of documents
 abbrev pub WritesText : Task → Type 0
 WritesText Encode = ⊥
-WritesText EncodeInOrder = ⊥
 WritesText task = Unit {0}
 
 -- the text has no meaning for the fault; one that is blank is not refused
@@ -94,8 +89,7 @@ IsBadTextIn o other text = ⊥
 
 -- the text has a meaning, and no bytes, where those are written
 abbrev pub IsWithoutBytes : Options → Task → without.NoBytes → List ℕ → Type 0
-IsWithoutBytes o Encode why text = HasNoBytesIn o why text
-IsWithoutBytes o EncodeInOrder why text = HasNoBytesInOrder o why text
+IsWithoutBytes o Encode why text = HasNoBytesBy o.key_order o why text
 IsWithoutBytes o task why text = ⊥
 
 -- the text has a meaning, and is not canonical, where it is to be

@@ -2,8 +2,7 @@
 use Rattle.std.specs.Prelude.{ℕ, List, codes}
 use Rattle.bson_convert.specs.Words.{name_of}
 use Rattle.bson_run.specs.declared.order.Task.{Task}
-use Rattle.bson_run.specs.declared.order.Task.TheVariants.{Write, WriteInOrder, Check, Encode, EncodeInOrder}
-use Rattle.bson_run.specs.declared.order.Task.TheVariants.{Preprocessed}
+use Rattle.bson_run.specs.declared.order.Task.TheVariants.{Write, Check, Encode, Preprocessed}
 use Rattle.bson_run.specs.declared.order.Work.{Work}
 use Rattle.bson_run.specs.declared.order.Work.TheVariants as work
 use Rattle.bson_run.specs.declared.rule.Rule.{Rule}
@@ -11,15 +10,12 @@ use Rattle.bson_run.specs.declared.rule.Rule.TheVariants as rule
 
 abbrev pub work_name : Work → List ℕ
 work_name (work.Write mode) = name_of mode
-work_name (work.WriteInOrder mode) = name_of mode
 work_name work.Check = codes "check"
 
 abbrev pub task_name : Task → List ℕ
 task_name (Write mode) = name_of mode
-task_name (WriteInOrder mode) = name_of mode
 task_name (Check criterion) = codes "check"
 task_name Encode = codes "encode"
-task_name EncodeInOrder = codes "encode"
 task_name (Preprocessed preprocessing work) = work_name work
 
 abbrev pub words_broken : Rule → List ℕ

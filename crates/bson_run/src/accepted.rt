@@ -2,11 +2,12 @@
 ghost use Rattle.std.specs.Prelude.{◌≡◌, IfOk, IfErr, IsUtf8};
 ghost use Rattle.bson_convert.specs.Convert.{ConvertsIn, IsRefusedIn};
 ghost use Rattle.bson_run.specs.Accepted.{HasOutput, IsSure, IsUtf8Accepted, Outputs};
-ghost use Rattle.bson_run.specs.InOrder.{ConvertsInOrder};
+ghost use Rattle.bson_run.specs.InOrder.{ConvertsBy, ConvertsInOrder};
+ghost use Rattle.bson.specs.declared.extjson.key_order.KeyOrder.TheVariants.{Ascending, AsGiven};
 
-use crate::convert::{convert_whole_in_order, filter_once};
-use bson::extjson::Options;
-use bson_convert::convert::{convert_whole, end_line};
+use crate::convert::{convert_whole_by, filter_once};
+use bson::extjson::{KeyOrder, Options};
+use bson_convert::convert::end_line;
 use bson_convert::converted::{Attempt, normalize, refuse, try_text};
 use bson_convert::error::Error;
 use bson_convert::mode::Mode;
@@ -32,13 +33,11 @@ pub enum Accepted {
     /// A text to be written in the place of the one that was accepted: its output in the mode is that
     /// of the text.
     Normalized(Mode, String),
-    /// The same in the order of its keys.
-    NormalizedInOrder(Mode, String),
 }
 
 impl Accepted {
-    /// Reads bytes in the mode, as [`convert_sorted`](bson_convert::convert::convert_sorted) does. A
-    /// caller who needs rejected bytes need not keep them in memory next to the output.
+    /// Reads bytes in the mode, as [`convert_text`](crate::convert::convert_text) does. A caller who
+    /// needs rejected bytes need not keep them in memory next to the output.
     ///
     /// Bytes that cannot be written as they are read are checked for a fault at once. The check
     /// needs one more walk over their tokens.
@@ -49,53 +48,13 @@ impl Accepted {
     /// - `NotExtendedJson`: the tree has no meaning. It has the tree's first fault.
     /// - `OutOfMemory`: an allocation failed.
     pub fn of(alloc: Global, options: Options, mode: Mode, bytes: &[u8]) -> Result<Accepted, Error>
-        ensures ok { IfOk result (HasOutput options (ConvertsIn options mode bytes.now)) }
+        ensures ok { IfOk result (HasOutput options (ConvertsBy options.key_order options mode bytes.now)) }
         ensures utf8 { IfOk result IsUtf8Accepted }
         ensures fault { IfErr result (λ fault. IsRefusedIn options fault bytes.now) }
     {
-        match try_text(alloc, options, mode, bytes)? {
-            Attempt::Written(text) => Ok(Accepted::Output(end_line(text)?)),
-            Attempt::Normalized(text) => Ok(Accepted::Normalized(mode, text)),
-        }
-    }
-
-    /// Reads bytes as [`Accepted::of`] does, in the order of the keys, as
-    /// [`convert_text`](crate::convert::convert_text) with keys as given writes it.
-    ///
-    /// # Errors
-    ///
-    /// The errors of [`Accepted::of`].
-    ///
-    /// ```
-    /// let options = Options::default();
-    /// let bytes = br#"{"b": 7, "a": 8, "b": 9}"#.as_slice();
-    /// if let Ok(accepted) = Accepted::in_order_of(alloc, options, Mode::Relaxed, bytes) {
-    ///     if let Ok(output) = accepted.output(alloc, options) {
-    ///         rt.print(str::from_utf8(&output)?)?; // {"b":9,"a":8}
-    ///     }
-    /// }
-    /// ```
-    pub fn in_order_of(
-        alloc: Global,
-        options: Options,
-        mode: Mode,
-        bytes: &[u8],
-    ) -> Result<Accepted, Error>
-        ensures ok { IfOk result (HasOutput options (ConvertsInOrder options mode bytes.now)) }
-        ensures utf8 { IfOk result IsUtf8Accepted }
-        ensures fault { IfErr result (λ fault. IsRefusedIn options fault bytes.now) }
-    {
-        let Ok(text) = simdutf8::compat::from_utf8(bytes) else {
-            return Err(Error::NotJson);
-        };
-        let found = filter_once(alloc, options, mode, text, &mut Scratch::new(alloc))?;
-        match found {
-            Some(written) => Ok(Accepted::Output(end_line(written)?)),
-            None => {
-                refuse(alloc, options, text)?;
-                let normalized = normalize(alloc, Arrangement::FirstPlaces, text)?;
-                Ok(Accepted::NormalizedInOrder(mode, normalized))
-            }
+        match options.key_order {
+            KeyOrder::Ascending => accept_sorted(alloc, options, mode, bytes),
+            KeyOrder::AsGiven => accept_in_order(alloc, options, mode, bytes),
         }
     }
 
@@ -113,11 +72,45 @@ impl Accepted {
         match self {
             Accepted::Output(output) => Ok(output),
             Accepted::Normalized(mode, text) => {
-                convert_whole(alloc, options, mode, text.into_bytes())
+                convert_whole_by(alloc, options.key_order, options, mode, text)
             }
-            Accepted::NormalizedInOrder(mode, text) => {
-                convert_whole_in_order(alloc, options, mode, text)
-            }
+        }
+    }
+}
+
+fn accept_sorted(alloc: Global, options: Options, mode: Mode, bytes: &[u8]) -> Result<Accepted, Error>
+    requires { options.key_order ≡ Ascending }
+    ensures ok { IfOk result (HasOutput options (ConvertsIn options mode bytes.now)) }
+    ensures utf8 { IfOk result IsUtf8Accepted }
+    ensures fault { IfErr result (λ fault. IsRefusedIn options fault bytes.now) }
+{
+    match try_text(alloc, options, mode, bytes)? {
+        Attempt::Written(text) => Ok(Accepted::Output(end_line(text)?)),
+        Attempt::Normalized(text) => Ok(Accepted::Normalized(mode, text)),
+    }
+}
+
+fn accept_in_order(
+    alloc: Global,
+    options: Options,
+    mode: Mode,
+    bytes: &[u8],
+) -> Result<Accepted, Error>
+    requires { options.key_order ≡ AsGiven }
+    ensures ok { IfOk result (HasOutput options (ConvertsInOrder options mode bytes.now)) }
+    ensures utf8 { IfOk result IsUtf8Accepted }
+    ensures fault { IfErr result (λ fault. IsRefusedIn options fault bytes.now) }
+{
+    let Ok(text) = simdutf8::compat::from_utf8(bytes) else {
+        return Err(Error::NotJson);
+    };
+    let found = filter_once(alloc, options, mode, text, &mut Scratch::new(alloc))?;
+    match found {
+        Some(written) => Ok(Accepted::Output(end_line(written)?)),
+        None => {
+            refuse(alloc, options, text)?;
+            let normalized = normalize(alloc, Arrangement::FirstPlaces, text)?;
+            Ok(Accepted::Normalized(mode, normalized))
         }
     }
 }

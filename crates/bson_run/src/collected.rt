@@ -14,8 +14,8 @@ ghost use Rattle.bson_run.specs.declared.order.Task.{Task};
 ghost use Rattle.bson_run.specs.declared.order.Task.TheVariants.{Check, Preprocessed};
 ghost use Rattle.bson.specs.declared.extjson.options.Options.{Options};
 
-use crate::convert::convert_line_in_order;
-use crate::encode::{encode_line_ordered, encode_sorted};
+use crate::convert::convert_by;
+use crate::encode::encode_line;
 use crate::explain::explain_under;
 use crate::order::{Criterion, OnRefusal, Preprocessing, Task, Work};
 use crate::preprocessed::preprocess_text;
@@ -101,16 +101,14 @@ fn judge(
     }
     let options = settings.options;
     match settings.task {
-        Task::Write(mode) => Ok(Some(convert_line(alloc, options, mode, text, scratch)?)),
-        Task::WriteInOrder(mode) => {
-            Ok(Some(convert_line_in_order(alloc, options, mode, text, scratch)?))
+        Task::Write(mode) => {
+            Ok(Some(convert_by(alloc, options.key_order, options, mode, text, scratch)?))
         }
         Task::Check(criterion) => {
             check(alloc, options, criterion, text, scratch)?;
             Ok(Some(Vec::new(alloc)))
         }
-        Task::Encode => Ok(Some(encode_sorted(alloc, options, text)?)),
-        Task::EncodeInOrder => Ok(Some(encode_line_ordered(alloc, options, text, scratch)?)),
+        Task::Encode => Ok(Some(encode_line(alloc, options, text, scratch)?)),
         Task::Preprocessed(preprocessing, work) => {
             Ok(Some(check_preprocessed(alloc, options, preprocessing, work, text, scratch)?))
         }
@@ -170,8 +168,7 @@ fn work_on(
     ensures fault { IfErr result (λ fault. IsRefusedIn options fault text.now) }
 {
     match work {
-        Work::Write(mode) => convert_line(alloc, options, mode, text, scratch),
-        Work::WriteInOrder(mode) => convert_line_in_order(alloc, options, mode, text, scratch),
+        Work::Write(mode) => convert_by(alloc, options.key_order, options, mode, text, scratch),
         Work::Check => {
             convert_line(alloc, options, Mode::Canonical, text, scratch)?;
             Ok(Vec::new(alloc))

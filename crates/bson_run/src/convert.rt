@@ -8,7 +8,7 @@ ghost use Rattle.bson_convert.specs.Convert.{IsRefusedIn};
 ghost use Rattle.bson_run.specs.InOrder.{ConvertsBy, ConvertsInOrder, IsConvertedTextInOrder, IsKeptBy, IsKeptInOrder};
 
 use bson::extjson::{Form, KeyOrder, Options};
-use bson_convert::convert::{convert_sorted, end_line};
+use bson_convert::convert::{convert_line, convert_whole, end_line};
 use bson_convert::converted::{normalize, refuse};
 use bson_convert::error::Error;
 use bson_convert::mode::Mode;
@@ -50,15 +50,17 @@ pub fn convert_text(
         → MeansIn options.doubles tree value → IfErr result (λ fault. fault ≡ Error.OutOfMemory) }
     ensures fault { IfErr result (λ fault. IsRefusedIn options fault bytes.now) }
 {
-    convert_by(alloc, options.key_order, options, mode, bytes)
+    convert_by(alloc, options.key_order, options, mode, bytes, &mut Scratch::new(alloc))
 }
 
-fn convert_by(
+/// [`convert_text`] with keys in this order, with the memory of a run.
+pub(crate) fn convert_by(
     alloc: Global,
     order: KeyOrder,
     options: Options,
     mode: Mode,
     bytes: &[u8],
+    scratch: &mut Scratch,
 ) -> Result<Vec<u8>, Error>
     ensures ok { IfOk result (λ output. ConvertsBy order options mode bytes.now output.items) }
     ensures utf8 { IfOk result (λ output. IsUtf8 output.items) }
@@ -70,15 +72,13 @@ fn convert_by(
     ensures fault { IfErr result (λ fault. IsRefusedIn options fault bytes.now) }
 {
     match order {
-        KeyOrder::Ascending => convert_sorted(alloc, options, mode, bytes),
-        KeyOrder::AsGiven => {
-            convert_line_in_order(alloc, options, mode, bytes, &mut Scratch::new(alloc))
-        }
+        KeyOrder::Ascending => convert_line(alloc, options, mode, bytes, scratch),
+        KeyOrder::AsGiven => convert_line_in_order(alloc, options, mode, bytes, scratch),
     }
 }
 
-/// The text of [`convert_text`] with keys as given, made with the memory of a run.
-pub(crate) fn convert_line_in_order(
+// The text of `convert_text` with keys as given.
+fn convert_line_in_order(
     alloc: Global,
     options: Options,
     mode: Mode,
@@ -98,8 +98,28 @@ pub(crate) fn convert_line_in_order(
     end_line(text)
 }
 
-/// The text of [`convert_text`] with keys as given, for a text that is let go once it is read or normalized.
-pub(crate) fn convert_whole_in_order(
+/// The text of [`convert_text`] with keys in this order, for a text that is let go once it is read or
+/// normalized.
+pub(crate) fn convert_whole_by(
+    alloc: Global,
+    order: KeyOrder,
+    options: Options,
+    mode: Mode,
+    text: String,
+) -> Result<Vec<u8>, Error>
+    ensures ok { IfOk result (λ output. ConvertsBy order options mode (string_bytes text) output.items) }
+    ensures utf8 { IfOk result (λ output. IsUtf8 output.items) }
+    ensures accepts { (tree : Data) (value : model.Value) → IsTextOf (string_bytes text) tree
+        → MeansIn options.doubles tree value → IfErr result (λ fault. fault ≡ Error.OutOfMemory) }
+{
+    match order {
+        KeyOrder::Ascending => convert_whole(alloc, options, mode, text.into_bytes()),
+        KeyOrder::AsGiven => convert_whole_in_order(alloc, options, mode, text),
+    }
+}
+
+// The same with keys as given.
+fn convert_whole_in_order(
     alloc: Global,
     options: Options,
     mode: Mode,

@@ -1,18 +1,12 @@
 //! One text to the bytes of its document (BSON 1.1, bsonspec.org).
-ghost use Rattle.std.specs.Prelude.{◌≡◌, IfOk, IfErr, IfSome, ℕ, List, Some, IsUtf8};
-ghost use Rattle.serde_json.specs.Data.{Data};
-ghost use Rattle.bson_model.specs.Means.{MeansIn};
+ghost use Rattle.std.specs.Prelude.{◌≡◌, IfOk, IfErr, IfSome, ℕ, List};
 ghost use Rattle.bson_model.specs.Value.{Pairs, document};
-ghost use Rattle.bson_model.specs.Kept.{read_kept};
-ghost use Rattle.bson_model.specs.OrderedMeans.{MeansInOrder};
 ghost use Rattle.bson.specs.View.{bson_view};
-ghost use Rattle.bson.specs.TextMeaning.{IsTextOf};
+ghost use Rattle.bson.specs.TextMeaning.{MeansBy};
 ghost use Rattle.bson_codec.specs.Canonical.{FitsDocument};
 ghost use Rattle.bson_codec.specs.Writing.{IsRefusal};
 ghost use Rattle.bson_codec.specs.Unwritten.TheVariants as errors;
-ghost use Rattle.bson_run.specs.Encode.{Encodes, EncodesIn, EncodesInOrder, FailsAlone, IsBytesOf, IsUnencodedBy};
-ghost use Rattle.bson_run.specs.Encode.{IsUnencodedFor, IsUnencodedIn, IsUnencodedInOrder};
-ghost use Rattle.bson.specs.declared.extjson.key_order.KeyOrder.TheVariants.{Ascending, AsGiven};
+ghost use Rattle.bson_run.specs.Encode.{Encodes, FailsAlone, IsBytesOf, IsUnencodedBy, IsUnencodedFor};
 
 use bson::Bson;
 use bson::extjson::{KeyOrder, Options};
@@ -47,109 +41,50 @@ use std::alloc::Global;
 /// ```
 pub fn encode(alloc: Global, options: Options, bytes: &[u8]) -> Result<Vec<u8>, Error>
     ensures ok { IfOk result (λ out. Encodes options.key_order options bytes.now out.items) }
-    ensures accepts { (tree : Data) (ps : Pairs) → options.key_order ≡ Ascending → IsTextOf bytes.now tree
-        → MeansIn options.doubles tree (document ps) → FitsDocument ps
-        → IfErr result (λ fault. fault ≡ Error.OutOfMemory) }
-    ensures accepts_in_order { (tree : Data) (ps : Pairs) → options.key_order ≡ AsGiven → IsUtf8 bytes.now
-        → read_kept bytes.now ≡ Some tree → MeansInOrder options.doubles tree (document ps) → FitsDocument ps
-        → IfErr result (λ fault. fault ≡ Error.OutOfMemory) }
+    ensures one { IfOk result (λ out. (other : List ℕ) → Encodes options.key_order options bytes.now other
+        → other ≡ out.items) }
+    ensures accepts { (ps : Pairs) → MeansBy options.key_order options.doubles bytes.now (document ps)
+        → FitsDocument ps → IfErr result (λ fault. fault ≡ Error.OutOfMemory) }
     ensures fault { IfErr result (λ fault. IsUnencodedBy options.key_order options fault bytes.now) }
 {
-    encode_by(alloc, options.key_order, options, bytes)
+    encode_line(alloc, options, bytes, &mut Scratch::new(alloc))
 }
 
-fn encode_by(
-    alloc: Global,
-    order: KeyOrder,
-    options: Options,
-    bytes: &[u8],
-) -> Result<Vec<u8>, Error>
-    ensures ok { IfOk result (λ out. Encodes order options bytes.now out.items) }
-    ensures accepts { (tree : Data) (ps : Pairs) → order ≡ Ascending → IsTextOf bytes.now tree
-        → MeansIn options.doubles tree (document ps) → FitsDocument ps
-        → IfErr result (λ fault. fault ≡ Error.OutOfMemory) }
-    ensures accepts_in_order { (tree : Data) (ps : Pairs) → order ≡ AsGiven → IsUtf8 bytes.now
-        → read_kept bytes.now ≡ Some tree → MeansInOrder options.doubles tree (document ps) → FitsDocument ps
-        → IfErr result (λ fault. fault ≡ Error.OutOfMemory) }
-    ensures fault { IfErr result (λ fault. IsUnencodedBy order options fault bytes.now) }
-{
-    match order {
-        KeyOrder::Ascending => encode_sorted(alloc, options, bytes),
-        KeyOrder::AsGiven => encode_ordered(alloc, options, bytes),
-    }
-}
-
-/// Returns the bytes of [`encode`] with keys in ascending order, whatever the options say.
-///
-/// # Errors
-///
-/// The errors of [`encode`].
-pub fn encode_sorted(alloc: Global, options: Options, bytes: &[u8]) -> Result<Vec<u8>, Error>
-    ensures ok { IfOk result (λ out. EncodesIn options bytes.now out.items) }
-    ensures one { IfOk result (λ out. (other : List ℕ) → EncodesIn options bytes.now other → other ≡ out.items) }
-    ensures accepts { (tree : Data) (ps : Pairs) → IsTextOf bytes.now tree
-        → MeansIn options.doubles tree (document ps) → FitsDocument ps
-        → IfErr result (λ fault. fault ≡ Error.OutOfMemory) }
-    ensures fault { IfErr result (λ fault. IsUnencodedIn options fault bytes.now) }
-{
-    let sorted = Options {
-        key_order: KeyOrder::Ascending,
-        ..options
-    };
-    match Bson::from_text(alloc, sorted, bytes) {
-        Ok(value) => bytes_of(alloc, value),
-        Err(error) => Err(error_of(error)),
-    }
-}
-
-/// Returns the bytes of [`encode`] with keys in the order of the text, whatever the options say.
-///
-/// # Errors
-///
-/// The errors of [`encode`].
-pub fn encode_ordered(alloc: Global, options: Options, bytes: &[u8]) -> Result<Vec<u8>, Error>
-    ensures ok { IfOk result (λ out. EncodesInOrder options bytes.now out.items) }
-    ensures one { IfOk result (λ out. (other : List ℕ) → EncodesInOrder options bytes.now other
-        → other ≡ out.items) }
-    ensures accepts { (tree : Data) (ps : Pairs) → IsUtf8 bytes.now → read_kept bytes.now ≡ Some tree
-        → MeansInOrder options.doubles tree (document ps) → FitsDocument ps
-        → IfErr result (λ fault. fault ≡ Error.OutOfMemory) }
-    ensures fault { IfErr result (λ fault. IsUnencodedInOrder options fault bytes.now) }
-{
-    encode_line_ordered(alloc, options, bytes, &mut Scratch::new(alloc))
-}
-
-/// [`encode_ordered`] with the memory of a run.
-pub(crate) fn encode_line_ordered(
+/// [`encode`] with the memory of a run.
+pub(crate) fn encode_line(
     alloc: Global,
     options: Options,
     bytes: &[u8],
     scratch: &mut Scratch,
 ) -> Result<Vec<u8>, Error>
-    ensures ok { IfOk result (λ out. EncodesInOrder options bytes.now out.items) }
-    ensures one { IfOk result (λ out. (other : List ℕ) → EncodesInOrder options bytes.now other
+    ensures ok { IfOk result (λ out. Encodes options.key_order options bytes.now out.items) }
+    ensures one { IfOk result (λ out. (other : List ℕ) → Encodes options.key_order options bytes.now other
         → other ≡ out.items) }
-    ensures accepts { (tree : Data) (ps : Pairs) → IsUtf8 bytes.now → read_kept bytes.now ≡ Some tree
-        → MeansInOrder options.doubles tree (document ps) → FitsDocument ps
-        → IfErr result (λ fault. fault ≡ Error.OutOfMemory) }
-    ensures fault { IfErr result (λ fault. IsUnencodedInOrder options fault bytes.now) }
+    ensures accepts { (ps : Pairs) → MeansBy options.key_order options.doubles bytes.now (document ps)
+        → FitsDocument ps → IfErr result (λ fault. fault ≡ Error.OutOfMemory) }
+    ensures fault { IfErr result (λ fault. IsUnencodedBy options.key_order options fault bytes.now) }
 {
-    match pack_document(alloc, options, bytes, scratch)? {
+    match pack_document(alloc, options.key_order, options, bytes, scratch)? {
         Some(document) => Ok(document),
         None => encode_whole(alloc, options, bytes),
     }
 }
 
-// The bytes that are written as the text is read; none where it is to be read whole.
+// The bytes that are written as the text is read; none if keys are sorted, or the text is to be read
+// whole.
 fn pack_document(
     alloc: Global,
+    order: KeyOrder,
     options: Options,
     bytes: &[u8],
     scratch: &mut Scratch,
 ) -> Result<Option<Vec<u8>>, Error>
-    ensures ok { IfOk result (λ found. IfSome found (λ out. EncodesInOrder options bytes.now out.items)) }
+    ensures ok { IfOk result (λ found. IfSome found (λ out. Encodes order options bytes.now out.items)) }
     ensures fault { IfErr result (λ fault. fault ≡ Error.OutOfMemory) }
 {
+    let KeyOrder::AsGiven = order else {
+        return Ok(None);
+    };
     let Ok(text) = simdutf8::compat::from_utf8(bytes) else {
         return Ok(None);
     };
@@ -162,17 +97,12 @@ fn pack_document(
 
 // The bytes of the value, which is read whole.
 fn encode_whole(alloc: Global, options: Options, bytes: &[u8]) -> Result<Vec<u8>, Error>
-    ensures ok { IfOk result (λ out. EncodesInOrder options bytes.now out.items) }
-    ensures accepts { (tree : Data) (ps : Pairs) → IsUtf8 bytes.now → read_kept bytes.now ≡ Some tree
-        → MeansInOrder options.doubles tree (document ps) → FitsDocument ps
-        → IfErr result (λ fault. fault ≡ Error.OutOfMemory) }
-    ensures fault { IfErr result (λ fault. IsUnencodedInOrder options fault bytes.now) }
+    ensures ok { IfOk result (λ out. Encodes options.key_order options bytes.now out.items) }
+    ensures accepts { (ps : Pairs) → MeansBy options.key_order options.doubles bytes.now (document ps)
+        → FitsDocument ps → IfErr result (λ fault. fault ≡ Error.OutOfMemory) }
+    ensures fault { IfErr result (λ fault. IsUnencodedBy options.key_order options fault bytes.now) }
 {
-    let ordered = Options {
-        key_order: KeyOrder::AsGiven,
-        ..options
-    };
-    match Bson::from_text(alloc, ordered, bytes) {
+    match Bson::from_text(alloc, options, bytes) {
         Ok(value) => bytes_of(alloc, value),
         Err(error) => Err(error_of(error)),
     }

@@ -4,36 +4,35 @@ ghost use Rattle.serde_json.specs.Data.{Data};
 ghost use Rattle.bson_model.specs.Means.{MeansIn};
 ghost use Rattle.bson_model.specs.Value as model;
 ghost use Rattle.bson.specs.TextMeaning.{IsTextOf};
-ghost use Rattle.bson_convert.specs.Convert.{IsConvertedText, IsRefusedIn};
-ghost use Rattle.bson_run.specs.InOrder.{IsConvertedTextInOrder};
-ghost use Rattle.bson_run.specs.Indent.{mode_of, ConvertsIndented, ConvertsInOrderIndented, IsKeptIndented};
-ghost use Rattle.bson_run.specs.Indent.{IsKeptInOrderIndented, IsLaidOut};
+ghost use Rattle.bson_convert.specs.Convert.{IsRefusedIn};
+ghost use Rattle.bson_run.specs.InOrder.{IsConvertedTextBy};
+ghost use Rattle.bson_run.specs.Indent.{mode_of, ConvertsIndented, IsKeptIndented, IsLaidOut};
 
 use crate::convert::text_in_order;
 use crate::indent::indent_text;
-use bson::extjson::{Form, Options};
+use bson::extjson::{Form, KeyOrder, Options};
 use bson_convert::convert::{converted_text, end_line};
 use bson_convert::error::Error;
 use bson_convert::mode::Mode;
 use json::Scratch;
 use std::alloc::Global;
 
-/// Returns the text of [`convert_sorted`](bson_convert::convert::convert_sorted) in a form, over
-/// several lines. [`indent_text`](crate::indent::indent_text) makes its layout with `spaces` for
-/// each bracket. The text and its layout are in memory together.
+/// Returns the text of [`convert_text`](crate::convert::convert_text) in a form, over several lines.
+/// [`indent_text`](crate::indent::indent_text) makes its layout with `spaces` for each bracket. The
+/// text and its layout are in memory together.
 ///
 /// # Errors
 ///
-/// The errors of `convert_sorted`, for the same bytes.
+/// The errors of `convert_text`, for the same bytes.
 ///
 /// ```
-/// let text = br#"{"a": {"$numberLong": "5"}, "b": []}"#;
-/// let laid = convert_indented(alloc, Options::default(), Form::Relaxed, 2, text);
+/// let text = br#"{"b": {"$numberLong": "5"}, "a": []}"#;
+/// let laid = convert_indented(alloc, Options::mongodb(), Form::Relaxed, 2, text);
 /// if let Ok(laid) = laid {
 ///     rt.print(str::from_utf8(&laid)?)?;
 ///     // {
-///     //   "a": 5,
-///     //   "b": []
+///     //   "b": 5,
+///     //   "a": []
 ///     // }
 /// }
 /// ```
@@ -44,50 +43,14 @@ pub fn convert_indented(
     spaces: usize,
     bytes: &[u8],
 ) -> Result<Vec<u8>, Error>
-    ensures ok { IfOk result (λ output. ConvertsIndented options form spaces bytes.now output.items) }
+    ensures ok { IfOk result (λ output. ConvertsIndented options.key_order options form spaces bytes.now output.items) }
     ensures utf8 { IfOk result (λ output. IsUtf8 output.items) }
-    ensures again { IfOk result (λ output. IsKeptIndented options form spaces output.items) }
+    ensures again { IfOk result (λ output. IsKeptIndented options.key_order options form spaces output.items) }
     ensures accepts { (tree : Data) (value : model.Value) → IsTextOf bytes.now tree
         → MeansIn options.doubles tree value → IfErr result (λ fault. fault ≡ Error.OutOfMemory) }
     ensures fault { IfErr result (λ fault. IsRefusedIn options fault bytes.now) }
 {
-    let text = text_of(alloc, options, form, bytes)?;
-    lay_out(alloc, spaces, &text)
-}
-
-/// Returns the text of [`convert_text`](crate::convert::convert_text) with keys as given in a
-/// form, over several lines in the same way.
-///
-/// # Errors
-///
-/// The errors of `convert_text`, for the same bytes.
-///
-/// ```
-/// let text = br#"{"b": "x", "a": null}"#;
-/// let laid = convert_in_order_indented(alloc, Options::default(), Form::Canonical, 4, text);
-/// if let Ok(laid) = laid {
-///     rt.print(str::from_utf8(&laid)?)?;
-///     // {
-///     //     "b": "x",
-///     //     "a": null
-///     // }
-/// }
-/// ```
-pub fn convert_in_order_indented(
-    alloc: Global,
-    options: Options,
-    form: Form,
-    spaces: usize,
-    bytes: &[u8],
-) -> Result<Vec<u8>, Error>
-    ensures ok { IfOk result (λ output. ConvertsInOrderIndented options form spaces bytes.now output.items) }
-    ensures utf8 { IfOk result (λ output. IsUtf8 output.items) }
-    ensures again { IfOk result (λ output. IsKeptInOrderIndented options form spaces output.items) }
-    ensures accepts { (tree : Data) (value : model.Value) → IsTextOf bytes.now tree
-        → MeansIn options.doubles tree value → IfErr result (λ fault. fault ≡ Error.OutOfMemory) }
-    ensures fault { IfErr result (λ fault. IsRefusedIn options fault bytes.now) }
-{
-    let text = text_of_ordered(alloc, options, form, bytes)?;
+    let text = text_of(alloc, options.key_order, options, mode_of(form), bytes)?;
     lay_out(alloc, spaces, &text)
 }
 
@@ -101,30 +64,26 @@ fn mode_of(form: Form) -> Mode
     }
 }
 
-// The text in the form of the value that the bytes mean.
-fn text_of(alloc: Global, options: Options, form: Form, bytes: &[u8]) -> Result<String, Error>
-    ensures ok { IfOk result (λ text. IsConvertedText options (mode_of form) bytes.now (string_bytes text)) }
-    ensures accepts { (tree : Data) (value : model.Value) → IsTextOf bytes.now tree
-        → MeansIn options.doubles tree value → IfErr result (λ fault. fault ≡ Error.OutOfMemory) }
-    ensures fault { IfErr result (λ fault. IsRefusedIn options fault bytes.now) }
-{
-    Ok(into_string(converted_text(alloc, options, mode_of(form), bytes)?))
-}
-
-// The text in the form of the value that the bytes mean in the order of their keys, in that order.
-fn text_of_ordered(
+// The text in the mode of the value that the bytes mean, its keys in the order.
+fn text_of(
     alloc: Global,
+    order: KeyOrder,
     options: Options,
-    form: Form,
+    mode: Mode,
     bytes: &[u8],
 ) -> Result<String, Error>
-    ensures ok { IfOk result (λ text. IsConvertedTextInOrder options (mode_of form) bytes.now (string_bytes text)) }
+    ensures ok { IfOk result (λ text. IsConvertedTextBy order options mode bytes.now (string_bytes text)) }
     ensures accepts { (tree : Data) (value : model.Value) → IsTextOf bytes.now tree
         → MeansIn options.doubles tree value → IfErr result (λ fault. fault ≡ Error.OutOfMemory) }
     ensures fault { IfErr result (λ fault. IsRefusedIn options fault bytes.now) }
 {
-    let mut scratch = Scratch::new(alloc);
-    Ok(into_string(text_in_order(alloc, options, mode_of(form), bytes, &mut scratch)?))
+    match order {
+        KeyOrder::Ascending => Ok(into_string(converted_text(alloc, options, mode, bytes)?)),
+        KeyOrder::AsGiven => {
+            let mut scratch = Scratch::new(alloc);
+            Ok(into_string(text_in_order(alloc, options, mode, bytes, &mut scratch)?))
+        }
+    }
 }
 
 // The text as a string.

@@ -1,14 +1,13 @@
 //! Laws of the definitions.
 ghost use Rattle.std.specs.Prelude.{◌≡◌, ℕ, List, Option, Some, IsUtf8, length};
 ghost use Rattle.std.specs.Io.KnownBytes.{Appends};
+ghost use Rattle.bson.specs.declared.extjson.key_order.KeyOrder.{KeyOrder};
 ghost use Rattle.bson.specs.declared.extjson.options.Options.{Options};
 ghost use Rattle.bson_scalar.specs.declared.form.Form.{Form};
-ghost use Rattle.bson_convert.specs.Convert.{ConvertsIn, IsKeptIn};
 ghost use Rattle.bson_convert.specs.declared.error.Error.{Error};
 ghost use Rattle.bson_convert.specs.declared.mode.Mode.{Mode};
-ghost use Rattle.bson_run.specs.InOrder.{ConvertsInOrder, IsKeptInOrder};
-ghost use Rattle.bson_run.specs.Indent.{ConvertsIndented, ConvertsInOrderIndented};
-ghost use Rattle.bson_run.specs.Indent.{IsKeptIndented, IsKeptInOrderIndented};
+ghost use Rattle.bson_run.specs.InOrder.{ConvertsBy, IsKeptBy};
+ghost use Rattle.bson_run.specs.Indent.{ConvertsIndented, IsKeptIndented};
 ghost use Rattle.bson_run.specs.Lines.{lines, DoneLinesIn, FailsAtIn, GivesIn, OutcomesIn, WritesText};
 ghost use Rattle.bson_run.specs.Outcomes.{AreAlike, IsOfText, IsSameFault, StopsInside};
 ghost use Rattle.bson_run.specs.declared.order.OnRefusal.{OnRefusal};
@@ -52,16 +51,11 @@ pub fn one_stop()
 /// Proves that an output in a form is accepted again: its own output is the same bytes, unless it
 /// nests deeper than texts may. A layout is laid out again as it is.
 pub fn outputs_are_kept()
-    ensures ascending { (options : Options) (mode : Mode) (bytes output : List ℕ)
-        → ConvertsIn options mode bytes output → IsUtf8 output → IsKeptIn options mode output }
-    ensures in_order { (options : Options) (mode : Mode) (bytes output : List ℕ)
-        → ConvertsInOrder options mode bytes output → IsUtf8 output → IsKeptInOrder options mode output }
-    ensures indented { (options : Options) (form : Form) (spaces : ℕ) (bytes output : List ℕ)
-        → ConvertsIndented options form spaces bytes output → IsUtf8 output
-        → IsKeptIndented options form spaces output }
-    ensures in_order_indented { (options : Options) (form : Form) (spaces : ℕ) (bytes output : List ℕ)
-        → ConvertsInOrderIndented options form spaces bytes output → IsUtf8 output
-        → IsKeptInOrderIndented options form spaces output }
+    ensures plain { (order : KeyOrder) (options : Options) (mode : Mode) (bytes output : List ℕ)
+        → ConvertsBy order options mode bytes output → IsUtf8 output → IsKeptBy order options mode output }
+    ensures indented { (order : KeyOrder) (options : Options) (form : Form) (spaces : ℕ) (bytes output : List ℕ)
+        → ConvertsIndented order options form spaces bytes output → IsUtf8 output
+        → IsKeptIndented order options form spaces output }
 {}
 
 /// Proves that a run over known bytes that is done has done all of their lines. One that stops for a

@@ -4,8 +4,8 @@
 //!
 //! In reading order: `convert` (bytes to bytes in either order of keys), `encode` (bytes to the
 //! bytes of their document), `indent` (a text over several lines) and `indented` (bytes to bytes
-//! over several lines), `taken` (what is looked for in a text before it is read), `accepted` (bytes
-//! that are let go before their output is made). Over lines:
+//! over several lines), `preprocessed` (what is checked or rewritten before a text is read),
+//! `accepted` (bytes that are let go before their output is made). Over lines:
 //! `order` (what is asked), `collected` (the line that is read, and what those before it gave) and
 //! `lines` (the whole way). Why a text is refused, in words: `stop` (where bytes stop to be JSON)
 //! with `rule` (which of its rules they break, which `broken` finds), and `explain` with `quoted`

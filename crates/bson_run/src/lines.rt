@@ -51,7 +51,7 @@ pub struct Counts {
 /// ```
 #[derive(Drop)]
 pub struct LineRun {
-    /// What a line means, and which values have a text. The task says the order of keys.
+    /// What a line means, which values have a text, and the order of keys in the output.
     pub options: Options,
     /// What is done with each line.
     pub task: Task,

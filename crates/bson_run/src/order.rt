@@ -18,16 +18,13 @@ use bson_convert::mode::Mode;
 /// ```
 #[derive(Clone, Copy, PartialEq, Eq, Debug)]
 pub enum Task {
-    /// Its output in the mode is written.
+    /// Its output in the mode is written, with keys in the order of the options.
     Write(Mode),
-    /// Its output in the mode is written, with the keys of each document in the order of the text.
-    WriteInOrder(Mode),
     /// It is only checked, by this criterion, and nothing is written.
     Check(Criterion),
-    /// The bytes of its document are written, with its keys in ascending order and without a newline.
+    /// The bytes of its document are written, with keys in the order of the options and without a
+    /// newline.
     Encode,
-    /// The bytes of its document are written, with its keys in the order of the text.
-    EncodeInOrder,
     /// The line is preprocessed first. If it is accepted, this is done with what is read in its place.
     Preprocessed(Preprocessing, Work),
 }
@@ -84,10 +81,8 @@ pub enum Preprocessing {
 /// ```
 #[derive(Clone, Copy, PartialEq, Eq, Debug)]
 pub enum Work {
-    /// Its output in the mode is written.
+    /// Its output in the mode is written, with keys in the order of the options.
     Write(Mode),
-    /// Its output in the mode is written, with the keys of each document in the order of the text.
-    WriteInOrder(Mode),
     /// It is only checked, and nothing is written.
     Check,
 }

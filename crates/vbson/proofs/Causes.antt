@@ -13,14 +13,13 @@ use Rattle.bson_convert.specs.Convert.{IsRefusedIn}
 use Rattle.bson_convert.specs.declared.error.Error.{Error}
 use Rattle.bson_convert.specs.declared.error.Error.TheVariants.{CannotRead, NotJson, NotExtendedJson, NoBytes, OutOfMemory}
 use Rattle.bson_convert.specs.declared.error.Error.TheVariants.{CannotWrite, NotCanonical}
-use Rattle.bson_run.specs.Encode.{HasMeaningBy, HasNoBytesFor, IsUnencodedBy}
+use Rattle.bson_run.specs.Encode.{HasNoBytesBy, IsUnencodedBy}
 use Rattle.bson_convert.specs.declared.no_bytes.NoBytes as without
 use Rattle.bson_convert.specs.declared.no_bytes.NoBytes.TheVariants.{NoDocument, ZeroInKey, ZeroInRegex, TooLong}
 use Rattle.vbson.specs.Convert.{HasNoMeaningIn, IsBad, IsBadId, IsCauseIn, IsTextError, status_for, status_of}
 use Rattle.vbson.specs.Convert.{status_without}
 use Rattle.vbson.specs.Documents.{IsUnencoded}
 use Rattle.bson.specs.declared.extjson.key_order.KeyOrder.{KeyOrder}
-use Rattle.bson.specs.declared.extjson.key_order.KeyOrder.TheVariants.{Ascending, AsGiven}
 
 is_bad_id : (f : TreeFault) (r : Reason) → IsReason f r → status_for r ≡ 3 → IsBadId f
 is_bad_id f (BadObjectId e) h is = (h.0, h.1)
@@ -105,7 +104,7 @@ refused k o OutOfMemory text h = no_meaning k o 5 text (causes o OutOfMemory tex
 refused k o CannotWrite text h = absurd h
 
 without_bytes : (k : KeyOrder) (o : Options) (why : without.NoBytes) (text : List ℕ)
-    → HasNoBytesFor (HasMeaningBy k o text) why → IsUnencoded k o (status_without why) text
+    → HasNoBytesBy k o why text → IsUnencoded k o (status_without why) text
 without_bytes k o NoDocument text h = record {
   cause = no_cause o 10 text (omega arith);
   no_document = λ is. h;
@@ -142,20 +141,13 @@ without_bytes k o TooLong text h = record {
 -- what the status of the fault says of the text
 pub unencoded : (k : KeyOrder) (o : Options) (fault : Error) (text : List ℕ) → IsUnencodedBy k o fault text
     → IsUnencoded k o (status_of fault) text
-unencoded Ascending o CannotRead text h = absurd h
-unencoded Ascending o NotJson text h = refused Ascending o NotJson text h
-unencoded Ascending o (NotExtendedJson place) text h = refused Ascending o (NotExtendedJson place) text h
-unencoded Ascending o (NoBytes why) text h = without_bytes Ascending o why text h
-unencoded Ascending o (NotCanonical column) text h = absurd h
-unencoded Ascending o OutOfMemory text h = refused Ascending o OutOfMemory text h
-unencoded Ascending o CannotWrite text h = absurd h
-unencoded AsGiven o CannotRead text h = absurd h
-unencoded AsGiven o NotJson text h = refused AsGiven o NotJson text h
-unencoded AsGiven o (NotExtendedJson place) text h = refused AsGiven o (NotExtendedJson place) text h
-unencoded AsGiven o (NoBytes why) text h = without_bytes AsGiven o why text h
-unencoded AsGiven o (NotCanonical column) text h = absurd h
-unencoded AsGiven o OutOfMemory text h = refused AsGiven o OutOfMemory text h
-unencoded AsGiven o CannotWrite text h = absurd h
+unencoded k o CannotRead text h = absurd h
+unencoded k o NotJson text h = refused k o NotJson text h
+unencoded k o (NotExtendedJson place) text h = refused k o (NotExtendedJson place) text h
+unencoded k o (NoBytes why) text h = without_bytes k o why text h
+unencoded k o (NotCanonical column) text h = absurd h
+unencoded k o OutOfMemory text h = refused k o OutOfMemory text h
+unencoded k o CannotWrite text h = absurd h
 
 -- a text that gives no bytes has the fault of a text
 pub of_text : (k : KeyOrder) (o : Options) (fault : Error) (text : List ℕ) → IsUnencodedBy k o fault text
@@ -165,7 +157,5 @@ of_text k o (NotExtendedJson place) text h = tt
 of_text k o (NoBytes why) text h = tt
 of_text k o (NotCanonical column) text h = tt
 of_text k o OutOfMemory text h = tt
-of_text Ascending o CannotRead text h = absurd h
-of_text Ascending o CannotWrite text h = absurd h
-of_text AsGiven o CannotRead text h = absurd h
-of_text AsGiven o CannotWrite text h = absurd h
+of_text k o CannotRead text h = absurd h
+of_text k o CannotWrite text h = absurd h

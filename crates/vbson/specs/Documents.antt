@@ -11,7 +11,8 @@ use Rattle.bson_codec.specs.Laws.{IsRead}
 use Rattle.bson_model.specs.Displayed.{display_text}
 use Rattle.bson_model.specs.Normal.{writable_in}
 use Rattle.bson_model.specs.Value.{Value, Pairs, document}
-use Rattle.bson_run.specs.Encode.{Encodes, FailsFor, HasMeaningBy, IsNoDocument}
+use Rattle.bson.specs.TextMeaning.{HasTextMeaningBy}
+use Rattle.bson_run.specs.Encode.{Encodes, FailsFor, IsNoDocument}
 use Rattle.bson_convert.specs.declared.mode.Mode.{Mode}
 use Rattle.bson_convert.specs.declared.mode.Mode.TheVariants.{Canonical, Relaxed, Show}
 use Rattle.vbson.specs.Convert.{IsCauseIn, mode_at}
@@ -73,11 +74,11 @@ IsEncoded k o text out = (bytes : List ℕ) × Encodes k o text bytes × IsOwned
 
 -- the text means a value that is no document
 abbrev pub TextIsNotDocumentBy : KeyOrder → Options → List ℕ → Type 0
-TextIsNotDocumentBy k o text = IsNoDocument (HasMeaningBy k o text)
+TextIsNotDocumentBy k o text = IsNoDocument (HasTextMeaningBy k o.doubles text)
 
 -- the text means a document that has no bytes, for this cause
 abbrev pub HasNoBytes : KeyOrder → Options → Cause → List ℕ → Type 0
-HasNoBytes k o cause text = FailsFor (HasMeaningBy k o text) cause
+HasNoBytes k o cause text = FailsFor (HasTextMeaningBy k o.doubles text) cause
 
 -- ---- for private clauses
 

@@ -7,22 +7,10 @@ use Rattle.bson_run.specs.Lines.{GivesIn, IsBadLineIn, lines as lines_of, line_t
 use Rattle.bson_convert.specs.declared.mode.Mode.{Mode}
 use Rattle.bson_run.specs.declared.order.OnRefusal.TheVariants.{KeepGoing, Stop}
 use Rattle.bson_run.specs.declared.order.Task.{Task}
-use Rattle.bson_run.specs.declared.order.Task.TheVariants.{Write, WriteInOrder, Encode, EncodeInOrder}
+use Rattle.bson_run.specs.declared.order.Task.TheVariants.{Write, Encode}
 use Rattle.vbson.specs.Convert.{mode_at}
 use Rattle.vbson.specs.Text.{IsOwnedText}
-use Rattle.bson.specs.declared.extjson.key_order.KeyOrder.{KeyOrder}
-use Rattle.bson.specs.declared.extjson.key_order.KeyOrder.TheVariants.{Ascending, AsGiven}
 use Rattle.vbson.specs.declared.lines.Lines.{Lines}
-
--- what is done with each line, its keys in the order
-abbrev pub line_task : KeyOrder → Mode → Task
-line_task Ascending mode = Write mode
-line_task AsGiven mode = WriteInOrder mode
-
--- and where each becomes the bytes of its document
-abbrev pub encoding_of : KeyOrder → Task
-encoding_of Ascending = Encode
-encoding_of AsGiven = EncodeInOrder
 
 -- the lines of the block give this output by the task, the verdicts tell of those that are refused, and so many lines
 -- there are, of which so many are refused; texts and verdicts are UTF-8
@@ -39,14 +27,14 @@ pub record AreReturned (o : Options) (task : Task) (block : List ℕ) (out : Lin
   pub are_diagnostics : IsOwnedText diagnostics out.diagnostics
 
 -- the same where each line is converted in the mode of the number
-pub record AreConverted (k : KeyOrder) (o : Options) (number : ℕ) (block : List ℕ) (out : Lines) : Type 0 where
+pub record AreConverted (o : Options) (number : ℕ) (block : List ℕ) (out : Lines) : Type 0 where
   pub mode : Mode
   pub named : mode_at number ≡ Some mode
-  pub given : AreReturned o (line_task k mode) block out
+  pub given : AreReturned o (Write mode) block out
 
 -- and where each becomes the bytes of its document
-abbrev pub AreEncoded : KeyOrder → Options → (block : List ℕ) → Lines → Type 0
-AreEncoded k o block out = AreReturned o (encoding_of k) block out
+abbrev pub AreEncoded : Options → (block : List ℕ) → Lines → Type 0
+AreEncoded o block out = AreReturned o Encode block out
 
 -- ---- the first line that is rejected
 

@@ -1,19 +1,14 @@
 //! The bytes of a text's document.
-ghost use Rattle.std.specs.Prelude.{◌≡◌, ◌⊎◌, ◌↔◌, ◌<◌, ◌≤◌, ◌++◌, List, ℕ, IfOk, IfErr, IsUtf8};
-ghost use Rattle.serde_json.specs.Data.{Data};
-ghost use Rattle.bson.specs.OrderedTexts.{HasMeaningInOrder};
-ghost use Rattle.bson.specs.TextMeaning.{IsNoText, IsTextOf};
+ghost use Rattle.std.specs.Prelude.{◌≡◌, ◌⊎◌, ◌↔◌, ◌<◌, ◌≤◌, ◌++◌, List, ℕ, IfOk, IfErr};
+ghost use Rattle.bson.specs.TextMeaning.{IsNoText, MeansBy};
 ghost use Rattle.bson_codec.specs.Canonical.{FitsDocument, too_long, zero_in_key, zero_in_regex};
-ghost use Rattle.bson_model.specs.Means.{MeansIn};
-ghost use Rattle.bson_model.specs.Value as model;
-ghost use Rattle.bson_model.specs.Value.{Pairs};
+ghost use Rattle.bson_model.specs.Value.{Pairs, document};
 ghost use Rattle.bson_convert.specs.Convert.{newline};
 ghost use Rattle.vbson.specs.Convert.{HasNoMeaningIn, IsBad, IsBadId, options_of_flags, order_of};
 ghost use Rattle.bson_run.specs.Encode.{Encodes};
 ghost use Rattle.vbson.specs.Documents.{HasNoBytes, IsEncoded, IsUnencoded};
 ghost use Rattle.vbson.specs.Documents.{TextIsNotDocumentBy};
 ghost use Rattle.vbson.specs.Options.{AreNotForConversion};
-ghost use Rattle.bson.specs.declared.extjson.key_order.KeyOrder.TheVariants as orders;
 
 use crate::convert::status_of;
 use crate::options::{CallOptions, are_not_for_conversion, options_of};
@@ -34,11 +29,8 @@ pub extern "C" fn vbson_encode_nonnull(
     out: &mut Text<'static>,
 ) -> u32
     ensures done { result ≡ 0 → IsEncoded (order_of options.now) (options_of_flags options.now) text.now out.new }
-    ensures accepts { (tree : Data) (ps : Pairs) → order_of options.now ≡ orders.Ascending → IsTextOf text.now tree
-        → MeansIn (options_of_flags options.now).doubles tree (model.document ps) → FitsDocument ps → 1 < result → result ≡ 5 }
-    ensures accepts_in_order { (ps : Pairs) → order_of options.now ≡ orders.AsGiven → IsUtf8 text.now
-        → HasMeaningInOrder (options_of_flags options.now).doubles text.now (model.document ps) → FitsDocument ps → 1 < result
-        → result ≡ 5 }
+    ensures accepts { (ps : Pairs) → MeansBy (order_of options.now) (options_of_flags options.now).doubles text.now (document ps)
+        → FitsDocument ps → 1 < result → result ≡ 5 }
 
     // When each other status comes, and that nothing is left then.
     ensures no_mode { result ≡ 1 ↔ AreNotForConversion options.now }
@@ -66,10 +58,7 @@ pub extern "C" fn vbson_encode_nonnull(
 fn encode_text(alloc: Global, options: Options, text: &[u8]) -> Result<Vec<u8>, u32>
     ensures ok { IfOk result (λ line. (bytes : List ℕ) × Encodes options.key_order options text.now bytes
         × (line.items ≡ bytes ++ newline)) }
-    ensures accepts { (tree : Data) (ps : Pairs) → options.key_order ≡ orders.Ascending → IsTextOf text.now tree
-        → MeansIn options.doubles tree (model.document ps) → FitsDocument ps → IfErr result (λ status. status ≡ 5) }
-    ensures accepts_in_order { (ps : Pairs) → options.key_order ≡ orders.AsGiven → IsUtf8 text.now
-        → HasMeaningInOrder options.doubles text.now (model.document ps) → FitsDocument ps
+    ensures accepts { (ps : Pairs) → MeansBy options.key_order options.doubles text.now (document ps) → FitsDocument ps
         → IfErr result (λ status. status ≡ 5) }
     ensures refused { IfErr result (λ status. IsUnencoded options.key_order options status text.now) }
 {

@@ -2,18 +2,18 @@
 ghost use Rattle.std.specs.Prelude.{◌≡◌, ◌⊎◌, ◌↔◌, ◌<◌, ◌++◌, List, ℕ, Some, IfSome};
 ghost use Rattle.bson_convert.specs.Convert.{newline};
 ghost use Rattle.bson_convert.specs.declared.mode.Mode.{Mode};
-ghost use Rattle.vbson.specs.Convert.{mode_at, options_of_flags, order_of};
-ghost use Rattle.vbson.specs.Lines.{AreConverted, AreEncoded, AreReturned, GivesLines, encoding_of, line_task};
+ghost use Rattle.bson_run.specs.declared.order.Task.TheVariants.{Write, Encode};
+ghost use Rattle.vbson.specs.Convert.{mode_at, options_of_flags};
+ghost use Rattle.vbson.specs.Lines.{AreConverted, AreEncoded, AreReturned, GivesLines};
 ghost use Rattle.vbson.specs.Lines.{EachLineIsAccepted, IsFirstRejected, is_rejection};
 ghost use Rattle.vbson.specs.Options.{AreNotForConversion};
 
 use crate::convert::mode_of;
-use crate::options::{CallOptions, are_not_for_conversion, options_of, order_of};
+use crate::options::{CallOptions, are_not_for_conversion, options_of};
 use crate::status;
 use crate::text::{Text, as_line, text_of_line};
-use bson::extjson::{KeyOrder, Options};
+use bson::extjson::Options;
 use bson_convert::error::Error;
-use bson_convert::mode::Mode;
 use bson_run::lines::LineRun;
 use bson_run::order::{OnRefusal, Task};
 use std::alloc::Global;
@@ -41,7 +41,7 @@ pub extern "C" fn vbson_convert_lines_nonnull(
     block: &[u8],
     out: &mut Lines<'static>,
 ) -> u32
-    ensures done { result ≡ 0 → AreConverted (order_of options.now) (options_of_flags options.now) mode block.now out.new }
+    ensures done { result ≡ 0 → AreConverted (options_of_flags options.now) mode block.now out.new }
 
     // When each other status comes, and that nothing is left then.
     ensures no_mode { result ≡ 1 ↔ (2 < mode) ⊎ AreNotForConversion options.now }
@@ -54,8 +54,7 @@ pub extern "C" fn vbson_convert_lines_nonnull(
     let Some(mode) = mode_of(mode) else {
         return status::INVALID_ARGUMENT;
     };
-    let task = task_of(order_of(*options), mode);
-    let Some(lines) = lines_of(alloc, options_of(*options), task, block) else {
+    let Some(lines) = lines_of(alloc, options_of(*options), Task::Write(mode), block) else {
         return status::OUT_OF_MEMORY;
     };
     *out = lines;
@@ -73,7 +72,7 @@ pub extern "C" fn vbson_encode_lines_nonnull(
     block: &[u8],
     out: &mut Lines<'static>,
 ) -> u32
-    ensures done { result ≡ 0 → AreEncoded (order_of options.now) (options_of_flags options.now) block.now out.new }
+    ensures done { result ≡ 0 → AreEncoded (options_of_flags options.now) block.now out.new }
 
     // When each other status comes, and that nothing is left then.
     ensures no_mode { result ≡ 1 ↔ AreNotForConversion options.now }
@@ -83,8 +82,7 @@ pub extern "C" fn vbson_encode_lines_nonnull(
     if are_not_for_conversion(*options) {
         return status::INVALID_ARGUMENT;
     }
-    let task = encoding_of(order_of(*options));
-    let Some(encoded) = lines_of(alloc, options_of(*options), task, block) else {
+    let Some(encoded) = lines_of(alloc, options_of(*options), Task::Encode, block) else {
         return status::OUT_OF_MEMORY;
     };
     *out = encoded;
@@ -102,9 +100,9 @@ pub extern "C" fn vbson_first_rejected_line_nonnull(
     number: &mut u64,
 ) -> u32
     ensures rejected { result ≡ 0 → (m : Mode) → mode_at mode ≡ Some m
-        → IsFirstRejected (options_of_flags options.now) (line_task (order_of options.now) m) block.now number.new }
+        → IsFirstRejected (options_of_flags options.now) (Write m) block.now number.new }
     ensures accepted { result ≡ 14 → (m : Mode) → mode_at mode ≡ Some m
-        → EachLineIsAccepted (options_of_flags options.now) (line_task (order_of options.now) m) block.now }
+        → EachLineIsAccepted (options_of_flags options.now) (Write m) block.now }
 
     // When each other status comes, and that nothing is left then.
     ensures no_mode { result ≡ 1 ↔ (2 < mode) ⊎ AreNotForConversion options.now }
@@ -117,11 +115,10 @@ pub extern "C" fn vbson_first_rejected_line_nonnull(
     let Some(mode) = mode_of(mode) else {
         return status::INVALID_ARGUMENT;
     };
-    let order = order_of(*options);
     first_rejected(
         alloc,
         options_of(*options),
-        task_of(order, mode),
+        Task::Write(mode),
         block,
         number,
     )
@@ -136,10 +133,8 @@ pub extern "C" fn vbson_first_unencoded_line_nonnull(
     block: &[u8],
     number: &mut u64,
 ) -> u32
-    ensures rejected { result ≡ 0 →
-        IsFirstRejected (options_of_flags options.now) (encoding_of (order_of options.now)) block.now number.new }
-    ensures accepted { result ≡ 14 →
-        EachLineIsAccepted (options_of_flags options.now) (encoding_of (order_of options.now)) block.now }
+    ensures rejected { result ≡ 0 → IsFirstRejected (options_of_flags options.now) Encode block.now number.new }
+    ensures accepted { result ≡ 14 → EachLineIsAccepted (options_of_flags options.now) Encode block.now }
 
     // When each other status comes, and that nothing is left then.
     ensures no_mode { result ≡ 1 ↔ AreNotForConversion options.now }
@@ -149,34 +144,7 @@ pub extern "C" fn vbson_first_unencoded_line_nonnull(
     if are_not_for_conversion(*options) {
         return status::INVALID_ARGUMENT;
     }
-    let order = order_of(*options);
-    first_rejected(
-        alloc,
-        options_of(*options),
-        encoding_of(order),
-        block,
-        number,
-    )
-}
-
-// What is done with each line.
-fn task_of(order: KeyOrder, mode: Mode) -> Task
-    ensures { result ≡ line_task order mode }
-{
-    match order {
-        KeyOrder::Ascending => Task::Write(mode),
-        KeyOrder::AsGiven => Task::WriteInOrder(mode),
-    }
-}
-
-// The same where each line becomes the bytes of its document.
-fn encoding_of(order: KeyOrder) -> Task
-    ensures { result ≡ encoding_of order }
-{
-    match order {
-        KeyOrder::Ascending => Task::Encode,
-        KeyOrder::AsGiven => Task::EncodeInOrder,
-    }
+    first_rejected(alloc, options_of(*options), Task::Encode, block, number)
 }
 
 // What the lines of the block give; none when out of memory.

@@ -3,9 +3,11 @@ use Rattle.std.proofs.lemmas.Result.{err_from_is_err_and}
 use Rattle.std.proofs.lemmas.Str.{IsUtf8-string_bytes}
 use Rattle.bson.specs.Doubles.TheVariants.{Finite}
 use Rattle.bson.specs.Form.TheVariants.{Canonical}
-use Rattle.bson.specs.MeansInOrder.{MeansInOrder}
+use Rattle.bson.specs.TextMeaning.{MeansBy}
+use Rattle.bson.specs.declared.extjson.options.Options.{Options}
 use Rattle.bson.specs.Texts.{IsTextInOrder}
 use Rattle.bson.specs.Value.{document}
+use Rattle.bson_run.specs.Encode.{Encodes}
 use Rattle.bson_pairs.proofs.ComingBack.{encoded_again, means_again, read_again}
 use Rattle.bson_pairs.proofs.again.bytes_again.Goals as goal
 
@@ -20,7 +22,8 @@ returns-in-Ok-clause-same c = λ ps canonical back.
     let is : IsTextInOrder Finite Canonical (document ps) text =
     subst (IsTextInOrder Finite Canonical (document ps)) (sym c.as_bytes.ensures.value)
     (c.in_ok-text.ensures.ok ps canonical.read) in
-    encoded_again ps text is back c.options.result c.in-Ok.again.items c.options.ensures c.in-Ok.ensures.ok
+    encoded_again ps text is back c.in-Ok.again.items
+    (subst (λ (o : Options). Encodes o.key_order o text c.in-Ok.again.items) c.options.ensures c.in-Ok.ensures.ok)
     ∙ sym canonical.written
 
 pub returns-clause-only : goal.returns-clause-only
@@ -30,6 +33,6 @@ returns-clause-only c = λ ps canonical back.
     subst (IsTextInOrder Finite Canonical (document ps)) (sym c.as_bytes.ensures.value)
     (c.in_ok-text.ensures.ok ps canonical.read) in
     let utf8 : IsUtf8 text = subst IsUtf8 (sym c.as_bytes.ensures.value) (IsUtf8-string_bytes c.in_ok-text.text) in
-    c.in-Err.ensures.accepts is.tree ps utf8 (read_again ps text is back)
-    (subst (λ D. MeansInOrder D is.tree (document ps)) (sym c.options.ensures) (means_again ps text is back))
-    canonical.fits
+    c.in-Err.ensures.accepts ps
+    (subst (λ (o : Options). MeansBy o.key_order o.doubles text (document ps)) (sym c.options.ensures)
+    (is.tree, utf8, read_again ps text is back, means_again ps text is back)) canonical.fits

@@ -5,7 +5,10 @@ use Rattle.bson.specs.Form.TheVariants.{Canonical}
 use Rattle.bson.specs.Texts.{IsTextInOrder}
 use Rattle.bson.specs.Value.{document}
 use Rattle.bson_codec.specs.Laws.{IsRead}
-use Rattle.bson_run.specs.Encode.{EncodesInOrder}
+use Rattle.bson.specs.Options.{mongodb_options}
+use Rattle.bson.specs.declared.extjson.key_order.KeyOrder.TheVariants.{AsGiven}
+use Rattle.bson.specs.declared.extjson.options.Options.{Options}
+use Rattle.bson_run.specs.Encode.{Encodes}
 use Rattle.bson_pairs.proofs.ComingBack.{decoded_again, text_one}
 use Rattle.bson_pairs.proofs.again.text_again.Goals as goal
 
@@ -13,8 +16,10 @@ pub returns-clause-same : goal.returns-clause-same
 returns-clause-same c = λ ps is back nests.
     let text = c.args.text.now in
     let read =
-    decoded_again ps text is back c.options.result c.in-Ok.bytes.items c.args.depth c.options.ensures
-    (subst (λ l. EncodesInOrder c.options.result l c.in-Ok.bytes.items) c.as_bytes.ensures.value c.in-Ok.ensures.ok) nests in
+    decoded_again ps text is back c.in-Ok.bytes.items c.args.depth
+    (subst (λ l. Encodes AsGiven mongodb_options l c.in-Ok.bytes.items) c.as_bytes.ensures.value
+    (subst (λ (o : Options). Encodes o.key_order o c.as_bytes.result.now c.in-Ok.bytes.items) c.options.ensures c.in-Ok.ensures.ok))
+    nests in
     IfOk-weaker c.decode_bytes.result (λ again. IsTextInOrder Finite Canonical (document ps) (string_bytes again))
     (λ again. string_bytes again ≡ text)
     (λ again it. text_one Finite Canonical (document ps) (string_bytes again) text it is)

@@ -1,5 +1,6 @@
 use Rattle.std.proofs.Common.{string_bytes, subst}
 use Rattle.std.specs.Prelude.{IfOk}
+use Rattle.bson_run.specs.InOrder.{IsConvertedTextBy}
 use Rattle.bson_run.specs.Indent.{IsLaidOut}
 use Rattle.bson_run.proofs.LinesLaws.{oks_with}
 use Rattle.bson_run.proofs.TwiceIndented.{indented, indented_kept}
@@ -7,14 +8,20 @@ use Rattle.bson_run.proofs.indented.convert_indented.Goals as goal
 
 pub returns-clause-ok : goal.returns-clause-ok
 returns-clause-ok c =
+    let o = c.args.options in
+    let bytes = c.args.bytes.now in
     let text = string_bytes c.in_ok-text.text in
+    let is = subst (λ mode. IsConvertedTextBy o.key_order o mode bytes text) c.mode_of.ensures c.in_ok-text.ensures.ok in
     oks_with c.lay_out.result c.lay_out.ensures.ok (λ output laid.
-    indented c.args.options c.args.form c.args.spaces c.args.bytes.now text c.in_ok-text.ensures.ok output.items
+    indented o.key_order o c.args.form c.args.spaces bytes text is output.items
     (subst (λ s. IsLaidOut c.args.spaces s output.items) c.deref.ensures laid))
 
 pub returns-clause-again : goal.returns-clause-again
 returns-clause-again c =
+    let o = c.args.options in
+    let bytes = c.args.bytes.now in
     let text = string_bytes c.in_ok-text.text in
-    indented_kept c.args.options c.args.form c.args.spaces c.args.bytes.now text c.in_ok-text.ensures.ok c.lay_out.result
+    let is = subst (λ mode. IsConvertedTextBy o.key_order o mode bytes text) c.mode_of.ensures c.in_ok-text.ensures.ok in
+    indented_kept o.key_order o c.args.form c.args.spaces bytes text is c.lay_out.result
     (subst (λ s. IfOk c.lay_out.result (λ output. IsLaidOut c.args.spaces s output.items)) c.deref.ensures c.lay_out.ensures.ok)
     c.lay_out.ensures.utf8

@@ -1,19 +1,16 @@
-use Rattle.std.proofs.Common.{subst}
-use Rattle.bson_convert.proofs.Offered.{text_converts}
-use Rattle.bson_convert.specs.Convert.{ConvertsIn, IsTried, IsUtf8Tried}
-use Rattle.bson_run.proofs.AcceptedTexts.{at_once}
+use Rattle.std.proofs.Common.{IfOk, subst, sym}
+use Rattle.bson_run.specs.Accepted.{HasOutput}
+use Rattle.bson_run.specs.InOrder.{ConvertsBy}
 use Rattle.bson_run.proofs.accepted.Accepted.of.Goals as goal
 
-pub returns-in_ok-end_line-in-Written-clause-ok : goal.returns-in_ok-end_line-in-Written-clause-ok
-returns-in_ok-end_line-in-Written-clause-ok c =
+pub returns-in-Ascending-clause-ok : goal.returns-in-Ascending-clause-ok
+returns-in-Ascending-clause-ok c =
     let o = c.args.options in
-    let mode = c.args.mode in
-    let bytes = c.args.bytes.now in
-    let output = c.in_ok-end_line-in-Written.field-0 in
-    let written = subst (IsTried o mode bytes) c.in-Written.is c.in_ok-text.ensures.ok in
-    at_once o (ConvertsIn o mode bytes) output
-    (text_converts o mode bytes c.in-Written.text.items output.items written c.in_ok-end_line-in-Written.ensures.ok)
+    subst (λ k. IfOk c.accept_sorted.result (HasOutput o (ConvertsBy k o c.args.mode c.args.bytes.now))) (sym c.in-Ascending.is)
+    c.accept_sorted.ensures.ok
 
-pub returns-in_ok-end_line-in-Written-clause-utf8 : goal.returns-in_ok-end_line-in-Written-clause-utf8
-returns-in_ok-end_line-in-Written-clause-utf8 c =
-    c.in_ok-end_line-in-Written.ensures.utf8 (subst IsUtf8Tried c.in-Written.is c.in_ok-text.ensures.utf8)
+pub returns-in-AsGiven-clause-ok : goal.returns-in-AsGiven-clause-ok
+returns-in-AsGiven-clause-ok c =
+    let o = c.args.options in
+    subst (λ k. IfOk c.accept_in_order.result (HasOutput o (ConvertsBy k o c.args.mode c.args.bytes.now))) (sym c.in-AsGiven.is)
+    c.accept_in_order.ensures.ok

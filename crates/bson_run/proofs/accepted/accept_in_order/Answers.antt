@@ -2,9 +2,9 @@ use Rattle.std.proofs.Common.{◌≡◌, arith, subst, sym}
 use Rattle.std.proofs.lemmas.Str.{IsUtf8-string_bytes}
 use Rattle.std.specs.Prelude.{IsUtf8, string_bytes}
 use Rattle.bson_convert.proofs.Offered.{accepted_alike}
-use Rattle.bson_run.specs.InOrder.{ConvertsInOrder}
+use Rattle.bson_run.specs.InOrder.{ConvertsBy, ConvertsInOrder}
 use Rattle.bson_run.proofs.Ordered.{outputs_alike}
-use Rattle.bson_run.proofs.accepted.Accepted.in_order_of.Goals as goal
+use Rattle.bson_run.proofs.accepted.accept_in_order.Goals as goal
 
 pub returns-in_ok-normalized-in-None-clause-ok : goal.returns-in_ok-normalized-in-None-clause-ok
 returns-in_ok-normalized-in-None-clause-ok c =
@@ -18,5 +18,6 @@ returns-in_ok-normalized-in-None-clause-ok c =
     record {
       sure = accepted_alike o normalized text valid (sym c.in_ok-normalized-in-None.ensures.same) c.in_ok-refuse-in-None.ensures.ok;
       given = λ output is. subst (λ b. ConvertsInOrder o c.args.mode b output) whole
-          (outputs_alike o c.args.mode text normalized output utf8 c.in_ok-normalized-in-None.ensures.ok is);
+          (outputs_alike o c.args.mode text normalized output utf8 c.in_ok-normalized-in-None.ensures.ok
+          (subst (λ k. ConvertsBy k o c.args.mode normalized output) c.requires is));
     }
