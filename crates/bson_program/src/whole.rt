@@ -34,7 +34,11 @@ pub fn accept(alloc: Global, invocation: &Invocation, bytes: &[u8]) -> Result<Ac
         Task::Write(mode) => accept_text(alloc, invocation, mode, bytes),
         Task::Check(criterion) => check(alloc, invocation, criterion, bytes),
         Task::Encode => Ok(Accepted::Output(encode(alloc, invocation.options, bytes)?)),
-        Task::Preprocessed(preprocessing, work) => match preprocess_text(alloc, preprocessing, bytes)? {
+        Task::Preprocessed(preprocessing, work) => match preprocess_text(
+            alloc,
+            preprocessing,
+            bytes,
+        )? {
             Some(upgraded) => accept_upgraded(alloc, invocation, work, upgraded),
             None => accept_preprocessed(alloc, invocation, work, bytes),
         },

@@ -78,7 +78,12 @@ impl Accepted {
     }
 }
 
-fn accept_sorted(alloc: Global, options: Options, mode: Mode, bytes: &[u8]) -> Result<Accepted, Error>
+fn accept_sorted(
+    alloc: Global,
+    options: Options,
+    mode: Mode,
+    bytes: &[u8],
+) -> Result<Accepted, Error>
     requires { options.key_order ≡ Ascending }
     ensures ok { IfOk result (HasOutput options (ConvertsIn options mode bytes.now)) }
     ensures utf8 { IfOk result IsUtf8Accepted }

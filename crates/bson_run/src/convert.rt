@@ -50,7 +50,14 @@ pub fn convert_text(
         → MeansIn options.doubles tree value → IfErr result (λ fault. fault ≡ Error.OutOfMemory) }
     ensures fault { IfErr result (λ fault. IsRefusedIn options fault bytes.now) }
 {
-    convert_by(alloc, options.key_order, options, mode, bytes, &mut Scratch::new(alloc))
+    convert_by(
+        alloc,
+        options.key_order,
+        options,
+        mode,
+        bytes,
+        &mut Scratch::new(alloc),
+    )
 }
 
 /// [`convert_text`] with keys in this order, with the memory of a run.
