@@ -189,6 +189,11 @@ legacy_of (task.Preprocessed preprocessing work) = None
 legacy_of (task.Check criterion.Canonical) = None
 legacy_of task = Some preprocessing.Legacy
 
+-- a text has to be canonical
+abbrev pub is_canonical : Task → Bool
+is_canonical (task.Check criterion.Canonical) = true
+is_canonical other = false
+
 abbrev pub legacy_advice : Task → Advice
 legacy_advice task.Encode = advice.LegacyToEncode
 legacy_advice task.EncodeInOrder = advice.LegacyToEncode

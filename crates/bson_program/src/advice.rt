@@ -3,7 +3,7 @@ ghost use Rattle.std.specs.Prelude.{◌≡◌, ◌<◌, ◌⊎◌, IfSome, lengt
 ghost use Rattle.bson_run.specs.Place.{IsPart};
 ghost use Rattle.bson_program.specs.Hints.{IsAdvice, IsAdviceFor, IsAdvisedAt, IsReadUpgraded, IsReadWithLegacy, IsSplit};
 ghost use Rattle.bson_program.specs.Hints.{advice_after, advice_at, advice_under};
-ghost use Rattle.bson_program.specs.Hints.{is_comment, is_name, is_not_finite, is_shell_call, is_shell_value};
+ghost use Rattle.bson_program.specs.Hints.{is_canonical, is_comment, is_name, is_not_finite, is_shell_call, is_shell_value};
 ghost use Rattle.bson_program.specs.Hints.{legacy_advice, legacy_of};
 
 use crate::hints::{has_content, split_line, starts_text};
@@ -173,6 +173,9 @@ fn advice_at_stop(alloc: Global, invocation: &Invocation, text: &[u8]) -> Option
     let Ok(stop) = stop::Stop::of(alloc, text) else {
         return None;
     };
+    if stop.rule == Rule::TrailingData && is_canonical(invocation.task) {
+        return None;
+    }
     let rest = &text[stop.offset.min(text.len())..];
     advice_under(
         invocation.input,
@@ -180,6 +183,13 @@ fn advice_at_stop(alloc: Global, invocation: &Invocation, text: &[u8]) -> Option
         stop.rule,
         rest,
     )
+}
+
+// Returns whether a text has to be canonical, which no sequence of texts is.
+fn is_canonical(task: Task) -> bool
+    ensures { result ≡ is_canonical task }
+{
+    matches!(task, Task::Check(Criterion::Canonical))
 }
 
 // Returns what helps by the rule that a text breaks, and the bytes from where it does.
