@@ -1,3 +1,4 @@
+mod Advising
 mod Asking
 mod DigestLaws
 mod Dumping

@@ -3,19 +3,31 @@ use Rattle.std.specs.Prelude.{◌≡◌, ◌==◌, ◌||◌, ◌&&◌, ◌+◌, 
 use Rattle.std.specs.Prelude.{if◌then◌else◌, codes, length, nat_eq, nat_le, nat_lt, slice_index, reverse, take, drop, is_some}
 use Rattle.std.specs.List.{find, starts_with}
 use Rattle.bson.specs.Doubles.{Doubles}
+use Rattle.bson.specs.declared.extjson.options.Options.{Options}
 use Rattle.bson.specs.Doubles.TheVariants.{Finite, Special}
 use Rattle.bson.specs.declared.extjson.key_order.KeyOrder.{KeyOrder}
 use Rattle.bson.specs.declared.extjson.key_order.KeyOrder.TheVariants.{Ascending}
 use Rattle.bson_codec.specs.declared.run_end.RunFault.{RunFault}
 use Rattle.bson_codec.specs.declared.run_end.RunFault.TheVariants as run_fault
+use Rattle.bson_convert.specs.Convert.{IsAccepted}
+use Rattle.bson_convert.specs.declared.no_bytes.NoBytes.TheVariants.{NoDocument}
 use Rattle.bson_convert.specs.declared.error.Error.{Error}
 use Rattle.bson_convert.specs.declared.error.Error.TheVariants as error
 use Rattle.bson_run.specs.declared.lines.Counts.{Counts}
+use Rattle.bson_run.specs.Place.{Breaks, IsPart}
+use Rattle.bson_run.specs.Preprocessed.{IsPreprocessedAs}
+use Rattle.bson_run.specs.declared.order.Criterion.TheVariants as criterion
+use Rattle.bson_run.specs.declared.order.Preprocessing.{Preprocessing}
 use Rattle.bson_run.specs.declared.order.Preprocessing.TheVariants as preprocessing
 use Rattle.bson_run.specs.declared.order.Task.{Task}
 use Rattle.bson_run.specs.declared.order.Task.TheVariants as task
+use Rattle.bson_run.specs.declared.rule.Rule.{Rule}
+use Rattle.bson_run.specs.declared.rule.Rule.TheVariants.{ControlCharacter, TrailingData, Utf8}
 use Rattle.bson_program.specs.Messages.{line_len, shown_name}
 use Rattle.bson_program.specs.Invocation.{mode_word}
+use Rattle.bson_program.specs.Whole.{IsUngiven}
+use Rattle.bson_program.specs.declared.advice.Advice.{Advice}
+use Rattle.bson_program.specs.declared.advice.Advice.TheVariants as advice
 use Rattle.bson_program.specs.declared.hints.Hint.{Hint}
 use Rattle.bson_program.specs.declared.hints.Hint.TheVariants as hint
 use Rattle.bson_program.specs.declared.hints.Rejected.{Rejected}
@@ -117,29 +129,125 @@ hint_of_encoding head =
     else (if is_high_first head then Some hint.Utf16BigEndian
     else (if is_dump head then Some hint.Dump else None)))
 
+-- ---- mistakes in a text
+
+abbrev pub begins : (word rest : List ℕ) → Bool
+begins word rest = starts_with nat_eq rest word
+
+abbrev pub is_comment : List ℕ → Bool
+is_comment rest = begins (codes "//") rest || begins (codes "/*") rest
+
+-- a call of the mongo shell
+abbrev pub is_shell_call : List ℕ → Bool
+is_shell_call rest = begins (codes "ObjectId(") rest || (begins (codes "ISODate(") rest
+    || (begins (codes "NumberLong(") rest || (begins (codes "NumberInt(") rest
+    || (begins (codes "NumberDecimal(") rest || (begins (codes "Timestamp(") rest
+    || (begins (codes "BinData(") rest || (begins (codes "UUID(") rest || begins (codes "DBRef(") rest)))))))
+
+-- a value of the mongo shell: a regular expression, a key, or a call of a newer shell
+abbrev pub is_shell_value : List ℕ → Bool
+is_shell_value rest = begins (codes "/") rest || (begins (codes "new ") rest
+    || (begins (codes "MinKey") rest || (begins (codes "MaxKey") rest
+    || (begins (codes "Long(") rest || (begins (codes "Int32(") rest
+    || (begins (codes "Double(") rest || begins (codes "Decimal128(") rest))))))
+
+abbrev pub is_not_finite : List ℕ → Bool
+is_not_finite rest = begins (codes "NaN") rest || (begins (codes "Infinity") rest || begins (codes "-Infinity") rest)
+
+-- a name of Python or JavaScript for a value of JSON
+abbrev pub is_name : List ℕ → Bool
+is_name rest = begins (codes "True") rest || (begins (codes "False") rest
+    || (begins (codes "None") rest || begins (codes "undefined") rest))
+
+-- by the bytes from where a text is not JSON
+abbrev pub advice_at : List ℕ → Option Advice
+advice_at rest = if is_comment rest then Some advice.Comment
+    else (if is_shell_call rest || is_shell_value rest then Some advice.Shell
+    else (if is_not_finite rest then Some advice.NotFinite
+    else (if is_name rest then Some advice.Names else None)))
+
+-- by the bytes after a text: several texts are read without `--strict`, with white space between
+abbrev pub advice_after : Input → Doubles → List ℕ → Option Advice
+advice_after Text Special rest = Some advice.SeveralTexts
+advice_after input doubles rest = if starts_text rest then Some advice.OneLine else advice_at rest
+
+-- by the rule that a text breaks, and the bytes from where it does
+abbrev pub advice_under : Input → Doubles → Rule → List ℕ → Option Advice
+advice_under input doubles Utf8 rest = Some advice.NotUtf8
+advice_under input doubles ControlCharacter rest = Some advice.ControlCharacter
+advice_under input doubles TrailingData rest = advice_after input doubles rest
+advice_under input doubles rule rest = advice_at rest
+
+-- the text breaks a rule of JSON, and the bytes from some place on show the mistake
+abbrev pub IsAdvisedAt : Invocation → (text : List ℕ) → Advice → Type 0
+IsAdvisedAt invocation text it = (rule : Rule) × (offset : ℕ) × Breaks text rule
+    × (advice_under invocation.input invocation.options.doubles rule (drop offset text) ≡ Some it)
+
+-- what `--legacy` does before a text is read, if that is not done already
+abbrev pub legacy_of : Task → Option Preprocessing
+legacy_of (task.Preprocessed preprocessing.Distinct work) = Some preprocessing.DistinctLegacy
+legacy_of (task.Preprocessed preprocessing work) = None
+legacy_of (task.Check criterion.Canonical) = None
+legacy_of task = Some preprocessing.Legacy
+
+-- a text has to be canonical
+abbrev pub is_canonical : Task → Bool
+is_canonical (task.Check criterion.Canonical) = true
+is_canonical other = false
+
+abbrev pub legacy_advice : Task → Advice
+legacy_advice task.Encode = advice.LegacyToEncode
+legacy_advice task = advice.Legacy
+
+-- the text that is read instead has a value
+abbrev pub IsReadUpgraded : Options → Preprocessing → (text : List ℕ) → Type 0
+IsReadUpgraded o preprocessing text =
+    (upgraded : List ℕ) × IsPreprocessedAs preprocessing text upgraded × IsAccepted o upgraded
+
+abbrev pub IsReadWithLegacy : Invocation → (text : List ℕ) → Type 0
+IsReadWithLegacy invocation text = (preprocessing : Preprocessing) × (legacy_of invocation.task ≡ Some preprocessing)
+    × IsReadUpgraded invocation.options preprocessing text
+
+-- what helps with a text that is rejected with the error
+abbrev pub IsAdviceFor : Invocation → Error → (text : List ℕ) → Advice → Type 0
+IsAdviceFor invocation error.NotJson text it = IsAdvisedAt invocation text it
+IsAdviceFor invocation (error.NotExtendedJson place) text it =
+    (legacy_advice invocation.task ≡ it) × IsReadWithLegacy invocation text
+IsAdviceFor invocation (error.NoBytes why) text it = (why ≡ NoDocument) × (it ≡ advice.NotADocument)
+IsAdviceFor invocation other text it = ⊥
+
+-- what helps with a text among the bytes that is rejected
+abbrev pub IsAdvice : Invocation → (bytes : List ℕ) → Advice → Type 0
+IsAdvice invocation bytes it = (fault : Error) × (text : List ℕ) × IsPart text bytes
+    × IsUngiven invocation.options invocation.task fault text × IsAdviceFor invocation fault text it
+
+-- the bytes are a text, what is between, and the others
+abbrev pub IsSplit : (bytes text next : List ℕ) → Type 0
+IsSplit bytes text next = (mark : List ℕ) × (bytes ≡ text ++ mark ++ next)
+
 -- ---- what helps
 
-abbrev pub doubles : Bool → Option Hint
-doubles true = Some hint.Doubles
-doubles false = None
+abbrev pub advised : Option Advice → Option Hint
+advised None = None
+advised (Some it) = Some (hint.Advised it)
 
 -- where texts are expected
 abbrev pub hint_of_texts : Rejected → List ℕ → Option Hint
 hint_of_texts rejected head =
     if rejected.is_standard && starts_with nat_eq head (239 ∷ 187 ∷ 191 ∷ []) then Some hint.Mark
-    else (if rejected.has_more then Some hint.SeveralTexts else doubles rejected.has_double)
+    else advised rejected.advice
 
 -- where a text per line is
 abbrev pub hint_of_lines : Rejected → List ℕ → Option Hint
 hint_of_lines rejected head =
     if opens_over_lines (first_line head) && has_content (after_line head)
     then Some (if rejected.encodes then hint.LongTextsToEncode else hint.LongTexts)
-    else doubles rejected.has_double
+    else advised rejected.advice
 
 -- where documents of BSON are
 abbrev pub hint_of_dump : Rejected → List ℕ → Option Hint
 hint_of_dump rejected head =
-    if starts_text head && not (is_dump head) then Some hint.Text else doubles rejected.has_double
+    if starts_text head && not (is_dump head) then Some hint.Text else advised rejected.advice
 
 -- the first that holds
 abbrev pub or_else : Option Hint → Option Hint → Option Hint
@@ -156,6 +264,24 @@ hint_of rejected head = or_else (compression_of head) (hint_of_input rejected.in
 
 -- ---- what is told
 
+abbrev pub advice_text : Advice → List ℕ
+advice_text advice.Doubles = codes "has numbers that are read without --strict"
+advice_text advice.SeveralTexts = codes "has several texts, which are read without --strict"
+advice_text advice.Shell =
+    codes "has values of the mongo shell, such as ObjectId(..) for {\"$oid\": ..}; EJSON.stringify writes Extended JSON"
+advice_text advice.NotFinite = codes "has NaN or Infinity, which JSON does not have; write {\"$numberDouble\": \"NaN\"}"
+advice_text advice.Names = codes "has names of Python or JavaScript; JSON has true, false and null"
+advice_text advice.Comment = codes "has a comment, and JSON has none; remove it"
+advice_text advice.OneLine = codes "has several texts on one line; write each on a line of its own"
+advice_text advice.ControlCharacter =
+    codes "has a control character in a string; write a tab as \\t, a newline as \\n, any other as \\u0001"
+advice_text advice.NotUtf8 = codes "is not UTF-8; if it is Latin-1, give it through 'iconv -f latin1 -t utf-8'"
+advice_text advice.Legacy = codes "has Extended JSON v1, which is read with --legacy"
+advice_text advice.LegacyToEncode =
+    codes "has Extended JSON v1; './bson lines canonical --legacy' makes lines that encode reads"
+advice_text advice.NotADocument =
+    codes "has a value that is not a document, and encode makes bytes of documents alone"
+
 -- what reads an input instead: the words are those of the mode and its options
 abbrev pub hint_text : Hint → (words : List ℕ) → List ℕ
 hint_text hint.Gzip words = codes "is compressed; give it through 'gzip -dc'"
@@ -171,11 +297,10 @@ hint_text hint.Utf16LittleEndian words =
     codes "is UTF-16, and JSON is UTF-8; give it through 'iconv -f UTF-16LE -t UTF-8'"
 hint_text hint.Utf16BigEndian words = codes "is UTF-16, and JSON is UTF-8; give it through 'iconv -f UTF-16BE -t UTF-8'"
 hint_text hint.Mark words = codes "begins with a byte order mark, which only a named file may"
-hint_text hint.SeveralTexts words = codes "has several texts, which are read without --strict"
 hint_text hint.LongTexts words = codes "has texts over several lines; './bson " ++ words ++ codes "' reads them"
 hint_text hint.LongTextsToEncode words =
     codes "has texts over several lines; './bson " ++ words ++ codes "' makes a line of each"
-hint_text hint.Doubles words = codes "has numbers that are read without --strict"
+hint_text (hint.Advised it) words = advice_text it
 
 -- the mode of a command that reads the input; lines that become bytes are texts for `canonical`
 abbrev pub reading_mode : Input → Purpose → Task → List ℕ
@@ -210,10 +335,11 @@ reading_words invocation = reading_mode invocation.input invocation.purpose invo
 abbrev pub hint_line : (name : List ℕ) → Hint → (words : List ℕ) → List ℕ
 hint_line name it words = codes "bson: " ++ shown_name name (codes "input") ++ codes " " ++ hint_text it words
 
--- the line helps with an input whose first bytes these are
-abbrev pub IsHelpFor : Invocation → (name head line : List ℕ) → Type 0
-IsHelpFor invocation name head line = (rejected : Rejected) × (it : Hint) × (rejected.input ≡ invocation.input)
-    × (hint_of rejected head ≡ Some it) × (line ≡ hint_line name it (reading_words invocation))
+-- the line helps with an input whose first bytes these are, and with whose text this does
+abbrev pub IsHelpFor : Invocation → (name head : List ℕ) → Option Advice → (line : List ℕ) → Type 0
+IsHelpFor invocation name head it line = (rejected : Rejected) × (found : Hint) × (rejected.input ≡ invocation.input)
+    × (rejected.advice ≡ it) × (hint_of rejected head ≡ Some found)
+    × (line ≡ hint_line name found (reading_words invocation))
 
 -- ---- how a run ended
 

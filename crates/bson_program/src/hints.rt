@@ -1,11 +1,12 @@
 //! What a rejected input holds in place of what it should, as its first bytes show.
 ghost use Rattle.std.specs.Prelude.{◌≡◌, not, reverse};
 ghost use Rattle.std.specs.List.{find};
-ghost use Rattle.bson_program.specs.Hints.{after_line, compression_of, doubles, hint_of_encoding, ends_in_zero, first_line};
+ghost use Rattle.bson_program.specs.Hints.{advised, after_line, compression_of, hint_of_encoding, ends_in_zero, first_line};
 ghost use Rattle.bson_program.specs.Hints.{hint_of, hint_of_dump, hint_of_lines, hint_of_texts, is_blank, is_dump};
 ghost use Rattle.bson_program.specs.Hints.{has_content, is_high_first, is_length, is_low_first};
 ghost use Rattle.bson_program.specs.Hints.{is_opening, little, opens_over_lines, starts_text};
 
+use crate::advice::Advice;
 use crate::invocation::Input;
 use crate::messages::line_len;
 
@@ -37,14 +38,12 @@ pub enum Hint {
     Utf16BigEndian,
     /// A text behind a byte order mark, which standard input may not have.
     Mark,
-    /// Several texts, which `--strict` rejects.
-    SeveralTexts,
     /// Texts over several lines, if a text per line is expected.
     LongTexts,
     /// Texts over several lines, if bytes are made of each line.
     LongTextsToEncode,
-    /// Numbers that `--strict` alone rejects.
-    Doubles,
+    /// A mistake in a text.
+    Advised(Advice),
 }
 
 /// What is known of a rejected input besides its first bytes.
@@ -56,10 +55,8 @@ pub struct Rejected {
     pub encodes: bool,
     /// Whether it is standard input.
     pub is_standard: bool,
-    /// Whether a finite double was rejected, as `--strict` asks.
-    pub has_double: bool,
-    /// Whether texts after the first were rejected, as `--strict` asks.
-    pub has_more: bool,
+    /// What helps with the text that was rejected.
+    pub advice: Option<Advice>,
 }
 
 /// Returns what helps with an input that was rejected, whose first bytes these are.
@@ -89,10 +86,7 @@ fn hint_for_texts(rejected: Rejected, head: &[u8]) -> Option<Hint>
     if rejected.is_standard && head.starts_with(b"\xef\xbb\xbf") {
         return Some(Hint::Mark);
     }
-    if rejected.has_more {
-        return Some(Hint::SeveralTexts);
-    }
-    doubles(rejected.has_double)
+    advised(rejected.advice)
 }
 
 // What helps where a text per line is.
@@ -101,7 +95,7 @@ fn hint_for_lines(rejected: Rejected, head: &[u8]) -> Option<Hint>
 {
     let (line, rest) = split_line(head);
     if !opens(line) || !has_content(rest) {
-        return doubles(rejected.has_double);
+        return advised(rejected.advice);
     }
     if rejected.encodes {
         Some(Hint::LongTextsToEncode)
@@ -117,16 +111,15 @@ fn hint_for_dump(rejected: Rejected, head: &[u8]) -> Option<Hint>
     if starts_text(head) && !is_dump(head) {
         return Some(Hint::Text);
     }
-    doubles(rejected.has_double)
+    advised(rejected.advice)
 }
 
-fn doubles(has_double: bool) -> Option<Hint>
-    ensures { result ≡ doubles has_double }
+fn advised(advice: Option<Advice>) -> Option<Hint>
+    ensures { result ≡ advised advice }
 {
-    if has_double {
-        Some(Hint::Doubles)
-    } else {
-        None
+    match advice {
+        Some(advice) => Some(Hint::Advised(advice)),
+        None => None,
     }
 }
 
@@ -232,8 +225,8 @@ fn ends_in_zero(length: usize, head: &[u8]) -> bool
     head[length - 1] == 0
 }
 
-// Whether the first byte that is not blank opens an array or an object.
-fn starts_text(head: &[u8]) -> bool
+/// Whether the first byte that is not blank opens an array or an object.
+pub fn starts_text(head: &[u8]) -> bool
     ensures { result ≡ starts_text head.now }
 {
     match first_content(head) {
@@ -252,8 +245,8 @@ fn opens(line: &[u8]) -> bool
     }
 }
 
-// Whether a byte is not blank.
-fn has_content(bytes: &[u8]) -> bool
+/// Whether a byte is not blank.
+pub fn has_content(bytes: &[u8]) -> bool
     ensures { result ≡ has_content bytes.now }
 {
     first_content(bytes).is_some()
@@ -285,8 +278,8 @@ fn is_blank(byte: u8) -> bool
     byte == b' ' || byte == b'\t' || byte == b'\r' || byte == b'\n'
 }
 
-// The first line, with its newline, and the bytes after it.
-fn split_line(head: &[u8]) -> (&[u8], &[u8])
+/// The first line, with its newline, and the bytes after it.
+pub fn split_line(head: &[u8]) -> (&[u8], &[u8])
     ensures line { result.0.now ≡ first_line head.now }
     ensures rest { result.1.now ≡ after_line head.now }
 {

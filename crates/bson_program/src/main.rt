@@ -5,9 +5,10 @@
 //! `choices`, `fits`), the files (`run`, `streams`, `output`; `texts` for JSON texts with `whole` for
 //! each, `dump` for BSON documents), digests of lines (`digests`), comparisons (`compared`, `same`),
 //! the line of progress (`progress`), the lines on standard error (`messages`, `misuse`, `hints`,
-//! `rejected`), the help (`words`) and the statuses.
+//! `advice`, `rejected`), the help (`words`) and the statuses.
 #![tactic(auto)]
 
+mod advice;
 mod arguments;
 mod choices;
 mod compared;

@@ -111,7 +111,7 @@ fn newlines(bytes: &[u8]) -> u64
 }
 
 /// As many first bytes of an input are kept, or a few more.
-const HEAD: usize = 65536;
+pub const HEAD: usize = 65536;
 
 /// A reader whose bytes count as progress, which keeps the first bytes, and why a read failed.
 #[derive(Drop)]

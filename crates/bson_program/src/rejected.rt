@@ -1,22 +1,19 @@
 //! What is told beside the error of an input: what it holds instead, and what reads that.
 ghost use Rattle.std.specs.Prelude.{◌≡◌, IfOk, IfSome, string_bytes};
-ghost use Rattle.bson_program.specs.Hints.{IsHelpFor, hint_line, is_rejected, is_strict, option_if, reading_mode, reading_words};
+ghost use Rattle.bson_program.specs.Hints.{IsHelpFor, advice_text, hint_line, is_rejected, is_strict, option_if, reading_mode, reading_words};
 ghost use Rattle.bson_program.specs.Hints.{sorts_keys, preprocessing_options, hint_text};
 
+use crate::advice::Advice;
 use crate::hints::{Hint, Rejected, hint_for};
 use crate::invocation::{Input, Invocation, Purpose, STANDARD};
 use crate::messages::show_name;
 use crate::misuse::mode_word;
 use crate::run::Stop;
-use bson::extjson::{Doubles, KeyOrder, Options};
+use bson::extjson::{Doubles, KeyOrder};
 use bson_codec::run_end::RunFault;
 use bson_convert::error::Error;
 use bson_run::lines::Counts;
 use bson_run::order::{Preprocessing, Task};
-use bson_run::rule::Rule;
-use bson_run::stop;
-use bson_scalar::doubles::NUMBER;
-use bson_tree::place::{Place, Reason};
 use std::alloc::{AllocError, Global};
 
 const ARCHIVE: &str = "is an archive of mongodump; mongodump without '--archive' writes dumps";
@@ -29,7 +26,23 @@ const UTF_16_LITTLE_ENDIAN: &str =
 const UTF_16_BIG_ENDIAN: &str =
     "is UTF-16, and JSON is UTF-8; give it through 'iconv -f UTF-16BE -t UTF-8'";
 
-const SEVERAL_TEXTS: &str = "has several texts, which are read without --strict";
+const SHELL: &str =
+    "has values of the mongo shell, such as ObjectId(..) for {\"$oid\": ..}; EJSON.stringify writes Extended JSON";
+
+const NOT_FINITE: &str =
+    "has NaN or Infinity, which JSON does not have; write {\"$numberDouble\": \"NaN\"}";
+
+const CONTROL_CHARACTER: &str =
+    "has a control character in a string; write a tab as \\t, a newline as \\n, any other as \\u0001";
+
+const NOT_UTF_8: &str =
+    "is not UTF-8; if it is Latin-1, give it through 'iconv -f latin1 -t utf-8'";
+
+const LEGACY_TO_ENCODE: &str =
+    "has Extended JSON v1; './bson lines canonical --legacy' makes lines that encode reads";
+
+const NOT_A_DOCUMENT: &str =
+    "has a value that is not a document, and encode makes bytes of documents alone";
 
 const MARK: &str = "begins with a byte order mark, which only a named file may";
 
@@ -40,16 +53,15 @@ pub fn rejection_help(
     invocation: &Invocation,
     name: &str,
     head: &[u8],
-    has_double: bool,
+    advice: Option<Advice>,
 ) -> Option<String>
-    ensures { IfSome result (λ line. IsHelpFor invocation.now name.now head.now (string_bytes line)) }
+    ensures { IfSome result (λ line. IsHelpFor invocation.now name.now head.now advice (string_bytes line)) }
 {
     let rejected = Rejected {
         input: invocation.input,
         encodes: invocation.writes_bytes(),
         is_standard: name == STANDARD,
-        has_double,
-        has_more: has_more(alloc, invocation, head),
+        advice,
     };
     let hint = hint_for(rejected, head)?;
     let Ok(words) = words_of(alloc, invocation) else {
@@ -79,37 +91,6 @@ pub fn is_rejected(ended: &Result<Counts, Stop<'_>>) -> bool
                 RunFault::Malformed { .. } | RunFault::FiniteDouble
             )
         }
-        Err(_) => false,
-    }
-}
-
-/// Whether it ended at a finite double that is read without `--strict`.
-pub fn ends_at_double(options: Options, ended: &Result<Counts, Stop<'_>>) -> bool {
-    if options.doubles == Doubles::Finite {
-        return false;
-    }
-    match ended {
-        Err(Stop::Text(_, _, Error::NotExtendedJson(place), _)) => is_double(place),
-        Err(Stop::Document(_, end)) => end.fault == RunFault::FiniteDouble,
-        _ => false,
-    }
-}
-
-// Whether a number is wrong only where the specification alone is read.
-fn is_double(place: &Place) -> bool {
-    match &place.reason {
-        Reason::WrongShape(words) => *words == NUMBER,
-        Reason::BadObjectId(_) => false,
-    }
-}
-
-// Whether the run is strict, and the first bytes are one text and more.
-fn has_more(alloc: Global, invocation: &Invocation, head: &[u8]) -> bool {
-    if invocation.input != Input::Text || invocation.options.doubles == Doubles::Finite {
-        return false;
-    }
-    match stop::Stop::of(alloc, head) {
-        Ok(stop) => stop.rule == Rule::TrailingData,
         Err(_) => false,
     }
 }
@@ -194,7 +175,6 @@ fn tell(alloc: Global, hint: Hint, words: &str) -> Result<String, AllocError>
                 "holds text, and no BSON bytes; './bson lines {words}' reads a document per line"
             )
         }
-        Hint::SeveralTexts => String::from_str(alloc, SEVERAL_TEXTS),
         Hint::LongTexts => {
             format!(in alloc; "has texts over several lines; './bson {words}' reads them")
         }
@@ -214,6 +194,26 @@ fn tell(alloc: Global, hint: Hint, words: &str) -> Result<String, AllocError>
         Hint::Utf16LittleEndian => String::from_str(alloc, UTF_16_LITTLE_ENDIAN),
         Hint::Utf16BigEndian => String::from_str(alloc, UTF_16_BIG_ENDIAN),
         Hint::Mark => String::from_str(alloc, MARK),
-        Hint::Doubles => String::from_str(alloc, "has numbers that are read without --strict"),
+        Hint::Advised(advice) => String::from_str(alloc, advice_text(advice)),
+    }
+}
+
+// What an advice says.
+fn advice_text(advice: Advice) -> &'static str
+    ensures { result.now ≡ advice_text advice }
+{
+    match advice {
+        Advice::Doubles => "has numbers that are read without --strict",
+        Advice::SeveralTexts => "has several texts, which are read without --strict",
+        Advice::Shell => SHELL,
+        Advice::NotFinite => NOT_FINITE,
+        Advice::Names => "has names of Python or JavaScript; JSON has true, false and null",
+        Advice::Comment => "has a comment, and JSON has none; remove it",
+        Advice::OneLine => "has several texts on one line; write each on a line of its own",
+        Advice::ControlCharacter => CONTROL_CHARACTER,
+        Advice::NotUtf8 => NOT_UTF_8,
+        Advice::Legacy => "has Extended JSON v1, which is read with --legacy",
+        Advice::LegacyToEncode => LEGACY_TO_ENCODE,
+        Advice::NotADocument => NOT_A_DOCUMENT,
     }
 }

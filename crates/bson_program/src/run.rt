@@ -4,13 +4,14 @@ ghost use Rattle.bson_run.specs.Lines.{text_held};
 ghost use Rattle.bson_run.specs.Place.{IsWhere};
 ghost use Rattle.bson_program.specs.Stops.{IsTitle, IsUnread, IsUnwritten};
 
+use crate::advice::advice_for;
 use crate::digests::hasher_for;
 use crate::dump::run_dump;
 use crate::invocation::{Input, Invocation, STANDARD};
 use crate::messages::head_of;
 use crate::output::Output;
 use crate::progress::{Counted, Progress, Verdicts};
-use crate::rejected::{ends_at_double, is_rejected, rejection_help};
+use crate::rejected::{is_rejected, rejection_help};
 use crate::streams::{Sink, Source};
 use crate::texts::convert_texts;
 use bson_codec::run_end::RunEnd;
@@ -132,9 +133,15 @@ pub fn run_one<'a>(
         Input::Text => run_text(rt, invocation, name, &mut reader, sink),
         Input::Documents => run_dump(rt, invocation, name, &mut reader, sink, &mut report),
     };
-    let has_double = report.has_double || ends_at_double(invocation.options, &ended);
     if is_rejected(&ended) {
-        if let Some(hint) = rejection_help(rt.alloc(), invocation, name, &reader.head, has_double) {
+        let advice = advice_for(
+            rt.alloc(),
+            invocation,
+            &reader.head,
+            report.has_double,
+            &ended,
+        );
+        if let Some(hint) = rejection_help(rt.alloc(), invocation, name, &reader.head, advice) {
             let _ = hints.push(hint);
         }
     }

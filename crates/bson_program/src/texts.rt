@@ -22,7 +22,7 @@ use std::alloc::{AllocError, Global};
 use std::io::{Read, Write};
 
 /// The first bytes that a named file may have, unless its text has to be canonical.
-const BYTE_ORDER_MARK: &[u8] = b"\xef\xbb\xbf";
+pub const BYTE_ORDER_MARK: &[u8] = b"\xef\xbb\xbf";
 
 /// A text of an input.
 #[derive(Clone, Copy)]
@@ -135,8 +135,8 @@ fn is_sequence(invocation: &Invocation, content: &[u8]) -> bool
     }
 }
 
-// Returns whether several texts are read of an input.
-fn reads_several(doubles: Doubles, task: Task) -> bool
+/// Returns whether several texts are read of an input.
+pub fn reads_several(doubles: Doubles, task: Task) -> bool
     ensures { result ≡ reads_several doubles task }
 {
     match doubles {

@@ -8,10 +8,10 @@ returns-in-Ok-hint_line c = (
     input = c.args.invocation.now.input;
     encodes = c.writes_bytes.result;
     is_standard = c.eq.result;
-    has_double = c.args.has_double;
-    has_more = c.has_more.result;
+    advice = c.args.advice;
   },
   c.in_ok-hint.hint,
+  refl,
   refl,
   sym c.in_ok-hint.ensures,
   c.in-Ok-hint_line.ensures ∙ ap (hint_line c.args.name.now c.in_ok-hint.hint) (c.as_str.ensures.value ∙ c.in-Ok.ensures),
