@@ -137,13 +137,8 @@ fn convert_whole_in_order(
     ensures accepts { (tree : Data) (value : model.Value) → IsTextOf (string_bytes text) tree
         → MeansIn options.doubles tree value → IfErr result (λ fault. fault ≡ Error.OutOfMemory) }
 {
-    let mut scratch = Scratch::new(alloc);
-    if let Some(written) = filter_once(alloc, options, mode, text.as_str(), &mut scratch)? {
-        return end_line(written);
-    }
-    let normalized = normalize(alloc, Arrangement::FirstPlaces, text.as_str())?;
+    let written = text_of_distinct(alloc, options, mode, text.as_str())?;
     drop(text);
-    let written = text_of_distinct(alloc, options, mode, normalized.as_str())?;
     end_line(written)
 }
 
