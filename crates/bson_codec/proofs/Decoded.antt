@@ -17,12 +17,13 @@ use Rattle.bson_model.specs.OrderedWriting.{writes_in_order}
 use Rattle.bson_model.specs.OrderedWritten.{WrittenInOrder}
 use Rattle.bson_model.proofs.OfferedInOrder.{default_written, has_no_float, one_written, ordered_text, written_from}
 use Rattle.bson_model.proofs.OfferedInOrder.{writable_is, written_to}
-use Rattle.bson.specs.Texts.{IsTextInOrder}
+use Rattle.bson.specs.Texts.{IsTextBy, IsTextInOrder}
+use Rattle.bson.specs.declared.extjson.key_order.KeyOrder.TheVariants.{AsGiven}
 use Rattle.bson_bytes.specs.Printed.{IsPrinted}
 use Rattle.bson_codec.specs.Documents.{IsLine, WritesLine}
 use Rattle.bson_codec.specs.Texts.{IsDocumentTextOf}
 use Rattle.bson_codec.specs.Diagnostics.{newline}
-use Rattle.bson_codec.specs.declared.documents.Line.TheVariants.{TextInOrder}
+use Rattle.bson_codec.specs.declared.documents.Line.TheVariants.{Text}
 use Rattle.bson_codec.specs.declared.documents.Run.{Run}
 
 written_tree : (r : Result Data Refusal) → is_ok r ≡ true → (u : Data) × (r ≡ Ok u)
@@ -58,9 +59,9 @@ text_written : (f : Form) (v : Value) (text : List ℕ) → IsTextInOrder Finite
 text_written f v text t = sym (writable_is Finite f v) ∙ ap is_ok (written_to Finite f v t.tree t.written)
 
 -- a line of a dump in its own order, with finite doubles
-pub line_is : (run : Run) (f : Form) (bytes text line : List ℕ) → run.line ≡ TextInOrder f → run.options.doubles ≡ Finite
-    → IsDocumentTextOf f run.depth bytes text → (line ≡ text ++ newline) × IsUtf8 line → IsLine run bytes line
-line_is run f bytes text line form finite decoded is =
+pub line_is : (run : Run) (f : Form) (bytes text line : List ℕ) → run.line ≡ Text f → run.options.doubles ≡ Finite
+    → run.options.key_order ≡ AsGiven → IsDocumentTextOf f run.depth bytes text → (line ≡ text ++ newline) × IsUtf8 line → IsLine run bytes line
+line_is run f bytes text line form finite given decoded is =
     let v = document decoded.pairs in
     let t = decoded.text_in_order in
     record {
@@ -68,7 +69,8 @@ line_is run f bytes text line form finite decoded is =
       read = decoded.read;
       written = subst (λ x. WritesLine run.options x decoded.pairs line) (sym form) (
         subst (λ D. writable_in D v ≡ true) (sym finite) (text_written f v text t),
-        (text, subst (λ D. IsTextInOrder D f v text) (sym finite) t, is.0),
+        (text, subst (λ order. IsTextBy order run.options.doubles f v text) (sym given)
+        (subst (λ D. IsTextInOrder D f v text) (sym finite) t), is.0),
       );
       utf8 = is.1;
     }

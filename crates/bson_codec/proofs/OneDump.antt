@@ -3,10 +3,14 @@ use Rattle.std.proofs.Common.{◌≡◌, ◌≢◌, ◌⊎◌, inl, inr, ℕ, ze
 use Rattle.std.proofs.Common.{Bool, true, false, Result, Ok, Err, ltb, refl, sym, ap, subst, ◌∙◌, append_assoc, arith}
 use Rattle.std.proofs.lemmas.Bool.{ltb-false, ltb-true}
 use Rattle.std.proofs.lemmas.List.{append-nil, length-append, nil_from_length}
-use Rattle.bson.specs.Texts.{IsTextInOrder, IsTextUnder}
+use Rattle.bson.specs.Texts.{IsTextBy}
+use Rattle.bson.specs.declared.extjson.key_order.KeyOrder.{KeyOrder}
+use Rattle.bson.specs.declared.extjson.key_order.KeyOrder.TheVariants.{Ascending, AsGiven}
 use Rattle.bson.specs.declared.extjson.options.Options.{Options}
 use Rattle.bson_scalar.specs.TreeText.{tree_text}
-use Rattle.bson_model.specs.Value.{Pairs}
+use Rattle.bson_scalar.specs.declared.form.Doubles.{Doubles}
+use Rattle.bson_scalar.specs.declared.form.Form.{Form}
+use Rattle.bson_model.specs.Value.{Pairs, Value, document}
 use Rattle.bson_bytes.proofs.Offered.{size_again}
 use Rattle.bson_bytes.specs.Reading.{reads_bytes, size_at}
 use Rattle.bson_codec.proofs.Justified.{faultless, no_line, read_one}
@@ -18,7 +22,7 @@ use Rattle.bson_codec.specs.Documents.{IsPassedOver, IsUnwritable, WritesLine}
 use Rattle.bson_codec.specs.Streams.{front_of}
 use Rattle.bson_codec.specs.Diagnostics.{newline, diagnostic_of}
 use Rattle.bson_codec.specs.declared.documents.Line.{Line}
-use Rattle.bson_codec.specs.declared.documents.Line.TheVariants.{Text, TextInOrder, Shown, Nothing}
+use Rattle.bson_codec.specs.declared.documents.Line.TheVariants.{Text, Shown, Nothing}
 use Rattle.bson_codec.specs.declared.documents.Run.{Run}
 use Rattle.bson_codec.specs.declared.run_end.RunFault.{RunFault}
 use Rattle.bson_codec.specs.declared.run_end.RunFault.TheVariants.{Malformed, FiniteDouble, CannotRead, CannotWrite}
@@ -31,15 +35,17 @@ line_length run bytes line h =
     let s = sized h.read.grammar in
     (s.body, ap size_at s.whole ∙ size_again (length bytes) s.body s.small)
 
+one_text : (order : KeyOrder) (D : Doubles) (f : Form) (v : Value) (s t : List ℕ) → IsTextBy order D f v s
+    → IsTextBy order D f v t → s ≡ t
+one_text Ascending D f v s t is are =
+    is.compact ∙ ap (tree_text D f) (sym (is.is_tree.one are.tree are.is_tree.written)) ∙ sym are.compact
+one_text AsGiven D f v s t is are =
+    is.compact ∙ ap (tree_text D f) (sym (is.one are.tree are.written)) ∙ sym are.compact
+
 one_write : (o : Options) (line : Line) (ps : Pairs) (a b : List ℕ) → WritesLine o line ps a → WritesLine o line ps b
     → a ≡ b
 one_write o (Text f) ps a b (w, (s, is, e)) (v, (t, are, g)) =
-    let same : s ≡ t = is.compact ∙ ap (tree_text o.doubles f) (sym (is.is_tree.one are.tree are.is_tree.written))
-    ∙ sym are.compact in
-    e ∙ ap (λ (x : List ℕ). x ++ newline) same ∙ sym g
-one_write o (TextInOrder f) ps a b (w, (s, is, e)) (v, (t, are, g)) =
-    let same : s ≡ t = is.compact ∙ ap (tree_text o.doubles f) (sym (is.one are.tree are.written)) ∙ sym are.compact in
-    e ∙ ap (λ (x : List ℕ). x ++ newline) same ∙ sym g
+    e ∙ ap (λ (x : List ℕ). x ++ newline) (one_text o.key_order o.doubles f (document ps) s t is are) ∙ sym g
 one_write o Shown ps a b h k = h ∙ sym k
 one_write o Nothing ps a b h k = h ∙ sym k
 
@@ -51,7 +57,6 @@ one_line run bytes a b h k =
 
 has_text : (o : Options) (line : Line) (ps : Pairs) (a : List ℕ) → WritesLine o line ps a → IsUnwritable o line ps → ⊥
 has_text o (Text f) ps a h u = let w = h.0 in absurd cc
-has_text o (TextInOrder f) ps a h u = let w = h.0 in absurd cc
 has_text o Shown ps a h u = u
 has_text o Nothing ps a h u = u
 

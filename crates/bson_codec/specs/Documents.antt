@@ -3,7 +3,7 @@ use Rattle.std.specs.Prelude.{◌≡◌, ◌≢◌, ◌⊎◌, ◌+◌, ℕ, Lis
 use Rattle.std.specs.Io.{StartsWith}
 use Rattle.std.specs.Io.KnownBytes.{Appends, Consumes, IsAtEnd, Keeps}
 use Rattle.bson.specs.declared.extjson.options.Options.{Options}
-use Rattle.bson.specs.Texts.{IsTextInOrder, IsTextUnder}
+use Rattle.bson.specs.Texts.{IsTextBy}
 use Rattle.bson_scalar.specs.declared.form.Form.{Form}
 use Rattle.bson_model.specs.Displayed.{display_text}
 use Rattle.bson_model.specs.Normal.{writable_in}
@@ -16,7 +16,7 @@ use Rattle.bson_codec.specs.Diagnostics.{newline, diagnostic_of}
 use Rattle.bson_codec.specs.declared.de.Error.{Error}
 use Rattle.bson_codec.specs.declared.de.Error.TheVariants as errors
 use Rattle.bson_codec.specs.declared.documents.Line.{Line}
-use Rattle.bson_codec.specs.declared.documents.Line.TheVariants.{Text, TextInOrder, Shown, Nothing}
+use Rattle.bson_codec.specs.declared.documents.Line.TheVariants.{Text, Shown, Nothing}
 use Rattle.bson_codec.specs.declared.documents.Run.{Run}
 use Rattle.bson_codec.specs.declared.run_end.RunFault.{RunFault}
 use Rattle.bson_codec.specs.declared.run_end.RunFault.TheVariants.{Malformed, FiniteDouble, CannotRead, CannotWrite}
@@ -27,9 +27,7 @@ use Rattle.bson_codec.specs.declared.run_end.RunFault.TheVariants.{OutOfMemory}
 -- what is written of the document: the text of one that has a text, and a newline; or nothing
 abbrev pub WritesLine : Options → Line → Pairs → List ℕ → Type 0
 WritesLine o (Text f) ps line = (writable_in o.doubles (document ps) ≡ true)
-    × ((text : List ℕ) × IsTextUnder o.doubles f (document ps) text × (line ≡ text ++ newline))
-WritesLine o (TextInOrder f) ps line = (writable_in o.doubles (document ps) ≡ true)
-    × ((text : List ℕ) × IsTextInOrder o.doubles f (document ps) text × (line ≡ text ++ newline))
+    × ((text : List ℕ) × IsTextBy o.key_order o.doubles f (document ps) text × (line ≡ text ++ newline))
 WritesLine o Shown ps line = line ≡ display_text (document ps) ++ newline
 WritesLine o Nothing ps line = line ≡ []
 
@@ -43,7 +41,6 @@ pub record IsLine (run : Run) (bytes line : List ℕ) : Type 0 where
 -- the document has no text in a form
 abbrev pub IsUnwritable : Options → Line → Pairs → Type 0
 IsUnwritable o (Text f) ps = writable_in o.doubles (document ps) ≡ false
-IsUnwritable o (TextInOrder f) ps = writable_in o.doubles (document ps) ≡ false
 IsUnwritable o line ps = ⊥
 
 -- of the bytes nothing can be written, for the fault

@@ -7,11 +7,12 @@ ghost use Rattle.bson_bytes.specs.Laws.{IsRead};
 ghost use Rattle.bson.specs.View.{document_view};
 ghost use Rattle.bson.specs.Doubles.TheVariants.{Special};
 ghost use Rattle.bson.specs.Form.TheVariants.{Canonical};
+ghost use Rattle.bson.specs.declared.extjson.key_order.KeyOrder.TheVariants.{AsGiven, Ascending};
 ghost use Rattle.bson_codec.specs.Documents.{BeginsWithLength, DoneDocuments, EndsAt, IsHandled, IsConversionFault};
 ghost use Rattle.bson_codec.specs.Documents.{IsJustified, IsLine, IsOfBytes, IsUnhandled, IsUntold, IsLineFault};
 ghost use Rattle.bson_codec.specs.Documents.{WritesLine, run_fault};
 ghost use Rattle.bson_codec.specs.Diagnostics.{newline, diagnostic_of};
-ghost use Rattle.bson_codec.specs.declared.documents.Line.TheVariants.{Text, TextInOrder};
+ghost use Rattle.bson_codec.specs.declared.documents.Line.TheVariants.{Text};
 ghost use Rattle.bson_codec.specs.declared.documents.Run.{Run};
 ghost use Rattle.bson_codec.specs.declared.run_end.RunFault.TheVariants.{CannotRead, OutOfMemory};
 
@@ -45,10 +46,8 @@ const MOST: u64 = u64::MAX - 1;
 /// ```
 #[derive(Clone, Copy, PartialEq, Eq, Debug)]
 pub enum Line {
-    /// A line of Extended JSON in this form, with keys in ascending order.
+    /// A line of Extended JSON in this form, with keys in the order of the options.
     Text(Form),
-    /// A line of Extended JSON in this form, with the keys of each document in its own order.
-    TextInOrder(Form),
     /// A line with the output of `Display`.
     Shown,
     /// Nothing: the document is only checked.
@@ -68,7 +67,7 @@ pub enum Line {
 pub struct Run {
     /// The number of levels to which documents, arrays and scopes may nest.
     pub depth: usize,
-    /// Whether finite doubles are accepted. The order of keys is that of `line`.
+    /// Whether finite doubles are accepted, and the order of keys in Extended JSON.
     pub options: Options,
     /// What is written for each document.
     pub line: Line,
@@ -80,7 +79,7 @@ pub struct Run {
 impl Default for Run {
     fn default() -> Run
         ensures depth { result.depth ≡ DEPTH }
-        ensures options { result.options.doubles ≡ Special }
+        ensures options { (result.options.doubles ≡ Special) × (result.options.key_order ≡ Ascending) }
         ensures line { result.line ≡ Text Canonical }
         ensures keep_going { result.keep_going ≡ false }
     {
@@ -240,8 +239,7 @@ fn line_of(alloc: Global, run: Run, bytes: &[u8]) -> Result<Vec<u8>, RunFault>
     ensures fault { IfErr result (λ e. IsConversionFault e run bytes.now) }
 {
     match run.line {
-        Line::Text(form) => text_line(alloc, run, form, read(alloc, run, bytes)?),
-        Line::TextInOrder(form) => ordered_line(alloc, run, form, bytes),
+        Line::Text(form) => text_line(alloc, run, form, bytes),
         Line::Shown => shown_line(alloc, read(alloc, run, bytes)?),
         Line::Nothing => match is_document(bytes, run.depth) {
             Ok(()) => Ok(Vec::new(alloc)),
@@ -261,27 +259,22 @@ fn read(alloc: Global, run: Run, bytes: &[u8]) -> Result<Document, RunFault>
     }
 }
 
-// Returns the document's line with keys in ascending order.
-fn text_line(alloc: Global, run: Run, form: Form, document: Document) -> Result<Vec<u8>, RunFault>
-    ensures ok { IfOk result
-        (λ line. WritesLine run.options (Text form) (document_view document) line.items × IsUtf8 line.items) }
-    ensures fault { IfErr result (λ e. IsLineFault e run.options (Text form) (document_view document)) }
+// Returns the line in the form of the document that the bytes are.
+fn text_line(alloc: Global, run: Run, form: Form, bytes: &[u8]) -> Result<Vec<u8>, RunFault>
+    requires { run.line ≡ Text form }
+    ensures ok { IfOk result (λ line. IsLine run bytes.now line.items) }
+    ensures fault { IfErr result (λ e. IsConversionFault e run bytes.now) }
 {
-    let sorted = Options {
-        key_order: KeyOrder::Ascending,
-        ..run.options
-    };
-    match Bson::Document(document).into_text(alloc, sorted, form) {
-        Ok(text) => end_line(text),
-        Err(WriteError::FiniteDouble) => Err(RunFault::FiniteDouble),
-        Err(WriteError::OutOfMemory) => Err(RunFault::OutOfMemory),
+    match run.options.key_order {
+        KeyOrder::Ascending => value_line(alloc, run, form, read(alloc, run, bytes)?),
+        KeyOrder::AsGiven => ordered_line(alloc, run, form, bytes),
     }
 }
 
 // The text in the form, with the keys in their own order, of the document that the bytes are, and a
 // newline. With finite doubles it needs no document in memory.
 fn ordered_line(alloc: Global, run: Run, form: Form, bytes: &[u8]) -> Result<Vec<u8>, RunFault>
-    requires { run.line ≡ TextInOrder form }
+    requires { (run.line ≡ Text form) × (run.options.key_order ≡ AsGiven) }
     ensures ok { IfOk result (λ line. IsLine run bytes.now line.items) }
     ensures fault { IfErr result (λ e. IsConversionFault e run bytes.now) }
 {
@@ -304,17 +297,13 @@ fn fault_of(error: Error) -> RunFault
     }
 }
 
-// Returns the line of the document in the form, with its keys in their own order.
+// Returns the line of the document in the form.
 fn value_line(alloc: Global, run: Run, form: Form, document: Document) -> Result<Vec<u8>, RunFault>
     ensures ok { IfOk result
-        (λ line. WritesLine run.options (TextInOrder form) (document_view document) line.items × IsUtf8 line.items) }
-    ensures fault { IfErr result (λ e. IsLineFault e run.options (TextInOrder form) (document_view document)) }
+        (λ line. WritesLine run.options (Text form) (document_view document) line.items × IsUtf8 line.items) }
+    ensures fault { IfErr result (λ e. IsLineFault e run.options (Text form) (document_view document)) }
 {
-    let ordered = Options {
-        key_order: KeyOrder::AsGiven,
-        ..run.options
-    };
-    match Bson::Document(document).into_text(alloc, ordered, form) {
+    match Bson::Document(document).into_text(alloc, run.options, form) {
         Ok(text) => end_line(text),
         Err(WriteError::FiniteDouble) => Err(RunFault::FiniteDouble),
         Err(WriteError::OutOfMemory) => Err(RunFault::OutOfMemory),

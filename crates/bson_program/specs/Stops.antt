@@ -5,10 +5,7 @@ use Rattle.std.specs.declared.alloc.Global.{Global}
 use Rattle.std.specs.declared.io.Error.{Error}
 use Rattle.bson_codec.specs.declared.documents.Line as documents
 use Rattle.bson_codec.specs.declared.documents.Line.TheVariants as line
-use Rattle.bson.specs.Form.{Form}
 use Rattle.bson.specs.Form.TheVariants as forms
-use Rattle.bson.specs.declared.extjson.key_order.KeyOrder.{KeyOrder}
-use Rattle.bson.specs.declared.extjson.key_order.KeyOrder.TheVariants.{Ascending, AsGiven}
 use Rattle.bson_convert.specs.declared.mode.Mode.TheVariants.{Canonical, Relaxed, Show}
 use Rattle.bson_run.specs.declared.order.Task.{Task}
 use Rattle.bson_run.specs.declared.order.Task.TheVariants as task
@@ -45,17 +42,12 @@ reported_under (Some name) verdicts = all_under (string_bytes name) verdicts
 
 -- ---- documents
 
--- the text of each document in the form, with its keys in the order
-abbrev pub form_line : KeyOrder → Form → documents.Line
-form_line Ascending form = line.Text form
-form_line AsGiven form = line.TextInOrder form
-
 -- what is written of each document: its text in the mode, what Display has of it, or nothing
-abbrev pub document_line : KeyOrder → Task → documents.Line
-document_line order (task.Write Canonical) = form_line order forms.Canonical
-document_line order (task.Write Relaxed) = form_line order forms.Relaxed
-document_line order (task.Write Show) = line.Shown
-document_line order other = line.Nothing
+abbrev pub document_line : Task → documents.Line
+document_line (task.Write Canonical) = line.Text forms.Canonical
+document_line (task.Write Relaxed) = line.Text forms.Relaxed
+document_line (task.Write Show) = line.Shown
+document_line other = line.Nothing
 
 -- ---- files
 

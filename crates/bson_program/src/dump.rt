@@ -5,13 +5,13 @@ ghost use Rattle.std.specs.Io.KnownBytes.{Appends};
 ghost use Rattle.bson_codec.specs.Documents.{EndsAt, IsOfBytes};
 ghost use Rattle.bson_codec.specs.Diagnostics.{diagnostic_of};
 ghost use Rattle.bson_program.specs.Dump.{IsDoneDump};
-ghost use Rattle.bson_program.specs.Stops.{form_line, document_line};
+ghost use Rattle.bson_program.specs.Stops.{document_line};
 
 use crate::invocation::Invocation;
 use crate::progress::{Counted, Verdicts};
 use crate::run::{Stop, write_stop};
 use crate::streams::{Sink, Source};
-use bson::extjson::{Form, KeyOrder};
+use bson::extjson::Form;
 use bson_codec::de::DEPTH;
 use bson_codec::documents::{DocumentCounts, Line, Run, run_documents};
 use bson_codec::run_end::{RunEnd, RunFault};
@@ -52,37 +52,27 @@ pub fn run_dump<'a>(
 fn run_of(invocation: &Invocation) -> Run
     ensures depth { result.depth ≡ DEPTH }
     ensures options { result.options ≡ invocation.now.options }
-    ensures line { result.line ≡ document_line invocation.now.options.key_order invocation.now.task }
+    ensures line { result.line ≡ document_line invocation.now.task }
     ensures refusal { IsTrue result.keep_going ↔ (invocation.now.on_refusal ≡ OnRefusal.KeepGoing) }
 {
     Run {
         depth: DEPTH,
         options: invocation.options,
-        line: document_line(invocation.options.key_order, invocation.task),
+        line: document_line(invocation.task),
         keep_going: invocation.on_refusal == OnRefusal::KeepGoing,
     }
 }
 
 // What is written of each document.
-fn document_line(order: KeyOrder, task: Task) -> Line
-    ensures { result ≡ document_line order task }
+fn document_line(task: Task) -> Line
+    ensures { result ≡ document_line task }
 {
     match task {
-        Task::Write(Mode::Canonical) => form_line(order, Form::Canonical),
-        Task::Write(Mode::Relaxed) => form_line(order, Form::Relaxed),
+        Task::Write(Mode::Canonical) => Line::Text(Form::Canonical),
+        Task::Write(Mode::Relaxed) => Line::Text(Form::Relaxed),
         Task::Write(Mode::Show) => Line::Shown,
         // (bytes are made of texts alone)
         Task::Check(_) | Task::Encode | Task::Preprocessed(..) => Line::Nothing,
-    }
-}
-
-// Its text in the form, with its keys in the order.
-fn form_line(order: KeyOrder, form: Form) -> Line
-    ensures { result ≡ form_line order form }
-{
-    match order {
-        KeyOrder::Ascending => Line::Text(form),
-        KeyOrder::AsGiven => Line::TextInOrder(form),
     }
 }
 

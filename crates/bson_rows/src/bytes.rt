@@ -125,18 +125,20 @@ fn going_on() -> Run {
 /// `LINE BYTES`: a run that goes on, with finite doubles, and writes this of each document.
 fn dump(alloc: Global, text: &str, out: &mut Answer) -> Outcome {
     let (line, bytes) = cut(text);
+    let (line, key_order) = match line.strip_suffix("_in_order") {
+        Some(line) => (line, KeyOrder::AsGiven),
+        None => (line, KeyOrder::Ascending),
+    };
     let line = match line {
         "canonical" => Line::Text(Form::Canonical),
         "relaxed" => Line::Text(Form::Relaxed),
-        "canonical_in_order" => Line::TextInOrder(Form::Canonical),
-        "relaxed_in_order" => Line::TextInOrder(Form::Relaxed),
         "show" => Line::Shown,
         "check" => Line::Nothing,
         _ => return Err(Stop::NotUnderstood),
     };
     let options = Options {
         doubles: Doubles::Finite,
-        key_order: KeyOrder::Ascending,
+        key_order,
     };
     let run_of_it = Run {
         options,

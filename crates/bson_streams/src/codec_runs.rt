@@ -51,13 +51,14 @@ fn document_of(alloc: Global, text: &[u8]) -> Option<Document> {
 pub(crate) fn documents(
     alloc: Global,
     line: Line,
+    key_order: KeyOrder,
     on_refusal: OnRefusal,
     ends: &mut Ends<'_>,
 ) -> Result<String, AllocError> {
     let run = Run {
         options: Options {
             doubles: Doubles::Finite,
-            key_order: KeyOrder::Ascending,
+            key_order,
         },
         line,
         keep_going: on_refusal == OnRefusal::KeepGoing,

@@ -1,6 +1,6 @@
 //! What a line orders.
 use crate::failing::End;
-use bson::extjson::Form;
+use bson::extjson::{Form, KeyOrder};
 use bson_codec::documents::Line;
 use bson_convert::mode::Mode;
 use bson_run::order::{OnRefusal, Task};
@@ -16,7 +16,7 @@ pub(crate) enum Call {
     RunLines(Task, OnRefusal),
     FromReader,
     ToWriter,
-    RunDocuments(Line, OnRefusal),
+    RunDocuments(Line, KeyOrder, OnRefusal),
 }
 
 /// A line `CALL PIECE READS WRITES REPORTS END`.
@@ -67,7 +67,11 @@ fn call_of(word: &str) -> Option<Call> {
         }
         "documents" => {
             let (line, on_refusal) = rest.split_once(':')?;
-            Some(Call::RunDocuments(line_of(line)?, on_refusal_of(on_refusal)?))
+            let (line, order) = match line.strip_suffix("_in_order") {
+                Some(line) => (line, KeyOrder::AsGiven),
+                None => (line, KeyOrder::Ascending),
+            };
+            Some(Call::RunDocuments(line_of(line)?, order, on_refusal_of(on_refusal)?))
         }
         _ => None,
     }
@@ -78,8 +82,6 @@ fn line_of(word: &str) -> Option<Line> {
     match word {
         "canonical" => Some(Line::Text(Form::Canonical)),
         "relaxed" => Some(Line::Text(Form::Relaxed)),
-        "canonical_in_order" => Some(Line::TextInOrder(Form::Canonical)),
-        "relaxed_in_order" => Some(Line::TextInOrder(Form::Relaxed)),
         "show" => Some(Line::Shown),
         "check" => Some(Line::Nothing),
         _ => None,

@@ -63,8 +63,8 @@ pub(crate) fn ran(alloc: Global, order: Order, input: &[u8]) -> Result<Vec<u8>, 
         Call::RunLines(task, on_refusal) => by_lines(alloc, task, on_refusal, &mut ends)?,
         Call::FromReader => codec_runs::read(alloc, &mut ends)?,
         Call::ToWriter => codec_runs::write_document(alloc, input, &mut ends)?,
-        Call::RunDocuments(line, on_refusal) => {
-            codec_runs::documents(alloc, line, on_refusal, &mut ends)?
+        Call::RunDocuments(line, order, on_refusal) => {
+            codec_runs::documents(alloc, line, order, on_refusal, &mut ends)?
         }
     };
     tell(

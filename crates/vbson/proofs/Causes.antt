@@ -76,9 +76,9 @@ no_cause o status text late = record {
 }
 
 -- a status up to 5 says nothing of what has one
-no_meaning : (k : KeyOrder) (o : Options) (status : ℕ) (text : List ℕ) → IsCauseIn o status text → 2 ≤ status
-    → status ≤ 5 → IsUnencoded k o status text
-no_meaning k o status text cause least most = record {
+no_meaning : (o : Options) (status : ℕ) (text : List ℕ) → IsCauseIn o status text → 2 ≤ status
+    → status ≤ 5 → IsUnencoded o status text
+no_meaning o status text cause least most = record {
   cause = cause;
   no_document = λ is. absurd (omega (arith, most, is));
   zero_key = λ is. absurd (omega (arith, most, is));
@@ -91,21 +91,21 @@ pub reason_status : (r : Reason) → (2 ≤ status_for r) × (status_for r ≤ 5
 reason_status (BadObjectId e) = (omega arith, omega arith)
 reason_status (WrongShape message) = (omega arith, omega arith)
 
-refused : (k : KeyOrder) (o : Options) (fault : Error) (text : List ℕ) → IsRefusedIn o fault text
-    → IsUnencoded k o (status_of fault) text
-refused k o CannotRead text h = absurd h
-refused k o NotJson text h = no_meaning k o 2 text (causes o NotJson text h) (omega arith) (omega arith)
-refused k o (NotExtendedJson place) text h =
+refused : (o : Options) (fault : Error) (text : List ℕ) → IsRefusedIn o fault text
+    → IsUnencoded o (status_of fault) text
+refused o CannotRead text h = absurd h
+refused o NotJson text h = no_meaning o 2 text (causes o NotJson text h) (omega arith) (omega arith)
+refused o (NotExtendedJson place) text h =
     let r = reason_status place.reason in
-    no_meaning k o (status_for place.reason) text (causes o (NotExtendedJson place) text h) r.0 r.1
-refused k o (NoBytes why) text h = absurd h
-refused k o (NotCanonical column) text h = absurd h
-refused k o OutOfMemory text h = no_meaning k o 5 text (causes o OutOfMemory text h) (omega arith) (omega arith)
-refused k o CannotWrite text h = absurd h
+    no_meaning o (status_for place.reason) text (causes o (NotExtendedJson place) text h) r.0 r.1
+refused o (NoBytes why) text h = absurd h
+refused o (NotCanonical column) text h = absurd h
+refused o OutOfMemory text h = no_meaning o 5 text (causes o OutOfMemory text h) (omega arith) (omega arith)
+refused o CannotWrite text h = absurd h
 
-without_bytes : (k : KeyOrder) (o : Options) (why : without.NoBytes) (text : List ℕ)
-    → HasNoBytesBy k o why text → IsUnencoded k o (status_without why) text
-without_bytes k o NoDocument text h = record {
+without_bytes : (o : Options) (why : without.NoBytes) (text : List ℕ)
+    → HasNoBytesBy o.key_order o why text → IsUnencoded o (status_without why) text
+without_bytes o NoDocument text h = record {
   cause = no_cause o 10 text (omega arith);
   no_document = λ is. h;
   zero_key = λ is. absurd (omega (arith, is));
@@ -113,7 +113,7 @@ without_bytes k o NoDocument text h = record {
   long = λ is. absurd (omega (arith, is));
   listed = inr (omega arith, omega arith);
 }
-without_bytes k o ZeroInKey text h = record {
+without_bytes o ZeroInKey text h = record {
   cause = no_cause o 11 text (omega arith);
   no_document = λ is. absurd (omega (arith, is));
   zero_key = λ is. h;
@@ -121,7 +121,7 @@ without_bytes k o ZeroInKey text h = record {
   long = λ is. absurd (omega (arith, is));
   listed = inr (omega arith, omega arith);
 }
-without_bytes k o ZeroInRegex text h = record {
+without_bytes o ZeroInRegex text h = record {
   cause = no_cause o 12 text (omega arith);
   no_document = λ is. absurd (omega (arith, is));
   zero_key = λ is. absurd (omega (arith, is));
@@ -129,7 +129,7 @@ without_bytes k o ZeroInRegex text h = record {
   long = λ is. absurd (omega (arith, is));
   listed = inr (omega arith, omega arith);
 }
-without_bytes k o TooLong text h = record {
+without_bytes o TooLong text h = record {
   cause = no_cause o 13 text (omega arith);
   no_document = λ is. absurd (omega (arith, is));
   zero_key = λ is. absurd (omega (arith, is));
@@ -139,23 +139,23 @@ without_bytes k o TooLong text h = record {
 }
 
 -- what the status of the fault says of the text
-pub unencoded : (k : KeyOrder) (o : Options) (fault : Error) (text : List ℕ) → IsUnencodedBy k o fault text
-    → IsUnencoded k o (status_of fault) text
-unencoded k o CannotRead text h = absurd h
-unencoded k o NotJson text h = refused k o NotJson text h
-unencoded k o (NotExtendedJson place) text h = refused k o (NotExtendedJson place) text h
-unencoded k o (NoBytes why) text h = without_bytes k o why text h
-unencoded k o (NotCanonical column) text h = absurd h
-unencoded k o OutOfMemory text h = refused k o OutOfMemory text h
-unencoded k o CannotWrite text h = absurd h
+pub unencoded : (o : Options) (fault : Error) (text : List ℕ) → IsUnencodedBy o.key_order o fault text
+    → IsUnencoded o (status_of fault) text
+unencoded o CannotRead text h = absurd h
+unencoded o NotJson text h = refused o NotJson text h
+unencoded o (NotExtendedJson place) text h = refused o (NotExtendedJson place) text h
+unencoded o (NoBytes why) text h = without_bytes o why text h
+unencoded o (NotCanonical column) text h = absurd h
+unencoded o OutOfMemory text h = refused o OutOfMemory text h
+unencoded o CannotWrite text h = absurd h
 
 -- a text that gives no bytes has the fault of a text
-pub of_text : (k : KeyOrder) (o : Options) (fault : Error) (text : List ℕ) → IsUnencodedBy k o fault text
+pub of_text : (o : Options) (fault : Error) (text : List ℕ) → IsUnencodedBy o.key_order o fault text
     → IsTextError fault
-of_text k o NotJson text h = tt
-of_text k o (NotExtendedJson place) text h = tt
-of_text k o (NoBytes why) text h = tt
-of_text k o (NotCanonical column) text h = tt
-of_text k o OutOfMemory text h = tt
-of_text k o CannotRead text h = absurd h
-of_text k o CannotWrite text h = absurd h
+of_text o NotJson text h = tt
+of_text o (NotExtendedJson place) text h = tt
+of_text o (NoBytes why) text h = tt
+of_text o (NotCanonical column) text h = tt
+of_text o OutOfMemory text h = tt
+of_text o CannotRead text h = absurd h
+of_text o CannotWrite text h = absurd h

@@ -10,7 +10,7 @@ use Rattle.bson.specs.Form.TheVariants as form
 use Rattle.bson.specs.OrderedTexts.{HasMeaningInOrder}
 use Rattle.bson.specs.TextMeaning.{HasTextMeaningIn}
 use Rattle.bson.specs.TextMeaning as meaning
-use Rattle.bson.specs.Texts.{IsTextInOrder}
+use Rattle.bson.specs.Texts.{IsTextBy, IsTextInOrder}
 use Rattle.bson.specs.View.{bson_view, document_view}
 use Rattle.bson.specs.declared.bson.Bson.{the_lemmas}
 use Rattle.bson.specs.declared.bson.Bson.TheVariants.{Document as held}
@@ -26,7 +26,7 @@ use Rattle.bson_model.specs.Sorted.{sorted}
 use Rattle.bson_model.specs.Value.{Value, Pairs, document}
 use Rattle.bson_convert.specs.declared.mode.Mode.{Mode}
 use Rattle.bson_convert.specs.declared.mode.Mode.TheVariants.{Canonical, Relaxed, Show}
-use Rattle.vbson.specs.Documents.{Decodes, HasNoTextIn, IsOneDocument, IsUndecoded, depth, direct_form, form_in, form_under}
+use Rattle.vbson.specs.Documents.{Decodes, HasNoTextIn, IsOneDocument, IsUndecoded, depth, direct_form, direct_form_by, form_in}
 use Rattle.bson.specs.declared.extjson.key_order.KeyOrder.{KeyOrder}
 use Rattle.bson.specs.declared.extjson.key_order.KeyOrder.TheVariants.{Ascending, AsGiven}
 
@@ -81,35 +81,40 @@ unread o mode status bytes (inr (ten, none)) =
     subst (λ n. IsUndecoded o mode n bytes) (sym ten) (no_document o mode bytes none)
 
 -- the text that is written while the bytes are read is that of the document
-in_form : (o : Options) (mode : Mode) (f : Form) (bytes text : List ℕ) → o.doubles ≡ Finite → form_in mode ≡ Some f
-    → IsDocumentTextOf f depth bytes text → Decodes AsGiven o mode bytes text
-in_form o Canonical f bytes text finite is it =
-    let same : f ≡ form.Canonical = cc in
-    record {
-      pairs = it.pairs;
-      read = it.read;
-      written = subst (λ D. IsTextInOrder D form.Canonical (document it.pairs) text) (sym finite)
-          (subst (λ g. IsTextInOrder Finite g (document it.pairs) text) same it.text_in_order);
-    }
-in_form o Relaxed f bytes text finite is it =
-    let same : f ≡ form.Relaxed = cc in
-    record {
-      pairs = it.pairs;
-      read = it.read;
-      written = subst (λ D. IsTextInOrder D form.Relaxed (document it.pairs) text) (sym finite)
-          (subst (λ g. IsTextInOrder Finite g (document it.pairs) text) same it.text_in_order);
-    }
-in_form o Show f bytes text finite is it = absurd cc
+module _ (o : Options) (bytes text : List ℕ) (given : o.key_order ≡ AsGiven) (finite : o.doubles ≡ Finite) where
+  under_options : (f : Form) (v : Value) → IsTextInOrder Finite f v text → IsTextBy o.key_order o.doubles f v text
+  under_options f v is =
+      subst (λ k. IsTextBy k o.doubles f v text) (sym given) (subst (λ D. IsTextInOrder D f v text) (sym finite) is)
 
-under_doubles : (o : Options) (D : Doubles) (mode : Mode) (f : Form) (bytes text : List ℕ) → o.doubles ≡ D
-    → form_under D mode ≡ Some f → IsDocumentTextOf f depth bytes text → Decodes AsGiven o mode bytes text
-under_doubles o Special mode f bytes text is given it = absurd cc
-under_doubles o Finite mode f bytes text is given it = in_form o mode f bytes text is given it
+  in_form : (mode : Mode) (f : Form) → form_in mode ≡ Some f → IsDocumentTextOf f depth bytes text → Decodes o mode bytes text
+  in_form Canonical f is it =
+      let same : f ≡ form.Canonical = cc in
+      record {
+        pairs = it.pairs;
+        read = it.read;
+        written = under_options form.Canonical (document it.pairs)
+            (subst (λ g. IsTextInOrder Finite g (document it.pairs) text) same it.text_in_order);
+      }
+  in_form Relaxed f is it =
+      let same : f ≡ form.Relaxed = cc in
+      record {
+        pairs = it.pairs;
+        read = it.read;
+        written = under_options form.Relaxed (document it.pairs)
+            (subst (λ g. IsTextInOrder Finite g (document it.pairs) text) same it.text_in_order);
+      }
+  in_form Show f is it = absurd cc
 
-pub directly : (k : KeyOrder) (o : Options) (mode : Mode) (f : Form) (bytes text : List ℕ)
-    → direct_form k o mode ≡ Some f → IsDocumentTextOf f depth bytes text → Decodes k o mode bytes text
-directly Ascending o mode f bytes text given it = absurd cc
-directly AsGiven o mode f bytes text given it = under_doubles o o.doubles mode f bytes text refl given it
+by_options : (o : Options) (order : KeyOrder) (D : Doubles) (mode : Mode) (f : Form) (bytes text : List ℕ)
+    → o.key_order ≡ order → o.doubles ≡ D → direct_form_by order D mode ≡ Some f → IsDocumentTextOf f depth bytes text
+    → Decodes o mode bytes text
+by_options o Ascending D mode f bytes text given is form it = absurd cc
+by_options o AsGiven Special mode f bytes text given is form it = absurd cc
+by_options o AsGiven Finite mode f bytes text given is form it = in_form o bytes text given is mode f form it
+
+pub directly : (o : Options) (mode : Mode) (f : Form) (bytes text : List ℕ) → direct_form o mode ≡ Some f
+    → IsDocumentTextOf f depth bytes text → Decodes o mode bytes text
+directly o mode f bytes text given it = by_options o o.key_order o.doubles mode f bytes text refl refl given it
 
 -- ---- texts
 

@@ -39,13 +39,13 @@ options_of_flags options = record {
 
 -- the line that the input is converted to in the mode of the number, with a NUL in place of its newline: it is UTF-8, and
 -- in a form it is accepted again, with itself as its output
-pub record IsConvertedBy (k : KeyOrder) (o : Options) (number : ℕ) (input : List ℕ) (out : Text) : Type 0 where
+pub record IsConvertedBy (o : Options) (number : ℕ) (input : List ℕ) (out : Text) : Type 0 where
   pub mode : Mode
   pub named : mode_at number ≡ Some mode
   pub text : List ℕ
-  pub converts : ConvertsBy k o mode input (text ++ newline)
+  pub converts : ConvertsBy o.key_order o mode input (text ++ newline)
   pub utf8 : IsUtf8 (text ++ newline)
-  pub again : IsKeptBy k o mode (text ++ newline)
+  pub again : IsKeptBy o.key_order o mode (text ++ newline)
   pub is_text : IsOwnedText text out
 
 -- the text of an object id alone is wrong

@@ -32,10 +32,10 @@ IsOneDocument bytes = (ps : Pairs) × IsRead depth bytes ps
 -- ---- from bytes to a text
 
 -- the text of the document in the mode; what is shown has the document's own order in any case
-abbrev pub IsTextOfDocument : KeyOrder → Options → Mode → Pairs → List ℕ → Type 0
-IsTextOfDocument k o Canonical ps text = IsTextBy k o.doubles form.Canonical (document ps) text
-IsTextOfDocument k o Relaxed ps text = IsTextBy k o.doubles form.Relaxed (document ps) text
-IsTextOfDocument k o Show ps text = text ≡ display_text (document ps)
+abbrev pub IsTextOfDocument : Options → Mode → Pairs → List ℕ → Type 0
+IsTextOfDocument o Canonical ps text = IsTextBy o.key_order o.doubles form.Canonical (document ps) text
+IsTextOfDocument o Relaxed ps text = IsTextBy o.key_order o.doubles form.Relaxed (document ps) text
+IsTextOfDocument o Show ps text = text ≡ display_text (document ps)
 
 -- the document has no text in the mode
 abbrev pub HasNoTextIn : Options → Mode → Pairs → Type 0
@@ -44,17 +44,17 @@ HasNoTextIn o Relaxed ps = writable_in o.doubles (document ps) ≡ false
 HasNoTextIn o Show ps = ⊥
 
 -- the bytes are a document, whose text in the mode this is
-pub record Decodes (k : KeyOrder) (o : Options) (mode : Mode) (bytes text : List ℕ) : Type 0 where
+pub record Decodes (o : Options) (mode : Mode) (bytes text : List ℕ) : Type 0 where
   pub pairs : Pairs
   pub read : IsRead depth bytes pairs
-  pub written : IsTextOfDocument k o mode pairs text
+  pub written : IsTextOfDocument o mode pairs text
 
 -- the text that is left is that of the document in the mode of the number, which is UTF-8
-pub record IsDecoded (k : KeyOrder) (o : Options) (number : ℕ) (bytes : List ℕ) (out : Text) : Type 0 where
+pub record IsDecoded (o : Options) (number : ℕ) (bytes : List ℕ) (out : Text) : Type 0 where
   pub mode : Mode
   pub named : mode_at number ≡ Some mode
   pub text : List ℕ
-  pub decodes : Decodes k o mode bytes text
+  pub decodes : Decodes o mode bytes text
   pub utf8 : IsUtf8 text
   pub is_text : IsOwnedText text out
 
@@ -69,16 +69,16 @@ pub record HasNoText (o : Options) (number : ℕ) (bytes : List ℕ) : Type 0 wh
 -- ---- from a text to bytes
 
 -- what is left are those bytes
-abbrev pub IsEncoded : KeyOrder → Options → List ℕ → Text → Type 0
-IsEncoded k o text out = (bytes : List ℕ) × Encodes k o text bytes × IsOwnedText bytes out
+abbrev pub IsEncoded : Options → List ℕ → Text → Type 0
+IsEncoded o text out = (bytes : List ℕ) × Encodes o.key_order o text bytes × IsOwnedText bytes out
 
 -- the text means a value that is no document
-abbrev pub TextIsNotDocumentBy : KeyOrder → Options → List ℕ → Type 0
-TextIsNotDocumentBy k o text = IsNoDocument (HasTextMeaningBy k o.doubles text)
+abbrev pub TextIsNotDocumentBy : Options → List ℕ → Type 0
+TextIsNotDocumentBy o text = IsNoDocument (HasTextMeaningBy o.key_order o.doubles text)
 
 -- the text means a document that has no bytes, for this cause
-abbrev pub HasNoBytes : KeyOrder → Options → Cause → List ℕ → Type 0
-HasNoBytes k o cause text = FailsFor (HasTextMeaningBy k o.doubles text) cause
+abbrev pub HasNoBytes : Options → Cause → List ℕ → Type 0
+HasNoBytes o cause text = FailsFor (HasTextMeaningBy o.key_order o.doubles text) cause
 
 -- ---- for private clauses
 
@@ -92,9 +92,12 @@ form_under Special mode = None
 form_under Finite mode = form_in mode
 
 -- the form in which a text is written while the bytes are read: with finite doubles, and with keys as given
-abbrev pub direct_form : KeyOrder → Options → Mode → Option Form
-direct_form Ascending o mode = None
-direct_form AsGiven o mode = form_under o.doubles mode
+abbrev pub direct_form_by : KeyOrder → Doubles → Mode → Option Form
+direct_form_by Ascending doubles mode = None
+direct_form_by AsGiven doubles mode = form_under doubles mode
+
+abbrev pub direct_form : Options → Mode → Option Form
+direct_form o mode = direct_form_by o.key_order o.doubles mode
 
 -- what a status says of bytes that gave no text
 pub record IsUndecoded (o : Options) (mode : Mode) (status : ℕ) (bytes : List ℕ) : Type 0 where
@@ -104,10 +107,10 @@ pub record IsUndecoded (o : Options) (mode : Mode) (status : ℕ) (bytes : List 
   pub listed : (status ≡ 5) ⊎ ((status ≡ 7) ⊎ (status ≡ 10))
 
 -- what a status says of a text that gave no bytes
-pub record IsUnencoded (k : KeyOrder) (o : Options) (status : ℕ) (text : List ℕ) : Type 0 where
+pub record IsUnencoded (o : Options) (status : ℕ) (text : List ℕ) : Type 0 where
   pub cause : IsCauseIn o status text
-  pub no_document : status ≡ 10 → TextIsNotDocumentBy k o text
-  pub zero_key : status ≡ 11 → HasNoBytes k o zero_in_key text
-  pub zero_regex : status ≡ 12 → HasNoBytes k o zero_in_regex text
-  pub long : status ≡ 13 → HasNoBytes k o too_long text
+  pub no_document : status ≡ 10 → TextIsNotDocumentBy o text
+  pub zero_key : status ≡ 11 → HasNoBytes o zero_in_key text
+  pub zero_regex : status ≡ 12 → HasNoBytes o zero_in_regex text
+  pub long : status ≡ 13 → HasNoBytes o too_long text
   pub listed : ((2 ≤ status) × (status ≤ 5)) ⊎ ((10 ≤ status) × (status ≤ 13))

@@ -4,7 +4,7 @@ use Rattle.bson.specs.declared.extjson.options.Options.{Options}
 use Rattle.bson_codec.specs.Documents.{Dump, EndsInside, IsOfBytes}
 use Rattle.bson_codec.specs.Diagnostics.{diagnostic_of}
 use Rattle.bson_codec.specs.declared.documents.Line.{Line}
-use Rattle.bson_codec.specs.declared.documents.Line.TheVariants.{Text, TextInOrder, Shown}
+use Rattle.bson_codec.specs.declared.documents.Line.TheVariants.{Text, Shown}
 use Rattle.bson_codec.specs.declared.documents.Run.{Run}
 use Rattle.bson_codec.specs.declared.run_end.RunEnd.{RunEnd}
 use Rattle.bson_codec.specs.declared.run_end.RunFault.{RunFault}
@@ -15,21 +15,16 @@ use Rattle.vbson.specs.Convert.{mode_at}
 use Rattle.vbson.specs.Documents.{depth}
 use Rattle.vbson.specs.Text.{IsOwnedText}
 use Rattle.vbson.specs.declared.dump.Documents as given
-use Rattle.bson.specs.declared.extjson.key_order.KeyOrder.{KeyOrder}
-use Rattle.bson.specs.declared.extjson.key_order.KeyOrder.TheVariants.{Ascending, AsGiven}
 
 -- what is written of each document; what is shown has its own order in any case
-abbrev pub dump_line : KeyOrder → Mode → Line
-dump_line Ascending Canonical = Text form.Canonical
-dump_line Ascending Relaxed = Text form.Relaxed
-dump_line Ascending Show = Shown
-dump_line AsGiven Canonical = TextInOrder form.Canonical
-dump_line AsGiven Relaxed = TextInOrder form.Relaxed
-dump_line AsGiven Show = Shown
+abbrev pub dump_line : Mode → Line
+dump_line Canonical = Text form.Canonical
+dump_line Relaxed = Text form.Relaxed
+dump_line Show = Shown
 
 -- a document that is refused is reported and passed over
-abbrev pub run_of : KeyOrder → Options → Mode → Run
-run_of k o mode = record { depth = depth; options = o; line = dump_line k mode; keep_going = true }
+abbrev pub run_of : Options → Mode → Run
+run_of o mode = record { depth = depth; options = o; line = dump_line mode; keep_going = true }
 
 -- the block is so many documents, which give this output and these verdicts
 pub record AreAll (run : Run) (block output verdicts : List ℕ) (count consumed : ℕ) : Type 0 where
@@ -52,12 +47,12 @@ GivesDocuments run block output verdicts count consumed =
 
 -- what is left is the output and the verdicts of the documents in the mode of the number, which are UTF-8, and these
 -- counts
-pub record AreDecoded (k : KeyOrder) (o : Options) (number : ℕ) (block : List ℕ) (out : given.Documents) : Type 0 where
+pub record AreDecoded (o : Options) (number : ℕ) (block : List ℕ) (out : given.Documents) : Type 0 where
   pub mode : Mode
   pub named : mode_at number ≡ Some mode
   pub text : List ℕ
   pub diagnostics : List ℕ
-  pub gives : GivesDocuments (run_of k o mode) block text diagnostics out.documents out.consumed
+  pub gives : GivesDocuments (run_of o mode) block text diagnostics out.documents out.consumed
   pub utf8 : IsUtf8 text
   pub diagnostic_utf8 : IsUtf8 diagnostics
   pub is_text : IsOwnedText text out.text

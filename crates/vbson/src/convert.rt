@@ -10,7 +10,7 @@ ghost use Rattle.bson_convert.specs.declared.mode.Mode.{Mode};
 ghost use Rattle.vbson.specs.Convert.{HasNoMeaningIn, IsBad, IsBadId, IsCauseIn};
 ghost use Rattle.bson_run.specs.InOrder.{ConvertsBy};
 ghost use Rattle.vbson.specs.Convert.{IsConvertedBy, IsTextError};
-ghost use Rattle.vbson.specs.Convert.{mode_at, options_of_flags, order_of, status_of};
+ghost use Rattle.vbson.specs.Convert.{mode_at, options_of_flags, status_of};
 ghost use Rattle.vbson.specs.Options.{AreNotForConversion};
 ghost use Rattle.vbson.specs.Text.{nul};
 
@@ -37,9 +37,9 @@ pub extern "C" fn vbson_convert_nonnull(
     text: &[u8],
     out: &mut Text<'static>,
 ) -> u32
-    ensures done { result ≡ 0 → IsConvertedBy (order_of options.now) (options_of_flags options.now) mode text.now out.new }
+    ensures done { result ≡ 0 → IsConvertedBy (options_of_flags options.now) mode text.now out.new }
     ensures one { result ≡ 0 → (m : Mode) (other : List ℕ) → mode_at mode ≡ Some m
-        → ConvertsBy (order_of options.now) (options_of_flags options.now) m text.now (other ++ newline)
+        → ConvertsBy (options_of_flags options.now).key_order (options_of_flags options.now) m text.now (other ++ newline)
         → out.new.bytes.now ≡ other ++ nul }
     ensures accepts { (tree : Data) (value : model.Value) → IsTextOf text.now tree
         → MeansIn (options_of_flags options.now).doubles tree value → 1 < result → result ≡ 5 }

@@ -7,17 +7,17 @@ ghost use Rattle.bson_model.specs.Normal.{writable_in};
 ghost use Rattle.bson_model.specs.Value as model;
 ghost use Rattle.bson_model.specs.Value.{Pairs};
 ghost use Rattle.bson_convert.specs.Convert.{newline};
-ghost use Rattle.vbson.specs.Convert.{options_of_flags, order_of};
+ghost use Rattle.vbson.specs.Convert.{options_of_flags};
 ghost use Rattle.vbson.specs.Documents.{Decodes, HasNoText, IsDecoded, IsOneDocument, IsTextOfDocument, IsUndecoded};
 ghost use Rattle.vbson.specs.Documents.{HasNoTextIn, depth};
 ghost use Rattle.vbson.specs.Options.{AreNotForConversion};
 
 use crate::convert::mode_of;
 use crate::direct::{decode_directly, direct_form};
-use crate::options::{CallOptions, are_not_for_conversion, options_of, order_of};
+use crate::options::{CallOptions, are_not_for_conversion, options_of};
 use crate::status;
 use crate::text::{Text, as_line, text_of_line};
-use bson::extjson::{Form, KeyOrder, Options, WriteError};
+use bson::extjson::{Form, Options, WriteError};
 use bson::{Bson, Document};
 use bson_codec::de::{DEPTH, Error, from_slice};
 use bson_convert::mode::Mode;
@@ -33,7 +33,7 @@ pub extern "C" fn vbson_decode_nonnull(
     bytes: &[u8],
     out: &mut Text<'static>,
 ) -> u32
-    ensures done { result ≡ 0 → IsDecoded (order_of options.now) (options_of_flags options.now) mode bytes.now out.new }
+    ensures done { result ≡ 0 → IsDecoded (options_of_flags options.now) mode bytes.now out.new }
     ensures accepts { (ps : Pairs) → IsRead depth bytes.now ps
         → writable_in (options_of_flags options.now).doubles (model.document ps) ≡ true → 1 < result → result ≡ 5 }
 
@@ -50,7 +50,7 @@ pub extern "C" fn vbson_decode_nonnull(
     let Some(mode) = mode_of(mode) else {
         return status::INVALID_ARGUMENT;
     };
-    match decode_document(alloc, order_of(*options), options_of(*options), mode, bytes) {
+    match decode_document(alloc, options_of(*options), mode, bytes) {
         Ok(line) => *out = text_of_line(line),
         Err(status) => return status,
     }
@@ -60,35 +60,33 @@ pub extern "C" fn vbson_decode_nonnull(
 // The text in the mode of the document that the bytes are, and a newline; or the status.
 fn decode_document(
     alloc: Global,
-    order: KeyOrder,
     options: Options,
     mode: Mode,
     bytes: &[u8],
 ) -> Result<Vec<u8>, u32>
-    ensures ok { IfOk result (λ line. (text : List ℕ) × Decodes order options mode bytes.now text × IsUtf8 text
+    ensures ok { IfOk result (λ line. (text : List ℕ) × Decodes options mode bytes.now text × IsUtf8 text
         × (line.items ≡ text ++ newline)) }
     ensures refused { IfErr result (λ status. IsUndecoded options mode status bytes.now) }
 {
-    match direct_form(order, options, mode) {
+    match direct_form(options, mode) {
         Some(form) => decode_directly(alloc, form, bytes),
-        None => decode_by_value(alloc, order, options, mode, bytes),
+        None => decode_by_value(alloc, options, mode, bytes),
     }
 }
 
 // The text in the mode, through a document in memory.
 fn decode_by_value(
     alloc: Global,
-    order: KeyOrder,
     options: Options,
     mode: Mode,
     bytes: &[u8],
 ) -> Result<Vec<u8>, u32>
-    ensures ok { IfOk result (λ line. (text : List ℕ) × Decodes order options mode bytes.now text × IsUtf8 text
+    ensures ok { IfOk result (λ line. (text : List ℕ) × Decodes options mode bytes.now text × IsUtf8 text
         × (line.items ≡ text ++ newline)) }
     ensures refused { IfErr result (λ status. IsUndecoded options mode status bytes.now) }
 {
     match from_slice(alloc, bytes, DEPTH) {
-        Ok(document) => write_document(alloc, order, options, mode, document),
+        Ok(document) => write_document(alloc, options, mode, document),
         Err(Error::Malformed { .. }) => Err(status::NOT_A_DOCUMENT),
         Err(Error::OutOfMemory) => Err(status::OUT_OF_MEMORY),
     }
@@ -97,13 +95,12 @@ fn decode_by_value(
 // The text of the document in the mode, and a newline; or the status.
 fn write_document(
     alloc: Global,
-    order: KeyOrder,
     options: Options,
     mode: Mode,
     document: Document,
 ) -> Result<Vec<u8>, u32>
     ensures ok { IfOk result (λ line. (text : List ℕ)
-        × IsTextOfDocument order options mode (document_view document) text × IsUtf8 text
+        × IsTextOfDocument options mode (document_view document) text × IsUtf8 text
         × (line.items ≡ text ++ newline)) }
     ensures refused { IfErr result
         (λ status. (status ≡ 5) ⊎ ((status ≡ 7) × HasNoTextIn options mode (document_view document))) }
@@ -112,10 +109,6 @@ fn write_document(
         Mode::Canonical => Form::Canonical,
         Mode::Relaxed => Form::Relaxed,
         Mode::Show => return show_document(alloc, &document),
-    };
-    let options = Options {
-        key_order: order,
-        ..options
     };
     match Bson::Document(document).into_text(alloc, options, form) {
         Ok(text) => end_line(text),

@@ -14,10 +14,10 @@ use std::alloc::Global;
 
 /// Returns the form in which the text is written while the bytes are read, or `None` if the text needs a
 /// document in memory. That text has finite doubles, and keys as given.
-pub fn direct_form(order: KeyOrder, options: Options, mode: Mode) -> Option<Form>
-    ensures { result ≡ direct_form order options mode }
+pub fn direct_form(options: Options, mode: Mode) -> Option<Form>
+    ensures { result ≡ direct_form options mode }
 {
-    match order {
+    match options.key_order {
         KeyOrder::Ascending => None,
         KeyOrder::AsGiven => match options.doubles {
             Doubles::Special => None,

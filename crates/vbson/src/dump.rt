@@ -3,15 +3,15 @@ ghost use Rattle.std.specs.Prelude.{◌≡◌, ◌⊎◌, ◌↔◌, ◌<◌, �
 ghost use Rattle.bson_codec.specs.Documents.{Dump};
 ghost use Rattle.bson_codec.specs.declared.documents.Run.{Run};
 ghost use Rattle.bson_convert.specs.Convert.{newline};
-ghost use Rattle.vbson.specs.Convert.{options_of_flags, order_of};
+ghost use Rattle.vbson.specs.Convert.{options_of_flags};
 ghost use Rattle.vbson.specs.Dumps.{AreDecoded, EndsAs, GivesDocuments, dump_line, run_of};
 ghost use Rattle.vbson.specs.Options.{AreNotForConversion};
 
 use crate::convert::mode_of;
-use crate::options::{CallOptions, are_not_for_conversion, options_of, order_of};
+use crate::options::{CallOptions, are_not_for_conversion, options_of};
 use crate::status;
 use crate::text::{Text, as_line, text_of_line};
-use bson::extjson::{Form, KeyOrder, Options};
+use bson::extjson::{Form, Options};
 use bson_codec::de::DEPTH;
 use bson_codec::documents::{Line, Run, run_documents};
 use bson_codec::run_end::{RunEnd, RunFault};
@@ -41,7 +41,7 @@ pub extern "C" fn vbson_decode_documents_nonnull(
     block: &[u8],
     out: &mut Documents<'static>,
 ) -> u32
-    ensures done { result ≡ 0 → AreDecoded (order_of options.now) (options_of_flags options.now) mode block.now out.new }
+    ensures done { result ≡ 0 → AreDecoded (options_of_flags options.now) mode block.now out.new }
 
     // When each other status comes, and that nothing is left then.
     ensures no_mode { result ≡ 1 ↔ (2 < mode) ⊎ AreNotForConversion options.now }
@@ -54,7 +54,7 @@ pub extern "C" fn vbson_decode_documents_nonnull(
     let Some(mode) = mode_of(mode) else {
         return status::INVALID_ARGUMENT;
     };
-    let run = run_of(order_of(*options), options_of(*options), mode);
+    let run = run_of(options_of(*options), mode);
     let Some(given) = decode_block(alloc, run, block) else {
         return status::OUT_OF_MEMORY;
     };
@@ -68,29 +68,25 @@ pub extern "C" fn vbson_decode_documents_nonnull(
 }
 
 // What is asked of each document.
-fn run_of(order: KeyOrder, options: Options, mode: Mode) -> Run
-    ensures { result ≡ run_of order options mode }
+fn run_of(options: Options, mode: Mode) -> Run
+    ensures { result ≡ run_of options mode }
 {
     Run {
         depth: DEPTH,
         options,
-        line: line_of(order, mode),
+        line: line_of(mode),
         keep_going: true,
     }
 }
 
 // What is written of each document.
-fn line_of(order: KeyOrder, mode: Mode) -> Line
-    ensures { result ≡ dump_line order mode }
+fn line_of(mode: Mode) -> Line
+    ensures { result ≡ dump_line mode }
 {
-    let form = match mode {
-        Mode::Canonical => Form::Canonical,
-        Mode::Relaxed => Form::Relaxed,
-        Mode::Show => return Line::Shown,
-    };
-    match order {
-        KeyOrder::Ascending => Line::Text(form),
-        KeyOrder::AsGiven => Line::TextInOrder(form),
+    match mode {
+        Mode::Canonical => Line::Text(Form::Canonical),
+        Mode::Relaxed => Line::Text(Form::Relaxed),
+        Mode::Show => Line::Shown,
     }
 }
 

@@ -4,7 +4,7 @@ ghost use Rattle.bson.specs.TextMeaning.{IsNoText, MeansBy};
 ghost use Rattle.bson_codec.specs.Canonical.{FitsDocument, too_long, zero_in_key, zero_in_regex};
 ghost use Rattle.bson_model.specs.Value.{Pairs, document};
 ghost use Rattle.bson_convert.specs.Convert.{newline};
-ghost use Rattle.vbson.specs.Convert.{HasNoMeaningIn, IsBad, IsBadId, options_of_flags, order_of};
+ghost use Rattle.vbson.specs.Convert.{HasNoMeaningIn, IsBad, IsBadId, options_of_flags};
 ghost use Rattle.bson_run.specs.Encode.{Encodes};
 ghost use Rattle.vbson.specs.Documents.{HasNoBytes, IsEncoded, IsUnencoded};
 ghost use Rattle.vbson.specs.Documents.{TextIsNotDocumentBy};
@@ -28,8 +28,8 @@ pub extern "C" fn vbson_encode_nonnull(
     text: &[u8],
     out: &mut Text<'static>,
 ) -> u32
-    ensures done { result ≡ 0 → IsEncoded (order_of options.now) (options_of_flags options.now) text.now out.new }
-    ensures accepts { (ps : Pairs) → MeansBy (order_of options.now) (options_of_flags options.now).doubles text.now (document ps)
+    ensures done { result ≡ 0 → IsEncoded (options_of_flags options.now) text.now out.new }
+    ensures accepts { (ps : Pairs) → MeansBy (options_of_flags options.now).key_order (options_of_flags options.now).doubles text.now (document ps)
         → FitsDocument ps → 1 < result → result ≡ 5 }
 
     // When each other status comes, and that nothing is left then.
@@ -37,10 +37,10 @@ pub extern "C" fn vbson_encode_nonnull(
     ensures not_json { result ≡ 2 → IsNoText text.now }
     ensures bad_object_id { result ≡ 3 → HasNoMeaningIn (options_of_flags options.now) IsBadId text.now }
     ensures not_extended_json { result ≡ 4 → HasNoMeaningIn (options_of_flags options.now) IsBad text.now }
-    ensures no_document { result ≡ 10 → TextIsNotDocumentBy (order_of options.now) (options_of_flags options.now) text.now }
-    ensures zero_key { result ≡ 11 → HasNoBytes (order_of options.now) (options_of_flags options.now) zero_in_key text.now }
-    ensures zero_regex { result ≡ 12 → HasNoBytes (order_of options.now) (options_of_flags options.now) zero_in_regex text.now }
-    ensures long { result ≡ 13 → HasNoBytes (order_of options.now) (options_of_flags options.now) too_long text.now }
+    ensures no_document { result ≡ 10 → TextIsNotDocumentBy (options_of_flags options.now) text.now }
+    ensures zero_key { result ≡ 11 → HasNoBytes (options_of_flags options.now) zero_in_key text.now }
+    ensures zero_regex { result ≡ 12 → HasNoBytes (options_of_flags options.now) zero_in_regex text.now }
+    ensures long { result ≡ 13 → HasNoBytes (options_of_flags options.now) too_long text.now }
     ensures listed { (result ≤ 5) ⊎ ((10 ≤ result) × (result ≤ 13)) }
     ensures kept { 0 < result → out.new ≡ out.old }
 {
@@ -60,7 +60,7 @@ fn encode_text(alloc: Global, options: Options, text: &[u8]) -> Result<Vec<u8>, 
         × (line.items ≡ bytes ++ newline)) }
     ensures accepts { (ps : Pairs) → MeansBy options.key_order options.doubles text.now (document ps) → FitsDocument ps
         → IfErr result (λ status. status ≡ 5) }
-    ensures refused { IfErr result (λ status. IsUnencoded options.key_order options status text.now) }
+    ensures refused { IfErr result (λ status. IsUnencoded options status text.now) }
 {
     match encode(alloc, options, text) {
         Ok(bytes) => as_line(bytes),

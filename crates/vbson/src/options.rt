@@ -83,8 +83,8 @@ pub fn options_of(options: CallOptions) -> Options
     }
 }
 
-/// Returns the order of keys.
-pub fn order_of(options: CallOptions) -> KeyOrder
+// Returns the order of keys.
+fn order_of(options: CallOptions) -> KeyOrder
     ensures { result ≡ order_of options }
 {
     if options.key_order == KEYS_AS_GIVEN {

@@ -10,5 +10,6 @@ returns-in-Ok-clause-ok c =
     let text = string_bytes c.in-Ok.text in
     IfOk-weaker c.end_line.result (λ line. (line.items ≡ text ++ newline) × IsUtf8 line.items)
     (λ line. IsLine c.args.run c.args.bytes.now line.items)
-    (λ line is. line_is c.args.run c.args.form c.args.bytes.now text line.items c.requires c.in-Finite.is c.in-Ok.ensures.ok is)
+    (λ line is. line_is c.args.run c.args.form c.args.bytes.now text line.items c.requires.0 c.in-Finite.is c.requires.1
+    c.in-Ok.ensures.ok is)
     c.end_line.ensures.ok

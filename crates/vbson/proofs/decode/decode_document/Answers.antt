@@ -8,16 +8,15 @@ use Rattle.vbson.proofs.decode.decode_document.Goals as goal
 
 pub returns-in-Some-clause-ok : goal.returns-in-Some-clause-ok
 returns-in-Some-clause-ok c =
-    let k = c.args.order in
     let o = c.args.options in
     let mode = c.args.mode in
     let f = c.in-Some.form in
     let bytes = c.args.bytes.now in
-    let given : direct_form k o mode ≡ Some f = cc in
+    let given : direct_form o mode ≡ Some f = cc in
     IfOk-weaker c.decode_directly.result
     (λ line. (text : List ℕ) × IsDocumentTextOf f depth bytes text × IsUtf8 text × (line.items ≡ text ++ newline))
-    (λ line. (text : List ℕ) × Decodes k o mode bytes text × IsUtf8 text × (line.items ≡ text ++ newline))
-    (λ line is. (is.0, directly k o mode f bytes is.0 given is.1, is.2, is.3))
+    (λ line. (text : List ℕ) × Decodes o mode bytes text × IsUtf8 text × (line.items ≡ text ++ newline))
+    (λ line is. (is.0, directly o mode f bytes is.0 given is.1, is.2, is.3))
     c.decode_directly.ensures.ok
 
 pub returns-in-Some-clause-refused : goal.returns-in-Some-clause-refused

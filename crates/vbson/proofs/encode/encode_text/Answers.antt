@@ -5,8 +5,7 @@ use Rattle.vbson.proofs.encode.encode_text.Goals as goal
 
 pub returns-in-Err-clause-refused : goal.returns-in-Err-clause-refused
 returns-in-Err-clause-refused c =
-    let k = c.args.options.key_order in
     let o = c.args.options in
     let text = c.args.text.now in
-    subst (λ s. IsUnencoded k o s text) (sym c.status_of.ensures.number)
-    (unencoded k o c.in-Err.fault text c.in-Err.ensures.fault)
+    subst (λ s. IsUnencoded o s text) (sym c.status_of.ensures.number)
+    (unencoded o c.in-Err.fault text c.in-Err.ensures.fault)
