@@ -69,8 +69,12 @@ line_is run f bytes text line form finite given decoded is =
       read = decoded.read;
       written = subst (λ x. WritesLine run.options x decoded.pairs line) (sym form) (
         subst (λ D. writable_in D v ≡ true) (sym finite) (text_written f v text t),
-        (text, subst (λ order. IsTextBy order run.options.doubles f v text) (sym given)
-        (subst (λ D. IsTextInOrder D f v text) (sym finite) t), is.0),
+        (
+          text,
+          subst (λ order. IsTextBy order run.options.doubles f v text) (sym given)
+              (subst (λ D. IsTextInOrder D f v text) (sym finite) t),
+          is.0,
+        ),
       );
       utf8 = is.1;
     }
