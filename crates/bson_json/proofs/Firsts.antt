@@ -9,7 +9,7 @@ use Rattle.json.specs.Tree.{json_tokens}
 use Rattle.bson_json.specs.Grammar.{IsWs, IsString}
 use Rattle.bson_json.proofs.Lexemes.{IsLexeme, Front, blank, lexeme, fault, front}
 
--- white space and then bytes that are P stand before a rest, of which the tokens are read from a place on
+-- white space and then bytes that are P come before a rest, of which the tokens are read from a place on
 pub record Read (P : List ℕ → Type 0) (t : List ℕ) (ts : List Token) (next : Place) : Type 0 where
   pub white : List ℕ
   pub body : List ℕ

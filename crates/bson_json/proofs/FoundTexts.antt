@@ -228,7 +228,7 @@ no_room xs part x r e few = omega (arith, ap length e ∙ length-append part (x 
 abbrev pub AreJson : List (List ℕ) → Type 0
 AreJson ts = AllByRecursion (λ t. (j : Json) × IsJson t j) ts
 
--- one text, which is all or has more behind it
+-- one text, which is all or has more after it
 pub alone_text : {xs : List ℕ} {j : Json} → IsJson xs j → IsSingle (parts (outside zero) xs) → AreTexts xs (xs ∷ [])
 alone_text {xs = xs} j s = subst (λ z. AreTexts z (xs ∷ [])) (append-nil xs) (texts no_ws j (bare_part j s) no_more_texts)
 

@@ -155,7 +155,7 @@ pass_null = letter 110 refl refl refl refl (letter 117 refl refl refl refl (lett
 pub within : {n x : ℕ} → x ≢ 0x22 → x ≢ 0x5C → Passes (in_string n) (x ∷ []) (in_string n)
 within {n = n} {x = x} q b = byte (in_string n) refl (rw (ne_eqb x 0x22 q) (rw (ne_eqb x 0x5C b) refl))
 
--- a backslash and a byte behind it
+-- a backslash and the byte after it
 pub escape : {n : ℕ} (x : ℕ) → Passes (in_string n) (0x5C ∷ x ∷ []) (in_string n)
 escape {n = n} x = then (byte (in_escape n) refl refl) (byte (in_string n) refl refl)
 

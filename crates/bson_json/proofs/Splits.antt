@@ -20,7 +20,7 @@ take_next (x ∷ xs) (suc at) inside = ap (λ z. x ∷ z) (take_next xs at (omeg
 pub split_start : (xs : List ℕ) → parts (outside zero) xs ≡ put_before [] (parts (outside zero) xs)
 split_start xs = sym (put_none (parts (outside zero) xs))
 
--- what is passed over, and the state behind it
+-- what is skipped, and the state after it
 abbrev pub IsSplit : (xs : List ℕ) → (at : ℕ) → Scan → Type 0
 IsSplit xs at m = parts (outside zero) xs ≡ put_before (take at xs) (parts m (drop at xs))
 

@@ -23,9 +23,9 @@ mutual
     no_more_texts : MoreTexts [] []
     more_texts : {x : ℕ} {u : List ℕ} {ts : List (List ℕ)} → IsWs (x ∷ []) → AreTexts u ts → MoreTexts (x ∷ u) ts
 
--- ---- where a text ends, of bytes that need not be such a sequence
+-- ---- where a text ends, in any bytes
 
--- so many brackets are open, outside of strings, in a string, or behind a backslash in one
+-- the number of open brackets; the next byte is outside of strings, in a string, or after a backslash in one
 pub data Scan : Type 0 where
   outside : ℕ → Scan
   in_string : ℕ → Scan
@@ -37,7 +37,7 @@ is_opener x = (x == 0x5B) || (x == 0x7B)
 abbrev pub is_closer : ℕ → Bool
 is_closer x = (x == 0x5D) || (x == 0x7D)
 
--- one less, if there is one
+-- the number minus 1, or 0
 abbrev pub less : ℕ → ℕ
 less zero = zero
 less (suc n) = n
@@ -61,7 +61,7 @@ abbrev pub part_from : (ends : Bool) → ℕ → (next same : List (List ℕ)) �
 part_from true x next same = [] ∷ next
 part_from false x next same = onto_part x same
 
--- the parts between such white space, of which some are empty
+-- the parts between this white space; some parts are empty
 unfoldable pub parts : Scan → List ℕ → List (List ℕ)
 parts at [] = [] ∷ []
 parts at (x ∷ xs) = part_from (separates at x) x (parts (outside zero) xs) (parts (scan at x) xs)

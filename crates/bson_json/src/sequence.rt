@@ -103,7 +103,7 @@ fn is_space(byte: u8) -> bool
     byte == b' ' || byte == b'\t' || byte == b'\n' || byte == b'\r'
 }
 
-// Returns one less, if there is one.
+// Subtracts 1, unless the number is 0.
 fn less(brackets: usize) -> usize
     ensures { result ≡ less brackets }
 {

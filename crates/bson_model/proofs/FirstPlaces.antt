@@ -1,4 +1,4 @@
--- A key that stands twice has its last value at its first place.
+-- A duplicate key has its last value at its first position.
 use Rattle.std.proofs.Common.{◌≡◌, ℕ, List, [], ◌∷◌, ◌++◌, Bool, true, false, cond, not, ◌||◌, Option, Some, None}
 use Rattle.std.proofs.Common.{refl, sym, ap, ◌∙◌, subst, option_and_then, filter, append_assoc, append-nil}
 use Rattle.std.specs.Str.{bytes_eq}
@@ -104,7 +104,7 @@ places_at false k d found ks h = ap (λ xs. xs ++ new (put_kept k d found) ks) (
     ∙ append_assoc (tree_keys found) (k ∷ []) (new (put_kept k d found) ks)
     ∙ ap (λ xs. tree_keys found ++ (k ∷ xs)) (sym (new_put k d found ks))
 
--- the keys found, and behind them the new ones, each where it stands first
+-- the keys found, and after them the new ones, each at its first position
 places : (ws : json.Members) (found ms : Members) → kept_members ws found ≡ Some ms
     → tree_keys ms ≡ tree_keys found ++ new found (first_places (written_keys ws))
 places json.no_members found ms h = ap tree_keys (sym (un_some found ms h)) ∙ sym (append-nil (tree_keys found))
@@ -144,7 +144,7 @@ at_put_at true q k a d e ms h is =
 at_put_at false q k a d e ms h is = ap (λ o. cond (bytes_eq q a) (Some e) o) is
     ∙ cond_apart (bytes_eq q k) (bytes_eq q a) (Some d) (Some e) (tree_at q ms) (other_key (bytes_eq q k) q k a refl h)
 
--- at k stands what was put there, and at each other key what stood there
+-- the value at k is the one that was put there; the value at each other key is unchanged
 at_put : (q k : List ℕ) (d : Data) (ms : Members)
     → tree_at q (put_kept k d ms) ≡ cond (bytes_eq q k) (Some d) (tree_at q ms)
 at_put q k d no_members = refl

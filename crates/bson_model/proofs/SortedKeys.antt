@@ -1,4 +1,4 @@
--- With its order forgotten an object has the same keys, and as many where each stands once.
+-- An object whose keys are sorted has the same keys, and as many if each key occurs once.
 use Rattle.std.proofs.Common.{◌≡◌, ℕ, suc, List, Bool, true, false, ◌||◌, Ordering, Less, Equal, Greater, refl, sym, ap}
 use Rattle.std.proofs.Common.{◌∙◌}
 use Rattle.std.specs.Cmp.Lexicographic.{slice_cmp}

@@ -103,7 +103,7 @@ module _ {M : Type 0} (key_of : M → List ℕ) where
       let some = subst (λ b. cond b (n ∷ of_key) of_key ≡ []) (has_own n) (k n) in
       cc
 
-  -- a stable sort by what the key alone tells
+  -- a stable sort that compares the keys alone
   pub sorted_by : {K : Type 0} {R : K → K → Ordering} (o : IsTotalOrder R) (f : List ℕ → K) (ms ns : List M)
       → IsStableBy (λ m n. is_lt (R (f (key_of m)) (f (key_of n)))) ms ns → IsStableByKey key_of ms ns
   sorted_by {K} {R} o f ms ns stable m =
@@ -113,7 +113,7 @@ module _ {M : Type 0} (key_of : M → List ℕ) where
       sym (filter_within (twins m) (ties lt m) ns tied) ∙ ap (filter (twins m)) (stable m)
       ∙ filter_within (twins m) (ties lt m) ms tied
 
-  -- ---- put in turn
+  -- ---- put one after another
 
   module _ (value_of : M → Value) where
     abbrev put : List M → Pairs → Pairs
@@ -160,7 +160,7 @@ module _ {M : Type 0} (key_of : M → List ℕ) where
     above k v [] ps least = refl
     above k v (m ∷ ms) ps least = rw (flipped k (key_of m) Less least.0) (above k v ms (put_one m ps) least.1)
 
-    -- what ascends is put as it stands
+    -- members in ascending order are put unchanged
     pub put_ascending : (ms : List M) → KeysAscend (as_pairs ms) → put ms no_pairs ≡ as_pairs ms
     put_ascending [] up = refl
     put_ascending (m ∷ ms) up =

@@ -11,13 +11,13 @@ use Rattle.bson_model.specs.Texts.{NumberFits}
 
 -- ---- reading
 
--- the members with d at k: at k's place where k is there, else last
+-- the members with d at the key k: at the position of k if it is present, otherwise last
 abbrev pub put_kept : List ℕ → Data → Members → Members
 put_kept k d no_members = member k d no_members
 put_kept k d (member l e ms) = if bytes_eq k l then member l d ms else member l e (put_kept k d ms)
 
--- the tree of what was parsed: its members go in one after another, so that of a key that stands twice the last value
--- stands at the first place
+-- the tree of parsed JSON: its members are put one after another, so a duplicate key has its last value at its first
+-- position
 abbrev mutual
   pub kept : json.Json → Option Data
   kept json.null = Some null
@@ -39,7 +39,7 @@ abbrev mutual
 abbrev pub read_kept : List ℕ → Option Data
 read_kept text = option_and_then kept (option_and_then (λ p. json.if_last p.0 p.1) (json.value max_depth (tokens text)))
 
--- ---- the order forgotten
+-- ---- the tree with sorted keys
 
 -- the tree with the keys of each object in it in ascending order, as `serde_json` has them
 abbrev mutual
@@ -65,7 +65,7 @@ abbrev pub has_key : List ℕ → Members → Bool
 has_key k no_members = false
 has_key k (member l d ms) = bytes_eq k l || has_key k ms
 
--- each key stands once
+-- each key occurs once
 abbrev pub KeysDiffer : Members → Type 0
 KeysDiffer no_members = Unit {0}
 KeysDiffer (member k d ms) = (has_key k ms ≡ false) × KeysDiffer ms

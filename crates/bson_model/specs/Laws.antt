@@ -35,7 +35,7 @@ abbrev pub OwnMapReadsBackIn : Doubles → Form → Value → Data → Type 0
 OwnMapReadsBackIn D f v t = (ps : Pairs) (ms : Members) → v ≡ document ps → t ≡ tree.object ms → plain_values ps ≡ true
     → (qs : Pairs) × MeansDocumentIn D ms qs × (same (document qs) (as_read f (normal_form v)) ≡ true)
 
--- what the tree t of the value v in the form f is
+-- what the tree t of the value v in this form is
 pub record IsTreeOfIn (D : Doubles) (f : Form) (v : Value) (t : Data) : Type 0 where
   -- the grammar's tree of the normal form, and its only one
   pub written : WrittenIn D f (normal_form v) t
@@ -43,7 +43,7 @@ pub record IsTreeOfIn (D : Doubles) (f : Form) (v : Value) (t : Data) : Type 0 w
   pub no_float : HasNoFloatIn D f t
   -- the tree of every value that is the same
   pub alike : (w : Value) (u : Data) → HasSameTreeIn D f v t w u
-  -- read again, and told from the trees of other values
+  -- it reads back, and differs from the trees of other values
   pub reads_back : ReadsBackIn D f v t
   pub read_alone : (w : Value) → ReadsBackAloneIn D f v t w
   pub equal : (w : Value) (u : Data) → HasEqualTreesIn D f v t w u

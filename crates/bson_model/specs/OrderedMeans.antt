@@ -1,6 +1,6 @@
--- The full grammar of trees in the order of a text, in each mode of doubles: which tree means which value, the order of
--- its pairs included (MongoDB Extended JSON v2). A production a line; it is `MeansIn` but for the order, and for the
--- scope that stands first.
+-- The full grammar of trees in the order of a text, in each mode of `Doubles`: which tree means which value, the order
+-- of its pairs included (MongoDB Extended JSON v2), one production per line. It is `MeansIn` except for the order, and for
+-- a scope that comes before its code.
 use Rattle.std.specs.Prelude.{◌≡◌, ℕ, List, codes, false}
 use Rattle.serde_json.specs.Data.{Data, Items, no_items, item, Members, no_members, member}
 use Rattle.serde_json.specs.Data as tree

@@ -32,7 +32,7 @@ abbrev mutual
   members_in_order D no_members = Ok no_pairs
   members_in_order D (member k d ms) = reads_in_order D d >>= λ v. members_in_order D ms >>= λ ps. Ok (pair k v ps)
 
-  -- an object with a wrapper key: only code with its scope holds a document, and its two keys stand either way
+  -- an object with a wrapper key: only code with its scope holds a document, and its two keys may have either order
   pub wrapper_in_order : Doubles → Members → Result Value Fault
   wrapper_in_order D no_members = Err wrong_shape
   wrapper_in_order D (member k d no_members) = scalar_value (single_at_in D (wrapper_of k) (unordered d))

@@ -50,7 +50,7 @@ abbrev pub HasEqualTextsInOrder : Doubles → Form → Value → Data → Value 
 HasEqualTextsInOrder D f v t w u = plain w ≡ true → InRange w → AllDistinct w → WrittenInOrder D f (normal_form w) u
     → ((tree_text D f t ≡ tree_text D f u) ↔ (as_read f (normal_form v) ≡ as_read f (normal_form w)))
 
--- what the tree t of the plain value v in the form f, in the value's order, and its compact text, are
+-- what the tree t of the plain value v in this form, in the value's order, and its compact text, are
 pub record IsOrderedTextOf (D : Doubles) (f : Form) (v : Value) (t : Data) : Type 0 where
   pub written : WrittenInOrder D f (normal_form v) t
   pub one : (u : Data) → WrittenInOrder D f (normal_form v) u → u ≡ t
@@ -60,9 +60,9 @@ pub record IsOrderedTextOf (D : Doubles) (f : Form) (v : Value) (t : Data) : Typ
   pub own_text : HasOwnTextInOrder D f t
   -- with the order forgotten it is the tree that is written by default
   pub by_default : WrittenIn D f (normal_form v) (unordered t)
-  -- of another value it is the text just if the normal forms are equal, the order of their pairs included
+  -- another value has the same text if and only if the normal forms are equal, the order of their pairs included
   pub equal : (w : Value) (u : Data) → HasEqualTextsInOrder D f v t w u
 
--- the value has such a tree in each form
+-- the value has a tree in each form that reads back
 abbrev pub ComesBackInOrder : Doubles → Value → Type 0
 ComesBackInOrder D v = (f : Form) → (t : Data) × IsOrderedTextOf D f v t

@@ -1,4 +1,4 @@
--- The grammars of the two forms in the value's own order, in each mode of doubles: the tree of a value in each.
+-- The grammars of the two forms in the value's own order, in each mode of `Doubles`: the tree of a value in each.
 use Rattle.std.specs.Prelude.{◌≡◌, codes}
 use Rattle.serde_json.specs.Data.{Data, Items, no_items, item, Members, no_members, member}
 use Rattle.serde_json.specs.Data as tree
@@ -10,7 +10,7 @@ use Rattle.bson_model.specs.Value.{Value, scalar, code_scope, array, document, V
 use Rattle.bson_model.specs.Value.{no_pairs, pair}
 
 abbrev mutual
-  -- the value, in normal form, has this tree in the form f; inside a wrapper the order is the form's own
+  -- the value, in normal form, has this tree; inside a wrapper the order is the one of Extended JSON
   pub WrittenInOrder : Doubles → Form → Value → Data → Type 0
   WrittenInOrder D f (scalar x) t = WrittenScalarIn D f x t
   WrittenInOrder D f (code_scope s ps) t = (ms : Members) × WrittenDocumentInOrder D f ps ms

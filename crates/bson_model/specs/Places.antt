@@ -1,4 +1,4 @@
--- Where a key that stands twice is, and what it has there: the place of the first, and the value of the last (as
+-- The position and the value of a duplicate key: the position of the first, and the value of the last (as
 -- `insert` of this library, the Rust crate `bson`, and the objects of Python and JavaScript have it).
 use Rattle.std.specs.Prelude.{◌≡◌, ℕ, List, [], ◌∷◌, filter, not, if◌then◌else◌, Option, Some, None}
 use Rattle.std.specs.Prelude.{option_and_then}
@@ -20,7 +20,7 @@ tree_keys (member k d ms) = k ∷ tree_keys ms
 abbrev pub without : List ℕ → List (List ℕ) → List (List ℕ)
 without k ks = filter (λ l. not (bytes_eq k l)) ks
 
--- each key once, where it stands first
+-- each key once, at its first position
 abbrev pub first_places : List (List ℕ) → List (List ℕ)
 first_places [] = []
 first_places (k ∷ ks) = k ∷ without k (first_places ks)

@@ -8,7 +8,7 @@ use Rattle.bson_model.specs.Value.{no_pairs, pair}
 abbrev pub blanks : ℕ → List ℕ
 blanks n = replicate n 32
 
--- the indent of what lies inside: 2 more, up to the greatest usize
+-- the indent of the elements: 2 more, up to the greatest usize
 abbrev pub inner : ℕ → ℕ
 inner i = min (i + 2) (2 ^ 64 - 1)
 

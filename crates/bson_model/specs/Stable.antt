@@ -1,4 +1,4 @@
--- What has a key each, and a value, in any order, and the pairs that it gives by ascending key.
+-- Members with a key and a value each, in any order, and the pairs that they become in ascending key order.
 use Rattle.std.specs.Prelude.{◌≡◌, ℕ, Bool, List, [], ◌∷◌}
 use Rattle.std.specs.List.{filter}
 use Rattle.std.specs.Str.{bytes_eq}
@@ -10,12 +10,12 @@ module _ {M : Type 0} (key_of : M → List ℕ) where
   abbrev pub have_one_key : M → M → Bool
   have_one_key m n = bytes_eq (key_of m) (key_of n)
 
-  -- the same, in which those of each key stand in the order in which they stood
+  -- the members of each key have the same order in both lists
   abbrev pub IsStableByKey : List M → List M → Type 0
   IsStableByKey ms ns = (m : M) → filter (have_one_key m) ns ≡ filter (have_one_key m) ms
 
   module _ (value_of : M → Value) where
-    -- the pairs after each in turn is put to them
+    -- the pairs after each member is put, one after another
     abbrev pub put_each : List M → Pairs → Pairs
     put_each [] ps = ps
     put_each (m ∷ ms) ps = put_each ms (put_pair (key_of m) (value_of m) ps)

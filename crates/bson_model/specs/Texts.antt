@@ -68,7 +68,7 @@ abbrev pub HasEqualTextsIn : Doubles → Form → Value → Data → Value → D
 HasEqualTextsIn D f v u w x = plain w ≡ true → InRange w → WrittenIn D f (normal_form w) x
     → ((tree_text D f u ≡ tree_text D f x) ↔ (same (as_read f (normal_form v)) (as_read f (normal_form w)) ≡ true))
 
--- what the tree u of the value v in the form f, and its compact text, are
+-- what the tree u of the value v in this form, and its compact text, are
 pub record HasTextIn (D : Doubles) (f : Form) (v : Value) (u : Data) : Type 0 where
   pub written : WrittenIn D f (normal_form v) u
   pub is_tree : IsTree u

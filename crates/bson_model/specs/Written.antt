@@ -10,7 +10,7 @@ use Rattle.bson_scalar.specs.declared.form.Doubles.{Doubles}
 use Rattle.bson_scalar.specs.declared.form.Doubles.TheVariants.{Special}
 
 abbrev mutual
-  -- the value, in normal form, has this tree in the form f
+  -- the value, in normal form, has this tree
   pub WrittenIn : Doubles → Form → Value → Data → Type 0
   WrittenIn D f (scalar x) t = WrittenScalarIn D f x t
   WrittenIn D f (code_scope s ps) t = (ms : Members) × WrittenDocumentIn D f ps ms

@@ -42,10 +42,10 @@ pub fn texts_have_kept_trees()
     ensures { (text : List ℕ) (t : Data) → read_kept text ≡ Some t → IsKeptTree t }
 {}
 
-/// Proves that the text that a mode of doubles and a form give a tree, whatever the order of its
-/// keys, is read as that tree again, order included, unless it nests deeper than texts may; and no
-/// other such tree has it. But in the relaxed form of the mode `Finite`, which has the shortest
-/// decimal of each of its floats, the tree has no float.
+/// Proves that the text that a mode of `Doubles` and a form give a tree, whatever the order of its
+/// keys, is read as that tree again, order included, unless it nests deeper than texts may. No
+/// other tree has this text. Except in the relaxed form of the mode `Finite`, which has the
+/// shortest decimal of each of its floats, the tree has no float.
 pub fn kept_texts_read_back()
     ensures { (D : Doubles) (f : Form) (t : Data) → HasNoFloatIn D f t → IsKeptTree t → HasOwnTextInOrder D f t }
 {}
@@ -115,8 +115,8 @@ pub fn written_forgets_order()
 {}
 
 /// Proves that the tree and text of a plain value in its own order are read as the very value in
-/// normal form, as that form reads it, and two such texts are equal just if the normal forms are,
-/// order included.
+/// normal form, as that form reads it. Two of these texts are equal if and only if the normal forms
+/// are, order included.
 pub fn ordered_texts()
     ensures { (D : Doubles) (f : Form) (v : Value) (t : Data) → WrittenInOrder D f (normal_form v) t → plain v ≡ true
         → InRange v → AllDistinct v → IsOrderedTextOf D f v t }
@@ -128,14 +128,13 @@ pub fn read_values_come_back_in_order()
     ensures { (D : Doubles) (text : List ℕ) (v : Value) → HasMeaningInOrder D text v → ComesBackInOrder D v }
 {}
 
-/// Proves that every value in range has a tree in its own order in each form if finite doubles are
-/// written.
+/// Proves that every value in range has a tree in its own order in each form, in the mode `Finite`.
 pub fn every_value_has_ordered_tree()
     ensures { (f : Form) (v : Value) → InRange v → (t : Data) × WrittenInOrder Finite f (normal_form v) t }
 {}
 
-/// Proves that, with finite doubles, a tree or a text means in order what it means without them,
-/// and a value that has a canonical tree in its own order without them has that tree.
+/// Proves that in the mode `Finite` a tree or a text means in order what it means in the mode
+/// `Special`, and a canonical tree of a value in its own order is its tree in both modes.
 pub fn finite_is_wider_in_order()
     ensures means { (t : Data) (v : Value) → MeansInOrder Special t v → MeansInOrder Finite t v }
     ensures texts { (text : List ℕ) (v : Value) → HasMeaningInOrder Special text v

@@ -1,4 +1,4 @@
--- Tokens that are written in turn.
+-- Tokens that are written one after another.
 use Rattle.std.proofs.Common.{◌≡◌, List, ◌++◌, Result, Ok, Err, OnOk, ap, ◌∙◌, append_assoc}
 use Rattle.json.specs.Token.{Token}
 

@@ -1,4 +1,4 @@
--- The two trees that a double has: its wrapped text, and its JSON number.
+-- The two trees that a double has: its text in a wrapper, and its JSON number.
 use Rattle.std.proofs.Common.{◌≡◌, ◌⊎◌, ◌<◌, ◌^◌, ℕ, List, Bool, true, false, cond, Option, Some, None, Ok, inl, inr}
 use Rattle.std.proofs.Common.{refl, sym, ap, ◌∙◌, from_bits}
 use Rattle.std.specs.Prelude.{is_some, is_ok, ◌||◌, Result}
@@ -22,7 +22,7 @@ use Rattle.bson_scalar.proofs.DoubleLaws.{double_text-form, special_is}
 use Rattle.bson_scalar.proofs.DoubleModes.{text_is, text_to, text_form, has_text}
 use Rattle.bson_scalar.proofs.FiniteDoubles.{finite_normal}
 
--- the wrapped text, or the number
+-- the text in a wrapper, or the number
 abbrev pub IsDoubleTree : Doubles → Form → ℕ → Data → Type 0
 IsDoubleTree m f p t =
     ((s : List ℕ) × (text_in m p ≡ Some s) × (t ≡ double_tree s))

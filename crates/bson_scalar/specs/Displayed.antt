@@ -1,4 +1,4 @@
--- The text of a value that holds no other, one line a kind. Texts stand as they are, with nothing escaped.
+-- The text of a scalar, one kind per line. Strings are written as they are, with nothing escaped.
 use Rattle.std.specs.Prelude.{ℕ, ◌-◌, ◌++◌, List, Bool, true, false, length, replicate, codes}
 use Rattle.std.specs.Fmt.{decimal, signed_decimal, digits}
 use Rattle.hex.specs.Hex.{encode_lower}

@@ -1,4 +1,4 @@
--- Why a tree means nothing, and what a function answers then.
+-- Why a tree is not valid Extended JSON, and what a function that reads it returns.
 use Rattle.std.specs.Prelude.{◌≡◌, ℕ, List, Result, Ok, Err, Option, Some, None}
 use Rattle.bson_types.specs.OidFault.{IsOidError}
 use Rattle.bson_types.specs.declared.oid.Error as oid

@@ -1,4 +1,4 @@
--- The laws of scalars that the layer above builds on: one a law, for all scalars, in each mode of doubles.
+-- The laws of scalars that the layer above builds on: each for all scalars, in each mode of `Doubles`.
 use Rattle.std.specs.Prelude.{◌≡◌, ◌↔◌, ℕ, Ok, is_ok, is_some, true}
 use Rattle.serde_json.specs.Data.{Data}
 use Rattle.bson_scalar.specs.Doubles.{is_writable, text_in}

@@ -23,12 +23,12 @@ normal_scalar (binary k bytes) = binary (subtype_of (subtype_byte k)) bytes
 normal_scalar (decimal b) = decimal (normal_decimal b)
 normal_scalar x = x
 
--- an Int64 as its tree in the form f reads back
+-- an Int64 as its tree in this form reads back
 abbrev pub int64_as_read : Form → ℤ → Scalar
 int64_as_read Canonical z = int64 z
 int64_as_read Relaxed z = narrowest z
 
--- a scalar as its tree in the form f reads back: narrowed where the form is the relaxed one
+-- a scalar as its tree in this form reads back: narrowed if the form is the relaxed one
 abbrev pub scalar_as_read : Form → Scalar → Scalar
 scalar_as_read f (int64 z) = int64_as_read f z
 scalar_as_read f x = x

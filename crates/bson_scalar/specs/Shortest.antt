@@ -7,7 +7,7 @@ use Rattle.bson_double.specs.Doubles.{is_finite}
 use Rattle.bson_double.specs.Shortest.{nearest_to, whole_of, step_of}
 use Rattle.bson_double.specs.Text.{decimal_text}
 
--- whether d multiples of the power k are read as the double
+-- whether this multiple of the power of ten reads as the double
 abbrev pub is_read : ℕ → ℕ → ℕ → Bool
 is_read p d k = to_bits binary64 (nearest_to d k) == p
 
@@ -24,7 +24,7 @@ unfoldable pub top_power : ℕ → ℕ → ℕ
 top_power p zero = zero
 top_power p (suc n) = if is_some_read p n then n else top_power p n
 
--- of f and the next the one nearer to the double, of two as near the even one
+-- the multiple or the next one, whichever is nearer to the double; if both are equally near, the even one
 abbrev pub nearer : ℕ → ℕ → ℕ → ℕ
 nearer p k f =
     if nat_lt (2 * whole_of p) ((2 * f + 1) * step_of k) then f

@@ -6,7 +6,7 @@ pub use Rattle.bson_scalar.specs.TreeText.{tokens_of}
 use Rattle.bson_scalar.specs.Written.{Refusal, Stops}
 use Rattle.bson_scalar.specs.declared.write_error.WriteError.{WriteError}
 
--- what stands before the scope of a code
+-- the tokens of code with its scope, up to the scope
 abbrev pub code_tokens : List ℕ → List Token
 code_tokens s = begin_object ∷ key (codes "$code") ∷ string s ∷ key (codes "$scope") ∷ []
 
@@ -15,12 +15,12 @@ abbrev pub tokens_added : Members → List ℕ → Data → Members
 tokens_added no_members k d = member k d no_members
 tokens_added (member l e ms) k d = member l e (tokens_added ms k d)
 
--- the tokens of each key and its tree in turn
+-- the tokens of each key, followed by those of its tree
 abbrev pub members_in_turn : Members → List Token
 members_in_turn no_members = []
 members_in_turn (member k d ms) = key k ∷ (tokens_of d ++ members_in_turn ms)
 
--- What a function returned stands for the tree that writing gives, unless memory ran out.
+-- A function that writes to a sink returned what writing gives, or memory ran out.
 abbrev pub Sends : {Tree : Type 0} → (Data → Tree → Type 0) → Result Tree WriteError → Result Data Refusal → Type 0
 Sends wrote (Ok t) (Ok d) = wrote d t
 Sends wrote (Ok t) (Err e) = ⊥

@@ -1,4 +1,4 @@
--- The scalar that a `Scalar` stands for, and a `ScalarRef`.
+-- The scalar of the specification that a `Scalar` or a `ScalarRef` represents.
 use Rattle.std.specs.Prelude.{string_bytes}
 use Rattle.bson_types.specs.DbPointer.{namespace_of, id_of}
 use Rattle.bson_scalar.specs.Scalar.{Scalar, null, undefined, min_key, max_key, boolean, double, int32, int64, text}

@@ -32,7 +32,7 @@ const FINITE_SHAPE: &str =
     "`$numberDouble` must be a decimal number whose nearest double is finite, \
     `Infinity`, `-Infinity`, `NaN` or `-NaN`";
 
-/// What is told of a JSON number that is no i64, where no finite doubles are read.
+/// The message for a JSON number that is not an i64, with `Doubles::Special`.
 pub const NUMBER: &str = "not a 64-bit integer";
 
 const FINITE_NUMBER: &str = "a number is greater than any double";

@@ -44,8 +44,8 @@ pub(crate) fn read_oid(alloc: Global, value: Value) -> Result<Scalar, Error>
     Ok(Scalar::ObjectId(id_of(alloc, text.as_str())?))
 }
 
-// What `$dbPointer` holds, as a pointer. The shape is tested first, so that the text of the
-// object id is told as the fault only where it alone is wrong.
+// Reads the value at `$dbPointer`, as a pointer. The shape is tested first, so the text of the
+// object id is reported as the fault only if it alone is wrong.
 pub(crate) fn read_pointer(alloc: Global, value: Value) -> Result<Scalar, Error>
     ensures { Gives scalar_view result (pointer_read (view value)) }
 {

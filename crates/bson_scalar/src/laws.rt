@@ -17,7 +17,7 @@ pub fn reading()
 {}
 
 /// Proves that writing a scalar returns the grammar's tree of its normal form, and that exactly the
-/// writable scalars have one; of doubles these are the zeros, infinities and NaNs.
+/// writable scalars have one; a `Double` is writable if it is a zero, an infinity or a NaN.
 pub fn writing()
     ensures tree { Tree }
     ensures writable { Writable }
@@ -31,7 +31,7 @@ pub fn round_trip()
     ensures as_read { AsReadAgain }
 {}
 
-/// Proves the laws above in each mode of doubles; in the mode `Finite` every scalar is writable.
+/// Proves the laws above in each mode of `Doubles`; in the mode `Finite` every scalar is writable.
 pub fn each_mode()
     ensures meaning { (m : Doubles) → MeaningIn m }
     ensures one { (m : Doubles) → OneMeaningIn m }

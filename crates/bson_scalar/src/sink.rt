@@ -12,8 +12,8 @@ use json::Writer;
 use serde_json::{Map, Value};
 use std::alloc::{AllocError, Global};
 
-// Where a tree is written to, its parts in their order. Each call answers what stands for what it
-// wrote: a tree in memory, or nothing where its text was appended.
+// Where a tree is written to, its parts in their order. Each call returns what it wrote: a tree in
+// memory, or `()` if its text was appended.
 pub(crate) trait Sink {
     // A tree that was written.
     type Tree: Drop;
@@ -24,10 +24,10 @@ pub(crate) trait Sink {
     // A map that was begun, and the key of the tree that comes next in it.
     type Key: Drop;
 
-    // What stood in the sink before all that was written to it.
+    // The contents of the sink before anything was written to it.
     ghost before: { Self → List ℕ };
 
-    // Between two states of the sink the tree was written, and this stands for it.
+    // Between two states of the sink the tree was written, and the call returned this for it.
     ghost wrote: { Self → Data → Self.Tree → Self → Type 0 };
 
     // Between two states of the sink a map was begun, and these members were written in it.

@@ -21,7 +21,7 @@ pub(crate) fn read_symbol(value: Value) -> Result<Scalar, Error>
     Ok(Scalar::Symbol(text_in(value, "`$symbol` must be a string")?))
 }
 
-// What `$code` holds where it stands alone, as code without a scope.
+// Reads the value at `$code`, the only key of its object, as code without a scope.
 pub(crate) fn read_code(value: Value) -> Result<Scalar, Error>
     ensures { Gives scalar_view result (code_read (view value)) }
 {

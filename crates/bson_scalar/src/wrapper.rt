@@ -2,7 +2,7 @@
 ghost use Rattle.std.specs.Prelude.{◌≡◌, IsTrue, None};
 ghost use Rattle.bson_scalar.specs.Table.{wrapper_of, later_wrapper, number_wrapper, last_wrapper};
 
-/// A wrapper: an object that stands for a value which JSON has no form for, told by its key.
+/// A wrapper: an object, recognized by its key, that denotes a value which JSON has no form for.
 #[derive(Clone, Copy, Debug, Drop, PartialEq, Eq)]
 pub enum Wrapper {
     /// `$oid`

@@ -30,7 +30,7 @@ use Rattle.bson_model.proofs.OfferedInOrder.{means_from, text_means, written_fro
 use Rattle.bson_tables.proofs.Decimals.{one_and_a_half}
 use Rattle.bson_tables.proofs.Shapes.{whole}
 
--- ---- a key that stands twice: the last value at the first place (`IndexMap::insert`; Python's `dict`; `JSON.parse`)
+-- ---- a duplicate key: the last value at the first position (`IndexMap::insert`; Python's `dict`; `JSON.parse`)
 
 abbrev b_then_a : Data → Data → Data
 b_then_a d e = object_of_two (codes "b") d (codes "a") e
@@ -169,7 +169,7 @@ regex_as_specified : (D : Doubles) (p o : List ℕ)
     (scalar (regex p (sorted_text o)))
 regex_as_specified D p o = means_from D _ _ refl
 
--- ---- a wrapper's key beside others means nothing, wherever it stands
+-- ---- a wrapper's key next to others means nothing, in any position
 
 wrapper_key_later : (D : Doubles)
     → reads_in_order D (object_of_two (codes "a") tree.null (codes "$symbol") (tree.string (codes "s")))

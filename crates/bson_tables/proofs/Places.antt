@@ -1,4 +1,4 @@
--- Where the first fault of a tree lies, a row each: a bad id and a wrong shape, by the productions of `FaultAt`.
+-- Where the first fault of a tree is, a row each: a bad id and a wrong shape, by the productions of `FaultAt`.
 use Rattle.std.proofs.Common.{[], ◌∷◌, pos, refl}
 use Rattle.std.specs.Prelude.{codes}
 use Rattle.serde_json.specs.Data.{Data}

@@ -27,7 +27,7 @@ example =
 abbrev IsExample : List ℕ → Type 0
 IsExample text = IsUuidText text example
 
--- digits alone, hyphenated, in capitals, in braces, behind the prefix of the URN, and behind that in capitals
+-- digits alone, hyphenated, in capitals, in braces, after the prefix of the URN, and after that in capitals
 spellings : IsExample (codes "f81d4fae7dec11d0a76500a0c91e6bf6")
     × IsExample (codes "f81d4fae-7dec-11d0-a765-00a0c91e6bf6")
     × IsExample (codes "F81D4FAE-7DEC-11D0-A765-00A0C91E6BF6")

@@ -80,7 +80,7 @@ undefined_no_id (tree.string t) = λ s e. cc
 undefined_no_id (tree.array ds) = λ s e. cc
 undefined_no_id (tree.object ms) = λ s e. cc
 
--- ---- what stands where a bad id is found
+-- ---- the tree in which a bad id is found
 
 -- a step that finds one has something to look at
 some_bad : {A X : Type 0} (o : Option A) (f : A → Result X Fault) (s : List ℕ)

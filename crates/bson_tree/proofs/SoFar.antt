@@ -40,7 +40,7 @@ onto_values-ok : (vs : Values) → onto_values vs (Ok no_values) ≡ Ok vs
 onto_values-ok no_values = refl
 onto_values-ok (value v vs) = ap (λ q. q >>= λ ws. Ok (value v ws)) (onto_values-ok vs)
 
--- the elements before the place n were read, and what was built stands for them
+-- the elements before the index n were read, and what was built represents them
 pub record ItemsRead {X : Type 0} (D : Doubles) (listed : X → Values → Type 0) (read : X) (n : ℕ) (rest all : Items)
     : Type 0 where
   pub done : Values
@@ -103,7 +103,7 @@ unfolding IsStrictlySortedBy
 fresh_start [] h = tt
 fresh_start (m ∷ ms) h = (refl, apart_from m.0 ms h.0, fresh_start ms h.1)
 
--- the pairs before the rest were read, none has a key of the rest, and what was built stands for them
+-- the pairs before the rest were read, none has a key of the rest, and what was built represents them
 pub record PairsRead {X : Type 0} (D : Doubles) (paired : X → Pairs → Type 0) (read : X) (rest all : Members)
     : Type 0 where
   pub done : Pairs

@@ -36,7 +36,7 @@ use Rattle.bson_tree.proofs.FaultLaws.{Coded, nothing_read, number_fault, other_
 abbrev pub Member : Type 0
 Member = String Global × Tree
 
--- ---- what a value stands for
+-- ---- what a value denotes
 
 pub view_number : (n : Number) → view (declared.Number n) ≡ tree.number (number_view n)
 view_number n = search (rules, the_lemmas)
@@ -84,7 +84,7 @@ HasPairs D ms = (ps : Pairs) × (reads_members_in D ms ≡ Ok ps)
 abbrev pub HasScopeIn : Doubles → Data → Type 0
 HasScopeIn D d = (ps : Option Pairs) × (reads_scope_in D d ≡ Ok ps)
 
--- why a tree is no scope, and the path from the fault to the object that it stands in
+-- why a tree is no scope, and the path from the fault to the object that it is in
 pub data IsScopeFaultIn (D : Doubles) : Data → Fault → List PathSegment → Type 0 where
   in_scope : {f : Fault} {path : List PathSegment} (ms : Members) → FaultWithinIn D f ms path
       → IsScopeFaultIn D (tree.object ms) f (path ++ key (codes "$scope") ∷ [])
@@ -245,7 +245,7 @@ module _ (D : Doubles) where
   scope_path d e s is f path (no_scope x none bad) =
       shape_fault (Coded d e) refl (not_open_by_scope d e none) (code_read d e s is ∙ ap (scope_value s) bad)
 
-  -- what is no text, where code is to stand
+  -- a tree that is not a string, where code is expected
   pub no_text_place : (d e : Data) (p : Place) → as_str d ≡ None → IsReason wrong_shape p.reason → path_of p ≡ []
       → IsPlace (λ f. FaultAtIn D f (tree.object (Coded d e))) p
   no_text_place d e p none reason path = at_once p reason path (not_text d e (no_string d none))

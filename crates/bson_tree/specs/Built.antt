@@ -1,4 +1,4 @@
--- What is built of a tree, one part after the other.
+-- What is built from a tree, one part after another.
 use Rattle.std.specs.Prelude.{◌≡◌, ℕ, List, Result, Ok, Err}
 use Rattle.bson_scalar.specs.Faults.{Fault}
 use Rattle.bson_model.specs.Value.{Value, Values, no_values, value, Pairs, no_pairs, pair}
@@ -15,7 +15,7 @@ abbrev pub then_pair : Pairs → List ℕ → Value → Pairs
 then_pair no_pairs k v = pair k v no_pairs
 then_pair (pair l w ps) k v = pair l w (then_pair ps k v)
 
--- what was built stands for what is read; or a fault lies at the place, for its reason
+-- what was built represents what is read; or a fault is at the place, for its reason
 abbrev pub Builds : {X Y : Type 0} → (X → Y → Type 0) → Result Y Fault → (Fault → List PathSegment → Type 0) → Result X Place → Type 0
 Builds {X} {Y} built read lies (Ok x) = (y : Y) × (read ≡ Ok y) × built x y
 Builds built read lies (Err place) = IsPlace lies place

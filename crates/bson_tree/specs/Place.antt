@@ -1,4 +1,4 @@
--- Where the first fault of a tree lies: the path to it, a segment for each array and object that it is in. What a fault
+-- Where the first fault of a tree is: the path to it, a segment for each array and object that it is in. What a fault
 -- is, and which comes first, is stated by the grammar alone (`MeansIn`), a production a line. The law
 -- `places_in_each_mode` joins this with what the function of reading gives.
 use Rattle.std.specs.Prelude.{◌≡◌, ℕ, ◌+◌, List, [], ◌∷◌, ◌++◌, map, codes, string_bytes, true, false}
@@ -50,7 +50,7 @@ dotted (segment ∷ out ∷ more) = dotted (out ∷ more) ++ codes "." ++ word_o
 
 -- ---- what is wrong with a wrapper of one key
 
--- the tree is right in all but this text, which stands as an object id and is not 24 hexadecimal digits (MongoDB
+-- the tree is right except for this text, where an object id must be, which is not 24 hexadecimal digits (MongoDB
 -- Extended JSON v2: `$oid`, and the `$id` of a `$dbPointer`)
 pub data HasBadId : Data → List ℕ → Type 0 where
   oid : (s : List ℕ) → ((id : List ℕ) → IsOidText s id → ⊥) → HasBadId (object_of_one (codes "$oid") (tree.string s)) s
@@ -66,7 +66,7 @@ abbrev pub IsWrapperFaultIn : Doubles → Data → Fault → Type 0
 IsWrapperFaultIn D t (wrong_id s) = HasBadId t s
 IsWrapperFaultIn D t wrong_shape = MeansNothingIn D t × ((s : List ℕ) → HasBadId t s → ⊥)
 
--- ---- where the fault lies
+-- ---- where the fault is
 
 -- an object that has one key, or the two of code with a scope that is an object
 pub data IsOpen : Members → Type 0 where
@@ -82,7 +82,7 @@ mutual
     array : {f : Fault} {path : List PathSegment} (ds : Items) → FaultAmongIn D f 0 ds path → FaultAtIn D f (tree.array ds) path
     document : {f : Fault} {path : List PathSegment} (ms : Members) → has_wrapper ms ≡ false → FaultWithinIn D f ms path
         → FaultAtIn D f (tree.object ms) path
-    -- what stands at the key of a wrapper
+    -- the value at the key of a wrapper
     wrapper : {f : Fault} (k : List ℕ) (d : Data) → has_wrapper (member k d no_members) ≡ true
         → IsWrapperFaultIn D (object_of_one k d) f → FaultAtIn D f (object_of_one k d) (key k ∷ [])
     scope : {f : Fault} {path : List PathSegment} (s : List ℕ) (ms : Members) → FaultWithinIn D f ms path
@@ -115,13 +115,13 @@ abbrev pub IsReason : Fault → Reason → Type 0
 IsReason f (WrongShape message) = f ≡ wrong_shape
 IsReason f (BadObjectId e) = (s : List ℕ) × (f ≡ wrong_id s) × IsIdFault s e
 
--- a fault lies at the place, for its reason
+-- a fault is at the place, for its reason
 pub record IsPlace (lies : Fault → List PathSegment → Type 0) (place : Place) : Type 0 where
   pub fault : Fault
   pub path : lies fault (path_of place)
   pub reason : IsReason fault place.reason
 
--- the tree means nothing, and its first fault lies at the place, for its reason
+-- the tree means nothing, and its first fault is at the place, for its reason
 pub record IsFirstFaultIn (D : Doubles) (t : Data) (place : Place) : Type 0 where
   pub nothing : MeansNothingIn D t
   pub fault : Fault

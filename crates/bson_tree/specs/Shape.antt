@@ -1,4 +1,4 @@
--- The wrapper that an object is not, though it has its key; and what is told then.
+-- The wrapper that an object is not, though it has its key; and the message for it.
 use Rattle.std.specs.Prelude.{ℕ, List, ◌++◌, codes, Option, Some, None}
 use Rattle.serde_json.specs.Data.{Members, no_members, member}
 use Rattle.bson_scalar.specs.Table.{key_of, wrapper_of}

@@ -24,13 +24,13 @@ pub trait ValueBuilder {
     /// The pairs of a document, so far.
     type Pairs: Drop;
 
-    // What was built stands for the value.
+    // What was built represents the value.
     ghost built: { Self.Value → model.Value → Type 0 };
 
-    // What was built stands for these elements.
+    // What was built represents these elements.
     ghost listed: { Self.Items → Values → Type 0 };
 
-    // What was built stands for these pairs.
+    // What was built represents these pairs.
     ghost paired: { Self.Pairs → Pairs → Type 0 };
 
     /// A value that holds no other.

@@ -35,7 +35,7 @@ pub enum Reason {
     #[error("{0}")]
     BadObjectId(oid::Error),
 
-    /// Anything else, told by what was expected there: an object with a wrapper key has not exactly
+    /// Anything else, with what was expected there: an object with a wrapper key has not exactly
     /// that wrapper's shape, or a number is no i64, or has no finite double where those are read.
     #[error("{0}")]
     WrongShape(&'static str),

@@ -1,4 +1,4 @@
-//! Wrong shapes: which wrapper's an object has not, and what is told of it.
+//! Wrong shapes: which wrapper an object is not, though it has its key, and the message for it.
 ghost use Rattle.std.specs.Prelude.{◌≡◌, is_some};
 ghost use Rattle.bson_tree.specs.Shape.{alone_text, wrapper_in};
 ghost use Rattle.bson_scalar.specs.Table.{has_wrapper};
@@ -8,10 +8,10 @@ pub use bson_scalar::doubles::NUMBER;
 use bson_scalar::wrapper::{Wrapper, wrapper_named};
 use serde_json::{Map, Value};
 
-/// Of code that is no text, beside a scope.
+/// The message for code that is not a string, next to a scope.
 pub const CODE: &str = "`$code` must be a string";
 
-/// Of what stands as a scope, beside code.
+/// The message for a scope that is not an object, next to code.
 pub const SCOPE: &str = "`$scope` must be an object";
 
 /// Returns the reason for an object that has the wrapper's key, and other keys than the wrapper's

@@ -151,7 +151,7 @@ fn of_number<B: ValueBuilder>(
     }
 }
 
-// The place of a fault in what stands behind the segment.
+// The place of a fault in the value that the segment leads to.
 fn with_segment(place: Place, segment: Segment) -> Result<Place, AllocError>
     ensures path { IfOk result (λ p. path_of p ≡ path_of place ++ segment_of segment ∷ []) }
     ensures reason { IfOk result (λ p. p.reason ≡ place.reason) }
@@ -290,7 +290,7 @@ fn at_key(alloc: Global, key: String, reason: Reason) -> Result<Place, AllocErro
     with_segment(at(alloc, reason), Segment::Key(key))
 }
 
-// What stands as a scope, beside what stands as its code.
+// The value at `$scope`, next to the value at `$code`.
 #[cycle(walk)]
 fn read_code<B: ValueBuilder>(
     alloc: Global,
@@ -308,7 +308,7 @@ fn read_code<B: ValueBuilder>(
     }
 }
 
-// What stands as a scope, beside code that is a text.
+// The value at `$scope`, next to code that is a string.
 #[cycle(walk)]
 fn read_scope<B: ValueBuilder>(
     alloc: Global,

@@ -59,7 +59,7 @@ code_begins depth k (first.Bool b) ts r j read = no_code k j (no_text_begins dep
 code_begins depth k first.Null ts r j read = no_code k j (no_text_begins depth first.Null ts r j (λ s e. cc) read)
 code_begins depth k first.Bad ts r j read = no_code k j (no_text_begins depth first.Bad ts r j (λ s e. cc) read)
 
--- ---- an object of no older shape
+-- ---- an object of no shape of v1
 
 open_other : (texts : Texts) (k : List ℕ) (t : found.Token) (depth : ℕ) (ts r : List Token) (j : Json) (ms : Members)
     → HasNoOlderShape texts t → value depth (token_of t ∷ ts) ≡ Some (j, r) → older (onto texts (member k j ms)) ≡ other
@@ -297,7 +297,7 @@ module _ (depth : ℕ) (left : 0 < depth) where
       → value depth (token.begin_object ∷ ts) ≡ Some (object scope, r)
   scope_read ts r scope read = value-begin_object depth ts left ∙ ap (parse_map object) read
 
-  -- the scope breaks, or what is behind it
+  -- the scope is invalid, or what is after it
   pub broken_scope : (k : List ℕ) (ts : List Token) → inside (depth - 1) ts ≡ None
       → inside depth (token.key k ∷ token.begin_object ∷ ts) ≡ None
   broken_scope k ts none =
@@ -338,7 +338,7 @@ module _ (depth : ℕ) (left : 0 < depth) where
         (json_tokens (scope_before f scope ms) ++ members_tokens (upgraded_members ms)),
   )
 
-  -- it is of no older shape, so that what comes after it does not count
+  -- it has no shape of v1, so what comes after it does not matter
   pub open_scope_passes : (f : Bool) (texts : Texts) (k : List ℕ) (l : Bor (List ℕ)) (t : found.Token)
       (ts q r rest old named begun strings inner new : List Token) → Begins (Open texts l t) ts q
       → named ≡ old ++ token.key k ∷ [] → begun ≡ named ++ token.begin_object ∷ []
@@ -369,7 +369,7 @@ too_deep_scope depth k ts deep =
     no_member depth k (token.key k ∷ token.begin_object ∷ ts) (token.begin_object ∷ ts) refl
     (ap (λ d. value d (token.begin_object ∷ ts)) deep ∙ value_is 0 (token.begin_object ∷ ts))
 
--- ---- a scope that was held
+-- ---- a scope that was read as a whole
 
 before_is : (f : Bool) (scope ms : Members) → scope_before f scope ms ≡ scope_or_value (f || starts_with_code ms) scope
 before_is true scope ms = refl

@@ -17,7 +17,7 @@ use Rattle.bson_tokens.specs.Normalizing.{elements, inside}
 use Rattle.bson_v1.specs.Passed.{MemberPasses, PassesTokens, of_items, of_members, of_value}
 use Rattle.bson_tokens.proofs.Offered.{one_item, last_item, one_member, last_member}
 
--- the tokens of what is read behind those that stand, beside the tokens that are left
+-- the tokens that were written, followed by those of what is read; and the tokens that are left
 abbrev pub whole : {A : Type 0} → (A → List Token) → List Token → Option (A × List Token)
     → Option (List Token × List Token)
 whole written old read = option_map (λ p. (old ++ written p.0, p.1)) read
@@ -35,7 +35,7 @@ pub all_breaks : {A : Type 0} (written : A → List Token) (old now : List Token
 all_breaks written old now None left e none = refl
 all_breaks written old now (Some p) left e none = let never = e ∙ ap (whole written now) none in cc
 
--- an answer tells that the one breaks, and so the other does
+-- a result says that the one is invalid, and so the other is
 pub breaks : {A B X : Type 0} (r : Result X Error) (a : Option A) (b : Option B) → (a ≡ None → b ≡ None)
     → IfErr r (InvalidMeansNone a) → IfErr r (InvalidMeansNone b)
 breaks r a b so h = IfErr-weaker r (InvalidMeansNone a) (InvalidMeansNone b) (λ e none broken. so (none broken)) h

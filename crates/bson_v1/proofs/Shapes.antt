@@ -1,4 +1,4 @@
--- Objects of no older shape, by the token with which a value begins.
+-- Objects of no shape of v1, by the token with which a value begins.
 use Rattle.std.proofs.Common.{◌≡◌, ℕ, List, ◌∷◌, Bool, true, false, Option, Some, None, refl, sym, ap, ◌∙◌}
 use Rattle.json.specs.Json.{Json, Members, no_members, member, parse_map, value}
 use Rattle.json.specs.Json as json
@@ -35,7 +35,7 @@ no_text depth (first.Bool b) ts is = ap text_read (value_is depth _)
 no_text depth first.Null ts is = ap text_read (value_is depth _)
 no_text depth first.Bad ts is = ap text_read (value_is depth _)
 
--- a value that begins with such a token is none
+-- a value that begins with this token is not one
 pub no_text_begins : (depth : ℕ) (t : found.Token) (ts r : List Token) (j : Json) → IsOther t
     → value depth (token_of t ∷ ts) ≡ Some (j, r) → is_text j ≡ false
 no_text_begins depth t ts r j is read = sym (ap text_read read) ∙ no_text depth t ts is

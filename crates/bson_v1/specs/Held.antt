@@ -1,4 +1,4 @@
--- How an object begins, and what is written of it. For private clauses.
+-- The members with which an object begins, and what is written for it. For private clauses.
 use Rattle.std.specs.Prelude.{◌≡◌, ◌≢◌, ◌++◌, ◌&&◌, ℕ, Bool, true, false, List, [], ◌∷◌, Option, Some, None, codes}
 use Rattle.std.specs.Prelude.{if◌then◌else◌}
 use Rattle.std.specs.Borrow.{Bor}
@@ -38,11 +38,11 @@ abbrev pub AreTwo : Texts → Type 0
 AreTwo (Two k s l t) = Unit {0}
 AreTwo texts = ⊥
 
--- the token is no string
+-- the token is not a string
 abbrev pub IsOther : found.Token → Type 0
 IsOther t = (s : Bor (List ℕ)) → t ≡ String s → ⊥
 
--- a value that begins with the token, after the strings, shows that the object has no older shape
+-- a value that begins with the token, after the strings, shows that the object has no shape of v1
 abbrev pub HasNoOlderShape : Texts → found.Token → Type 0
 HasNoOlderShape (Two k s l t) first = Unit {0}
 HasNoOlderShape texts first = IsOther first

@@ -1,4 +1,4 @@
--- What was written of what was read, token by token. For private clauses.
+-- The tokens that are written for what was read. For private clauses.
 use Rattle.std.specs.Prelude.{◌≡◌, ◌++◌, ℕ, List, Option, Some}
 use Rattle.json.specs.Json.{Json, object, Items, Members, member, value}
 use Rattle.json.specs.Token.{Token}
@@ -6,7 +6,7 @@ use Rattle.json.specs.Tree.{json_tokens, items_tokens, members_tokens}
 use Rattle.bson_tokens.specs.Normalizing.{inside}
 use Rattle.bson_v1.specs.Upgraded.{upgraded, upgraded_items, upgraded_members}
 
--- the tokens of what each stands for
+-- the tokens of what each denotes
 abbrev pub of_value : Json → List Token
 of_value j = json_tokens (upgraded j)
 
@@ -19,12 +19,12 @@ of_members ms = members_tokens (upgraded_members ms)
 abbrev pub of_object : Members → List Token
 of_object ms = of_value (object ms)
 
--- something was read, of which these tokens are left, and the tokens of what it stands for come behind the old ones
+-- something was read, after which these tokens are left; the tokens of what it denotes are appended to the old ones
 abbrev pub PassesTokens : {A : Type 0} → (A → List Token) → Option (A × List Token) → List Token → List Token → List Token
     → Type 0
 PassesTokens {A} written read rest old new = (a : A) × (read ≡ Some (a, rest)) × (new ≡ old ++ written a)
 
--- the same of the value at a key, and of the members behind it
+-- the value at a key and the members after it were read, and their tokens are appended
 abbrev pub MemberPasses : ℕ → List ℕ → List Token → List Token → List Token → List Token → Type 0
 MemberPasses depth k ts rest old new = (j : Json) × (ms : Members) × (r : List Token) × (value depth ts ≡ Some (j, r))
     × (inside depth r ≡ Some (ms, rest)) × (new ≡ old ++ of_members (member k j ms))

@@ -9,7 +9,7 @@ use Rattle.bson_tokens.specs.Double.{json_of}
 use Rattle.bson_tokens.specs.declared.arrangement.Arrangement.TheVariants.{FirstPlaces}
 use Rattle.bson_v1.specs.Upgraded.{upgraded}
 
--- the compact text of the tree of v2 for which the text's tree stands once each of its keys has its last value; it is
+-- the compact text of the tree of v2 that the text's tree denotes, with the last value of each of its keys; it is
 -- read as that tree if it nests no deeper than a text may
 pub record IsUpgradedText (text written : List ℕ) : Type 0 where
   pub resolved : List ℕ

@@ -1,5 +1,5 @@
--- The tree of Extended JSON v2 that a tree of v1 stands for (MongoDB Extended JSON v1; the Extended JSON specification,
--- "Parsers", which lets readers take the older shapes). Members keep their order, and a key that stands twice does too.
+-- The tree of Extended JSON v2 that a tree of v1 denotes (MongoDB Extended JSON v1; the Extended JSON specification,
+-- "Parsers", which lets readers accept the shapes of v1). Members keep their order, also those with a duplicate key.
 use Rattle.std.specs.Prelude.{ℕ, ◌-◌, List, ◌++◌, length, take, drop, slice_index, Bool, ◌&&◌, ◌||◌, ◌==◌}
 use Rattle.std.specs.Prelude.{codes, false, nat_le, if◌then◌else◌}
 use Rattle.std.specs.Str.{bytes_eq}
@@ -14,20 +14,20 @@ is_sign x = (x == 43) || (x == 45)
 abbrev pub is_digit : ℕ → Bool
 is_digit x = nat_le 48 x && nat_le x 57
 
--- a sign and four digits stand at the end, as in 2020-06-01T00:42:40+0200
+-- a sign and four digits are at the end, as in 2020-06-01T00:42:40+0200
 abbrev pub ends_in_offset : List ℕ → Bool
 ends_in_offset s =
     nat_le 5 (length s) && is_sign (slice_index s (length s - 5)) && is_digit (slice_index s (length s - 4))
     && is_digit (slice_index s (length s - 3)) && is_digit (slice_index s (length s - 2))
     && is_digit (slice_index s (length s - 1))
 
--- the text, with a colon in such an offset, as RFC 3339 (section 5.6) has it
+-- the text, with a colon in this offset, as RFC 3339 (section 5.6) has it
 abbrev pub with_colon : List ℕ → List ℕ
 with_colon s = if ends_in_offset s then take (length s - 2) s ++ codes ":" ++ drop (length s - 2) s else s
 
--- ---- older shapes
+-- ---- the shapes of v1
 
--- what an object of v1 stands for: a binary of this base64 text and subtype, a regular expression of this pattern and
+-- what an object of v1 denotes: a binary of this base64 text and subtype, a regular expression of this pattern and
 -- these options, a date of this text; or itself
 pub data Shape : Type 0 where
   binary : List ℕ → List ℕ → Shape
@@ -35,7 +35,7 @@ pub data Shape : Type 0 where
   date : List ℕ → Shape
   other : Shape
 
--- of two keys that hold strings, in either order
+-- the shape of two keys whose values are texts, in either order
 abbrev pub strings : List ℕ → List ℕ → List ℕ → List ℕ → Shape
 strings k s l t =
     if bytes_eq k (codes "$binary") && bytes_eq l (codes "$type") then binary s t
@@ -58,7 +58,7 @@ older (member k j no_members) = lone k j
 older (member k j (member l i no_members)) = pair k j l i
 older (member k j (member l i (member m h ms))) = other
 
--- ---- what they stand for
+-- ---- what they denote
 
 abbrev pub of_one : List ℕ → Json → Json
 of_one k j = json.object (member k j no_members)
@@ -94,7 +94,7 @@ is_scope k = bytes_eq k (codes "$scope")
 
 -- ---- whole trees
 
--- each object of an older shape is the newer one, except a scope, whose keys are free; everything else stays
+-- each object of a shape of v1 becomes that of v2, except a scope, whose keys are free; everything else stays
 abbrev mutual
   pub upgraded : Json → Json
   upgraded json.null = json.null
@@ -113,7 +113,7 @@ abbrev mutual
   upgraded_scope (json.array js) = json.array (upgraded_items js)
   upgraded_scope (json.object ms) = json.object (upgraded_object ms)
 
-  -- the members of an object of no older shape, which may begin with code and its scope, in either order
+  -- the members of an object of no shape of v1, which may begin with code and its scope, in either order
   pub upgraded_object : Members → Members
   upgraded_object no_members = no_members
   upgraded_object (member k j no_members) = member k (upgraded j) no_members

@@ -13,7 +13,7 @@ use Rattle.bson_v1.specs.Upgraded.{binary_json, date_json, ends_in_offset, regex
 abbrev pub strings_at : List ℕ → List ℕ → List ℕ → List ℕ → Members
 strings_at k s l t = member k (json.string s) (member l (json.string t) no_members)
 
--- the members are those of an object of v1, for which the tree of v2 stands
+-- the members are those of an object of v1, which denotes the tree of v2
 pub data IsVersion1 : Members → Json → Type 0 where
   binary : (base64 sub_type : List ℕ)
       → IsVersion1 (strings_at (codes "$binary") base64 (codes "$type") sub_type) (binary_json base64 sub_type)

@@ -1,4 +1,4 @@
-//! The beginning of an object, up to the member that shows that it has no older shape.
+//! The beginning of an object, up to the member that shows that it has no shape of v1.
 ghost use Rattle.std.specs.Prelude.{◌≡◌, ◌||◌, IfErr, IfOk};
 ghost use Rattle.bson_v1.specs.Held.{AreTwo, Begins, IsNext, NeverBegins, begins_code, held_tokens, scope_place};
 
@@ -17,7 +17,7 @@ pub(crate) enum Begun<'a> {
     /// All of it: it has these members.
     Whole(Texts<'a>),
     /// These members, the key of the next one, and the first token of its value. The object has no
-    /// older shape.
+    /// shape of v1.
     Open(Texts<'a>, &'a str, Token<'a>),
 }
 
@@ -35,7 +35,7 @@ pub(crate) fn hold<'a>(reader: &mut Reader<'a>) -> Result<Begun<'a>, Error>
     hold_second(key, text, reader)
 }
 
-// The same after a first string.
+// Reads on after a first string.
 fn hold_second<'a>(key: &'a str, text: &'a str, reader: &mut Reader<'a>) -> Result<Begun<'a>, Error>
     ensures ok { IfOk result (λ begun. Begins begun (held_tokens (Texts.One key.entry text.entry) reader.old) reader.new) }
     ensures broken { IfErr result (NeverBegins (Texts.One key.entry text.entry) reader.old) }
@@ -50,7 +50,7 @@ fn hold_second<'a>(key: &'a str, text: &'a str, reader: &mut Reader<'a>) -> Resu
     hold_third(Texts::Two(key, text, other, more), reader)
 }
 
-// The same after two strings: a third member shows that the object has no older shape.
+// Reads on after two strings: a third member shows that the object has no shape of v1.
 fn hold_third<'a>(texts: Texts<'a>, reader: &mut Reader<'a>) -> Result<Begun<'a>, Error>
     requires { AreTwo texts }
     ensures ok { IfOk result (λ begun. Begins begun (held_tokens texts.entry reader.old) reader.new) }

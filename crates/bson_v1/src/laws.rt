@@ -8,7 +8,7 @@ ghost use Rattle.bson_v1.specs.Upgraded.{upgraded, upgraded_object};
 ghost use Rattle.bson_v1.specs.Text.{IsUpgradedText};
 ghost use Rattle.bson_v1.specs.Version1.{IsNotVersion1, IsTextOfVersion2, IsVersion1, IsVersion2};
 
-/// Proves that an object of a shape of v1 is the object of v2 for which it stands; every other
+/// Proves that an object of a shape of v1 becomes the object of v2 that it denotes; every other
 /// object keeps its keys; and a tree of v2 stays.
 pub fn version_1_is_rewritten()
     ensures shape { (ms : Members) (t : Json) → IsVersion1 ms t → upgraded (object ms) ≡ t }

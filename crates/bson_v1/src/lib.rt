@@ -1,8 +1,8 @@
-//! Texts of the older MongoDB Extended JSON (v1), as older programs wrote them, made into those of
-//! v2 that they stand for, with no tree.
+//! Rewrites texts of MongoDB Extended JSON v1, the notation before v2, as the texts of v2 that they
+//! denote, without a tree.
 //!
-//! In reading order: `date` (offsets with no colon), `held` (how an object begins), `older` (objects
-//! of an older shape), `upgraded` (from a text to the text in its place), `laws` (of the definitions).
+//! In reading order: `date` (offsets with no colon), `object_start` (how an object begins), `v1_shapes`
+//! (objects of a shape of v1), `upgraded` (from a text to the text in its place), `laws` (of the definitions).
 #![tactic(auto)]
 
 mod date;

@@ -1,4 +1,4 @@
-//! Objects of two strings at most, which may have an older shape, and what is written for them.
+//! Objects of two strings at most, which may have a shape of v1, and what is written for them.
 ghost use Rattle.std.specs.Prelude.{◌≡◌, ◌++◌, ◌∷◌, [], OnOk};
 ghost use Rattle.json.specs.Json.{no_members, string};
 ghost use Rattle.json.specs.Token as token;
@@ -12,7 +12,7 @@ use crate::held::Texts;
 use json::Writer;
 use std::alloc::{AllocError, Global};
 
-/// Writes what the object of these members stands for.
+/// Writes the value of v2 that the object of these members denotes.
 pub(crate) fn write_older(
     alloc: Global,
     texts: Texts<'_>,
@@ -32,7 +32,7 @@ pub(crate) fn write_older(
 }
 
 /// Writes the object at `$scope` that has these members: as it is if code is next to it, or else
-/// what it stands for.
+/// what it denotes.
 pub(crate) fn write_scope_or_value(
     alloc: Global,
     is_scope: bool,
@@ -66,7 +66,7 @@ pub(crate) fn write_held(texts: Texts<'_>, out: &mut Writer) -> Result<(), Alloc
     }
 }
 
-// Writes what the object of this member alone stands for: a date, or itself.
+// Writes what the object of this member alone denotes: a date, or itself.
 fn write_single_key(
     alloc: Global,
     key: &str,
@@ -92,7 +92,7 @@ fn write_one(key: &str, text: &str, out: &mut Writer) -> Result<(), AllocError>
     out.end_object()
 }
 
-// Writes what the object of these two members stands for.
+// Writes what the object of these two members denotes.
 fn write_pair(
     key: &str,
     text: &str,
@@ -140,7 +140,7 @@ fn write_regex(pattern: &str, options: &str, out: &mut Writer) -> Result<(), All
     )
 }
 
-// The object of a key alone, which holds an object of two texts.
+// Writes an object of one key, whose value is an object of two strings.
 fn write_wrapper(
     wrapper: &str,
     key: &str,

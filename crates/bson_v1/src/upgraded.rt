@@ -149,8 +149,8 @@ fn write_items<'a>(
     Ok(out.end_array()?)
 }
 
-// An object whose brace was read. While it may have an older shape its members are held: no more
-// than two, which are strings.
+// An object whose brace was read. While it may have a shape of v1, its members are buffered: no
+// more than two, which are strings.
 #[cycle(write)]
 fn write_object<'a>(
     alloc: Global,
@@ -174,7 +174,7 @@ fn write_object<'a>(
 }
 
 // The member of this key, of whose value the first token was read, and those after it, in an object
-// that begins with the strings and has no older shape.
+// that begins with the strings and has no shape of v1.
 #[cycle(write)]
 fn write_rest<'a>(
     alloc: Global,
@@ -254,7 +254,7 @@ fn write_held_scope<'a>(
     write_member(alloc, key, first, reader, depth, out)
 }
 
-// The member of this key, of whose value the first token was read, and those behind it.
+// Writes the member of this key, of whose value the first token was read, and those after it.
 #[cycle(write)]
 fn write_member<'a>(
     alloc: Global,

@@ -31,7 +31,7 @@ decreases-write_rest l = 8 * l.depth + 6
 abbrev pub decreases-write_object : goal.decreases-write_object
 decreases-write_object l = 8 * l.depth + 7
 
--- what is left, written behind what was written, is the whole
+-- what is left, written after what was written, is the whole
 abbrev pub invariant-write_items-items : goal.invariant-write_items-items
 invariant-write_items-items l = (l.out.before ≡ l.initial.out.before)
     × (whole of_items l.initial.out.tokens (elements l.depth l.initial.reader)
