@@ -61,7 +61,7 @@ ended CannotRead run number start before done taken more said is h f = absurd is
 ended CannotWrite run number start before done taken more said is h f = absurd is
 ended OutOfMemory run number start before done taken more said is h f = absurd is
 
--- bytes that a reader had, and their beginning
+-- the bytes of a reader, and their beginning
 same_front : (a b c d : List ℕ) → a ++ b ≡ c ++ d → length a ≡ length c → a ≡ c
 same_front a b c d e l = sym (take_at a b (length a) refl) ∙ ap (take (length a)) e ∙ take_at c d (length a) (sym l)
 

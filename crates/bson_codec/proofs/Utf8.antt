@@ -1,4 +1,4 @@
--- What a run writes and reports is UTF-8.
+-- The output and the diagnostics of a run are UTF-8.
 use Rattle.std.proofs.Common.{◌+◌, ◌/◌, ◌%◌, ◌<◌, ◌==◌, ◌&&◌, ℕ, zero, suc, Bool, true, false, cond, List, [], ◌∷◌}
 use Rattle.std.proofs.Common.{codes, nat_lt, mod-lt, refl, ap, arith}
 use Rattle.std.specs.Prelude.{IsUtf8}

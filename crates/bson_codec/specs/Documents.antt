@@ -79,10 +79,10 @@ pub data Dump (run : Run) : List ℕ → List ℕ → List ℕ → ℕ → ℕ �
 
 -- ---- a run
 --
--- Of a run, before and after are the bytes that the reader had left and has left, had and holds what the writer held
--- and holds, told and tells what the writer of verdicts held and holds: None where that is not known.
+-- For a run, before and after are the remaining bytes of the reader, and the other pairs are the contents of the output
+-- writer and of the diagnostics writer, before and after the run: None if they are not known.
 
--- all that the reader had are documents, and what they give was written and told
+-- all bytes of the reader are documents, and their output and diagnostics were written
 pub record DoneDocuments (run : Run) (before after had holds reported reports : Option (List ℕ)) (number refused : ℕ)
     : Type 0 where
   pub bytes : List ℕ
@@ -143,7 +143,7 @@ abbrev pub BeginsWithNone : Run → List ℕ → Type 0
 BeginsWithNone run bytes = (ps : Pairs) (rest : List ℕ) → IsFront run.depth bytes ps rest
     → IsUnwritable run.options run.line ps
 
--- if the fault is one of the bytes, those behind so many that the reader had are some, begin with no document that is
+-- if the fault is one of the bytes, those after so many bytes of the reader are some, begin with no document that is
 -- written, and with none that the run passes over
 abbrev pub IsJustified : Run → (before : Option (List ℕ)) → RunFault → (start : ℕ) → Type 0
 IsJustified run before fault start = (done rest : List ℕ) → before ≡ Some (done ++ rest) → length done ≡ start

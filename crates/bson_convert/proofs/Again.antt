@@ -1,4 +1,4 @@
--- What is written of a value that was read comes back.
+-- Writing and reading a value round-trip.
 use Rattle.std.proofs.Common.{◌≡◌, ℕ, List, ◌++◌, ap, ◌∙◌, subst}
 use Rattle.bson_scalar.specs.declared.form.Form.{Form}
 use Rattle.bson_model.specs.Value.{Value}

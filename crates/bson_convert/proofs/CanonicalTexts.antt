@@ -55,7 +55,7 @@ module _ (o : Options) where
       (sym (converts_one o Canonical bytes (text ++ newline) (bytes ++ newline)
       (text_converts o Canonical bytes text (text ++ newline) is refl) c))
 
-  -- they are not, and differ from it behind so many bytes
+  -- they are not, and differ from it after so many bytes
   pub uncanonical : (n : ℕ) (bytes text : List ℕ) → IsConvertedText o Canonical bytes text → take n bytes ≡ take n text
       → take (suc n) bytes ≢ take (suc n) text → IsUncanonicalAt o (suc n) bytes
   uncanonical n bytes text is same differ = record {
@@ -64,7 +64,7 @@ module _ (o : Options) where
     differ = record { before = n; counted = refl; same = same; differ = differ };
   }
 
-  -- they have no such text
+  -- they have no canonical text
   pub refused : (fault : Error) (bytes : List ℕ) → IsRefusedIn o fault bytes → IsUncanonicalIn o fault bytes
   refused CannotRead bytes h = h
   refused NotJson bytes h = h

@@ -70,7 +70,7 @@ one_value i j same =
 abbrev pub whole : Option (Json × List Token) → Option Json
 whole r = option_and_then (λ p. if_last p.0 p.1) r
 
--- it is one value, and nothing behind it
+-- it is one value, and nothing after it
 pub parsed_whole : {A : Type 0} (of : Json → Option A) (r : Option (Json × List Token)) (t : A)
     → option_and_then of (whole r) ≡ Some t → (j : Json) × (r ≡ Some (j, []))
 parsed_whole of None t h = absurd cc

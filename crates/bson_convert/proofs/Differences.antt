@@ -1,4 +1,4 @@
--- Where two lists of bytes begin to differ.
+-- The first position at which two lists of bytes differ.
 use Rattle.std.proofs.Common.{◌≡◌, ◌≢◌, ◌⊎◌, inl, inr, ◌<◌, ◌≤◌, ℕ, suc, min, List, get_or, length, take, arith, sym, ap, ◌∙◌}
 use Rattle.std.proofs.lemmas.Bool.{cases_order}
 use Rattle.std.proofs.lemmas.List.{get_or-take, length-take, take-take, take_all}

@@ -1,4 +1,4 @@
--- What the text of the same tree says is what a text says, and what is refused of one that means something.
+-- A text of the same tree has the same meaning, and a text with a meaning is not rejected.
 use Rattle.std.proofs.Common.{◌≡◌, ℕ, List, Result, Ok, Err, Some, None, IfErr, refl, sym, ◌∙◌, subst}
 use Rattle.std.specs.Prelude.{IsUtf8}
 use Rattle.serde_json.specs.Data.{Data}

@@ -1,4 +1,4 @@
--- What the crates above may use.
+-- The lemmas that the crates above may use.
 pub use Rattle.bson_convert.proofs.Normalized.{accepted, accepted_alike, refused_alike, text_alike}
 pub use Rattle.bson_convert.proofs.Converting.{text_converts}
 pub use Rattle.bson_convert.proofs.Deep.{numbers, parsed_whole, shallow, text_parsed, whole}

@@ -1,4 +1,4 @@
--- What is written in a form is read as a tree that is written so.
+-- Output in a form is read as a tree with the same output.
 use Rattle.std.proofs.Common.{◌≡◌, ◌++◌, ℕ, List, Vec, Global, IfOk, true, Result, Ok, Err, refl, sym, ap, ◌∙◌, subst}
 use Rattle.std.specs.Prelude.{is_ok, IsUtf8}
 use Rattle.serde_json.specs.Data.{Data}

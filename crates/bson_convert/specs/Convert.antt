@@ -1,4 +1,4 @@
--- What converting makes of bytes: the output of the one value that they mean as a text, or why they mean none.
+-- Converting bytes: the output for the one value that they denote as a text, or why they denote none.
 use Rattle.std.specs.Prelude.{◌≡◌, ◌≤◌, ℕ, List, [], ◌∷◌, ◌++◌, Some, IsUtf8, string_bytes}
 use Rattle.serde_json.specs.Data.{Data, depth}
 use Rattle.serde_json.specs.Read.{read, max_depth}
@@ -123,7 +123,7 @@ IsTextFor o Canonical value text = IsTextUnder o.doubles form.Canonical value te
 IsTextFor o Relaxed value text = IsTextUnder o.doubles form.Relaxed value text
 IsTextFor o Show value text = text ≡ display_text value
 
--- such a text of the value that the bytes mean
+-- a text for the mode, of the value that the bytes denote
 abbrev pub IsConvertedText : Options → Mode → List ℕ → List ℕ → Type 0
 IsConvertedText o mode bytes text =
     (value : Value) × HasTextMeaningIn o.doubles bytes value × IsTextFor o mode value text

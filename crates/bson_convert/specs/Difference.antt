@@ -1,4 +1,4 @@
--- Where two lists of bytes begin to differ.
+-- The first position at which two lists of bytes differ.
 use Rattle.std.specs.Prelude.{◌≡◌, ◌≢◌, ℕ, suc, List, take}
 
 -- they differ in the byte of this column, counted from 1, and in none before it

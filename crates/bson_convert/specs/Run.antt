@@ -1,4 +1,4 @@
--- What a run does to the bytes that a reader has left and to those that a writer holds, where these are known.
+-- A run: the remaining bytes of the reader and the contents of the writer, if these are known.
 use Rattle.std.specs.Prelude.{◌≡◌, ℕ, ◌<◌, List, length, Option, Some, IsUtf8}
 use Rattle.std.specs.Io.{StartsWith}
 use Rattle.std.specs.Io.KnownBytes.{Keeps, Appends, Consumes, IsAtEnd}
@@ -29,7 +29,7 @@ pub record WritesPart (had holds : Option (List ℕ)) (output : List ℕ) : Type
   pub short : length beginning < length output
   pub written : Appends had holds beginning
 
--- all that the reader had is converted to the output
+-- all bytes of the reader are converted to the output
 pub record AcceptsIn (o : Options) (mode : Mode) (before after : Option (List ℕ)) (output : List ℕ) : Type 0 where
   pub bytes : List ℕ
   pub all : ReadsAll before after bytes
@@ -52,7 +52,7 @@ pub record CutShortIn (o : Options) (mode : Mode) (before after had holds : Opti
 abbrev pub IsRefusedAs : Options → Fault → List ℕ → Type 0
 IsRefusedAs o fault bytes = (error : Error) × IsRefusedIn o error bytes × (fault_kind error ≡ Some fault)
 
--- all that the reader had is rejected for an error of this kind
+-- all bytes of the reader are rejected for an error of this kind
 pub record RefusesIn (o : Options) (fault : Fault) (before after : Option (List ℕ)) : Type 0 where
   pub bytes : List ℕ
   pub all : ReadsAll before after bytes

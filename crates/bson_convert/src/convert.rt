@@ -167,7 +167,7 @@ pub(crate) fn line_text(
     finish(alloc, options, mode, attempt)
 }
 
-// What was written at once, or the text of the normalized one.
+// Returns the text that was already written, or writes the text of the normalized input.
 fn finish(alloc: Global, options: Options, mode: Mode, attempt: Attempt) -> Result<Vec<u8>, Error>
     ensures ok { (bytes : List ℕ) → IsTried options mode bytes attempt
         → IfOk result (λ text. IsConvertedText options mode bytes text.items) }

@@ -21,7 +21,7 @@ use bson_tokens::normalize::normalize_text;
 use json::Scratch;
 use std::alloc::{AllocError, Global};
 
-/// What a first reading gives.
+/// The result of reading bytes once.
 ///
 /// ```
 /// let options = Options::default();

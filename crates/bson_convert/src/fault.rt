@@ -4,8 +4,8 @@ ghost use Rattle.bson_convert.specs.Words.{line_of};
 
 /// Why a run failed: the kind of its error.
 ///
-/// Where the error of a rejected text lies is in [`Error`](crate::error::Error), which the
-/// conversions return.
+/// The conversions return an [`Error`](crate::error::Error), which also has the path to the error of
+/// a rejected text.
 ///
 /// ```
 /// let mut input: &[u8] = b"[1, 2";

@@ -1,9 +1,9 @@
-//! What the program is asked to write.
+//! The form that a run writes.
 ghost use Rattle.std.specs.Prelude.{◌≡◌, [], ◌∷◌, map, string_bytes, IfSome, None};
 ghost use Rattle.bson_convert.specs.Words.{name_of};
 ghost use Rattle.bson_convert.specs.declared.mode.Mode.{Mode};
 
-/// What is written of the value that was read.
+/// The form in which a value is written.
 ///
 /// ```
 /// let mut words = Vec::new(alloc);

@@ -1,4 +1,4 @@
-//! What the programs have in common: the words that they are given, and how they end.
+//! The parts that the programs share: their arguments, and how they end.
 ghost use Rattle.std.specs.Prelude.{◌≡◌, IfErr};
 ghost use Rattle.std.specs.Process.{exit_status};
 
@@ -7,7 +7,7 @@ use std::env::{self, Env};
 use std::io::ErrorKind;
 use std::process::ExitCode;
 
-/// Returns the words after the program's name, or `None` if one of them is not UTF-8.
+/// Returns the arguments after the program's name, or `None` if one of them is not UTF-8.
 ///
 /// # Errors
 ///
@@ -27,8 +27,8 @@ pub fn words_given<R: Env + AllocGlobal>(rt: &R) -> Result<Option<Vec<String>>, 
     }
 }
 
-/// Writes the line to standard error, and returns the status. Where that takes nothing, the status
-/// alone tells.
+/// Writes the line to standard error, and returns the status. If standard error cannot be written,
+/// the status alone reports the failure.
 pub fn report_failure<R: Eprint>(rt: &R, line: &str, status: u8) -> ExitCode
     ensures { exit_status result ≡ status }
 {

@@ -7,7 +7,7 @@ use crate::fault::Fault;
 use std::alloc::Global;
 use std::io::{Read, Write};
 
-/// As much as a pipe holds.
+/// The capacity of a pipe.
 const BUFFER: usize = 65536;
 
 /// Reads until the reader is at its end.

@@ -1,4 +1,4 @@
--- What the words ask for.
+-- What the arguments request.
 use Rattle.std.proofs.Common.{◌≡◌, ◌⊎◌, codes, inl, inr, ◌<◌, ◌∙◌, ℕ, Bool, true, false, List, Option, Some, None, map, length}
 use Rattle.std.proofs.Common.{refl, sym, ap, subst, get_or, Result, Ok, Err, IfOk, zero, suc, [], ◌∷◌, ◌++◌, ◌+◌, take, add-one, arith}
 use Rattle.std.proofs.lemmas.List.{get_or-map, length-map}

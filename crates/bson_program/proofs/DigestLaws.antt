@@ -8,9 +8,9 @@ use Rattle.sha2.specs.Hashers.{Holds256}
 use Rattle.sha2.specs.declared.Sha256.{Sha256}
 use Rattle.bson_program.specs.Digests.{HasOpenLine, open_line_after, digest_line, digests_from}
 
--- ---- output in pieces
+-- ---- output in blocks
 
--- the line after two pieces is that after the second, open_line by the first
+-- the line after two blocks is that after the second, begun by the first
 begun_of_pieces : (open_line xs ys : List ℕ) → open_line_after open_line (xs ++ ys) ≡ open_line_after (open_line_after open_line xs) ys
 unfolding open_line_after
 begun_of_pieces open_line [] ys = refl
@@ -19,7 +19,7 @@ begun_of_pieces open_line (x ∷ xs) ys =
     ≡ open_line_after (if t then open_line_after [] xs else open_line_after (open_line ++ x ∷ []) xs) ys)
     [ true ↦ begun_of_pieces [] xs ys | false ↦ begun_of_pieces (open_line ++ x ∷ []) xs ys ]
 
--- the digests of two pieces are those of the whole
+-- the digests of two blocks are those of the whole
 digests_of_pieces : (open_line xs ys : List ℕ)
     → digests_from open_line (xs ++ ys) ≡ digests_from open_line xs ++ digests_from (open_line_after open_line xs) ys
 unfolding open_line_after digests_from

@@ -1,4 +1,4 @@
--- What a run over the documents of a file leaves, once the last block was written.
+-- The outcome of a run over the documents of a file, once the last block was written.
 use Rattle.std.proofs.Common.{◌≡◌, inr, ℕ, ◌+◌, List, [], ◌++◌, Option, None, Some, Result, Ok, Err, IfOk, true}
 use Rattle.std.proofs.Common.{refl, sym, ap, subst, ◌∙◌}
 use Rattle.std.proofs.lemmas.List.{append-nil}
@@ -13,7 +13,7 @@ pub on_ok : {X E : Type 0} (r : Result X E) (P Q : X → Type 0) → ((x : X) �
 on_ok (Ok x) P Q f h = f x h
 on_ok (Err e) P Q f h = tt
 
--- what a writer holds behind which nothing is held back
+-- the contents of a writer whose buffer is empty
 flat : (known : Option (List ℕ)) (buffer : List ℕ) → buffer ≡ [] → append_known known buffer ≡ known
 flat None buffer e = refl
 flat (Some xs) buffer e = ap (λ (b : List ℕ). Some (xs ++ b)) e ∙ ap (λ (b : List ℕ). Some b) (append-nil xs)

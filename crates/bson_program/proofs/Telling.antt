@@ -1,4 +1,4 @@
--- The parts of a message, one behind the other.
+-- The parts of a message, one after another.
 use Rattle.std.proofs.Common.{◌≡◌, ◌++◌, ◌∙◌, ap, List, ℕ, Bool, true, false, cond, Result, Ok, Err, IfOk, codes, string_bytes}
 use Rattle.std.specs.Prelude.{String}
 use Rattle.std.specs.declared.alloc.Global.{Global}

@@ -1,4 +1,4 @@
--- Verdicts, a piece after the other.
+-- Diagnostics, one line after another.
 use Rattle.std.proofs.Common.{◌≡◌, ◌<◌, ◌≤◌, ◌+◌, ◌==◌, ◌++◌, ℕ, suc, List, [], ◌∷◌, Bool, true, false, cond, length, take, drop, refl, sym, ap}
 use Rattle.std.proofs.Common.{◌∙◌, arith, append_assoc, append-nil, codes, not, nat_lt, nat_eq, Option, Some, None, Result, Ok, Err, OnOk}
 use Rattle.std.specs.Prelude.{position, encode_utf8, encode_utf8_all}
@@ -19,7 +19,7 @@ by_test : (b : Bool) (x : ℕ) (xs : List ℕ) → (b ≡ true → x ≡ 10)
 by_test true x xs is other = ap (λ y. (y ∷ []) ∷ spans xs) (sym (is refl))
 by_test false x xs is other = other refl
 
--- the first piece of what begins with x
+-- the first line of bytes that begin with x
 pub first : (x : ℕ) (xs : List ℕ)
     → spans (x ∷ xs) ≡ take (line_len (x ∷ xs)) (x ∷ xs) ∷ spans (drop (line_len (x ∷ xs)) (x ∷ xs))
 first x [] = by_test (x == 10) x [] (is_newline x) (λ e. refl)
@@ -30,7 +30,7 @@ pub under_first : (name xs : List ℕ) → 0 < length xs
 under_first name [] some = absurd (omega arith)
 under_first name (x ∷ xs) some = ap (λ ys. flat_map (under name) ys) (first x xs)
 
--- a verdict was added behind those before it
+-- a diagnostic was appended to those before it
 pub named_on : (name rest verdict others old new whole : List ℕ) (n : ℕ) → 0 < length rest → n ≡ line_len rest
     → verdict ≡ take n rest → others ≡ drop n rest → new ≡ old ++ under name verdict
     → old ++ all_under name rest ≡ whole → new ++ all_under name others ≡ whole
@@ -40,7 +40,7 @@ named_on name rest verdict others old new whole n some len front back added befo
     ∙ append_assoc old (under name (take (line_len rest) rest)) (all_under name (drop (line_len rest) rest))
     ∙ ap (λ l. old ++ l) (sym (under_first name rest some)) ∙ before
 
--- ---- how long the first piece is
+-- ---- the length of the first line
 
 by_place : (b : Bool) (k n l : ℕ) → l ≡ cond (nat_lt k n) (k + 1) n
     → cond b 1 (suc l) ≡ cond (nat_lt (cond (not b) (1 + k) 0) (suc n)) (cond (not b) (1 + k) 0 + 1) (suc n)
@@ -95,7 +95,7 @@ escape_ends s t None old whole steps is e =
     let none : escape_rest s ≡ [] = ap (λ n. take n (drop s.from s.chars)) steps.1.0 in
     sym (append-nil old) ∙ ap (λ l. old ++ encode_utf8_all l) (sym none) ∙ e
 
--- ---- bounds of the first piece
+-- ---- bounds of the first line
 
 at_test : (b : Bool) (l n : ℕ) → l ≤ n → (cond b 1 (suc l) ≤ suc n) × (0 < cond b 1 (suc l))
 at_test true l n h = (omega arith, omega arith)

@@ -1,4 +1,4 @@
--- What a run over the documents of a file does.
+-- A run over the documents of a file.
 use Rattle.std.specs.Prelude.{◌≡◌, ◌⊎◌, ◌+◌, ℕ, List, Option, true}
 use Rattle.std.specs.Io.KnownBytes.{Appends}
 use Rattle.bson_codec.specs.Documents.{DoneDocuments, EndsAt, IsOfBytes}
@@ -6,8 +6,8 @@ use Rattle.bson_codec.specs.Diagnostics.{diagnostic_of}
 use Rattle.bson_codec.specs.declared.documents.Run.{Run}
 use Rattle.bson_codec.specs.declared.run_end.RunFault.{RunFault}
 
--- the run ended at a document for a fault of its bytes, which was reported behind the other verdicts; so many were rejected,
--- this one too
+-- the run ended at a document for an error of its bytes, whose diagnostic follows the others; so many documents were
+-- rejected, this one too
 pub record IsCutDump (run : Run) (before after had holds reported reports : Option (List ℕ)) (documents refused : ℕ)
     : Type 0 where
   pub fault : RunFault

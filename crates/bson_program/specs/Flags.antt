@@ -1,4 +1,4 @@
--- The options: which of them each command has, and which of them are given.
+-- The options: which of them each command has, and which of them are set.
 use Rattle.std.specs.Prelude.{ℕ, Bool, true, false, not, ◌&&◌, List, codes, is_some, if◌then◌else◌}
 use Rattle.bson_convert.specs.declared.mode.Mode.TheVariants.{Show}
 use Rattle.bson_run.specs.declared.order.Criterion.TheVariants as criterion
@@ -23,7 +23,7 @@ is_form (Write Show) = false
 is_form (Write mode) = true
 is_form task = false
 
--- what is read is only judged
+-- the input is only checked
 abbrev pub is_check : Task → Bool
 is_check (Check criterion) = true
 is_check task = false
@@ -39,7 +39,7 @@ reads_texts input Encode = false
 reads_texts input (Check criterion.Canonical) = false
 reads_texts input task = true
 
--- texts are read, and only judged
+-- texts are read, and only checked
 abbrev pub judges_texts : Input → Task → Bool
 judges_texts Documents task = false
 judges_texts input task = is_check task
@@ -78,7 +78,7 @@ serves Unordered purpose.Comparison = true
 serves Unordered other = false
 serves flag other = true
 
--- ---- given options
+-- ---- options that are set
 
 abbrev pub has_flag : Flag → Given → Bool
 has_flag SortKeys given = given.sorts_keys
@@ -92,11 +92,11 @@ has_flag Jobs given = is_some given.jobs
 has_flag Output given = is_some given.output
 has_flag Unordered given = given.is_unordered
 
--- an option is given that the command does not have
+-- an option is set that the command does not have
 abbrev pub clashes : Flag → Given → Task → Bool
 clashes flag given task = if serves flag given.purpose && accepts flag given.input task then false else has_flag flag given
 
--- ---- the words of options
+-- ---- the names of options
 
 abbrev pub flag_name : Flag → List ℕ
 flag_name SortKeys = codes "--sort-keys"

@@ -1,4 +1,4 @@
--- What the first bytes of a rejected input show that it holds in place of what it should.
+-- The actual format of a rejected input, by its first bytes.
 use Rattle.std.specs.Prelude.{◌≡◌, ◌==◌, ◌||◌, ◌&&◌, ◌+◌, ◌-◌, ◌*◌, ℕ, Result, Ok, Err, Bool, true, false, not, List, [], ◌∷◌, ◌++◌, Option, None, Some}
 use Rattle.std.specs.Prelude.{if◌then◌else◌, codes, length, nat_eq, nat_le, nat_lt, slice_index, reverse, take, drop, is_some}
 use Rattle.std.specs.List.{find, starts_with}
@@ -87,7 +87,7 @@ compression_of head = if starts_with nat_eq head (31 ∷ 139 ∷ []) then Some h
     else None))))
 
 -- a document of this length begins with an element of this type: one of no elements has 5 bytes, and a document of more
--- than 128 MiB is not told from text
+-- than 128 MiB is not distinguished from text
 abbrev pub is_length : (size kind : ℕ) → Bool
 is_length size kind = if kind == 0 then size == 5
     else (nat_le kind 19 || ((kind == 127) || (kind == 255))) && (nat_lt 5 size && nat_le size 134217728)
@@ -249,7 +249,7 @@ abbrev pub hint_of_dump : Rejected → List ℕ → Option Hint
 hint_of_dump rejected head =
     if starts_text head && not (is_dump head) then Some hint.Text else advised rejected.advice
 
--- the first that holds
+-- the first that exists
 abbrev pub or_else : Option Hint → Option Hint → Option Hint
 or_else None other = other
 or_else (Some hint) other = Some hint
@@ -262,7 +262,7 @@ hint_of_input Documents rejected head = hint_of_dump rejected head
 abbrev pub hint_of : Rejected → List ℕ → Option Hint
 hint_of rejected head = or_else (compression_of head) (hint_of_input rejected.input rejected head)
 
--- ---- what is told
+-- ---- the text of a hint
 
 abbrev pub advice_text : Advice → List ℕ
 advice_text advice.Doubles = codes "has numbers that are read without --strict"
@@ -282,7 +282,7 @@ advice_text advice.LegacyToEncode =
 advice_text advice.NotADocument =
     codes "has a value that is not a document, and encode makes bytes of documents alone"
 
--- what reads an input instead: the words are those of the mode and its options
+-- what reads an input instead: the command has the mode and its options
 abbrev pub hint_text : Hint → (words : List ℕ) → List ℕ
 hint_text hint.Gzip words = codes "is compressed; give it through 'gzip -dc'"
 hint_text hint.Zstd words = codes "is compressed; give it through 'zstd -dc'"
@@ -307,7 +307,7 @@ abbrev pub reading_mode : Input → Purpose → Task → List ℕ
 reading_mode Lines purpose task.Encode = codes "canonical"
 reading_mode input purpose task = mode_word purpose task
 
--- the option that sorts keys is given, and not another that sorts them
+-- the option that sorts keys is set, and not another that sorts them
 abbrev pub sorts_keys : Purpose → Doubles → KeyOrder → Bool
 sorts_keys purpose.Output Finite Ascending = true
 sorts_keys purpose doubles order = false

@@ -1,4 +1,4 @@
--- What the words after the program's name ask for.
+-- What the arguments after the program's name request.
 use Rattle.std.specs.Prelude.{◌≡◌, ◌==◌, ◌≢◌, ◌⊎◌, ◌<◌, ◌≤◌, ◌++◌, ℕ, Bool, true, false, List, [], ◌∷◌, Option, None, Some, codes}
 use Rattle.std.specs.Prelude.{bytes_eq, ◌||◌, Contains, get_or, length, map, string_bytes, slice_index, take, vec_len}
 use Rattle.std.specs.Prelude.{if◌then◌else◌, String, Vec}
@@ -47,7 +47,7 @@ judged false task = task
 judged true (Check criterion) = Check Canonical
 judged true task = task
 
--- what is looked for in a text before it is read: a key that stands twice, and version 1 of Extended JSON
+-- the preprocessing of a text before it is read: the check for duplicate keys, and rewriting Extended JSON v1
 abbrev pub requested_preprocessing : (is_distinct is_legacy : Bool) → Option Preprocessing
 requested_preprocessing true true = Some DistinctLegacy
 requested_preprocessing true false = Some Distinct
@@ -70,17 +70,17 @@ abbrev pub requested_order : Purpose → (sorts_keys is_strict : Bool) → KeyOr
 requested_order purpose.Output false false = AsGiven
 requested_order purpose sorts_keys is_strict = Ascending
 
--- ---- words
+-- ---- arguments
 
--- the word has the option of the output and its file in it
+-- the argument has the option of the output and its file in it
 abbrev pub IsOutputOption : (file word : List ℕ) → Type 0
 IsOutputOption file word = (word ≡ codes "--output=" ++ file) ⊎ (word ≡ codes "-o" ++ file)
 
--- a number from 1 to the greatest, as it is written, is not the word
+-- a number from 1 to the greatest, as it is written, is not the argument
 abbrev pub IsNoCount : (most : ℕ) → (word : List ℕ) → Type 0
 IsNoCount most word = (count : ℕ) → 0 < count → count ≤ most → word ≡ decimal count → ⊥
 
--- the words that are options, each with its value in the word or behind it
+-- the arguments that are options, each with its value in the argument or after it
 abbrev pub is_option : List ℕ → Bool
 is_option word = bytes_eq word (codes "--sort-keys") || bytes_eq word (codes "--strict") || bytes_eq word (codes "--legacy")
     || bytes_eq word (codes "--no-double-keys") || bytes_eq word (codes "--canonical") || bytes_eq word (codes "--unordered")
@@ -91,7 +91,7 @@ is_option word = bytes_eq word (codes "--sort-keys") || bytes_eq word (codes "--
 
 -- ---- modes
 
--- the word that names a mode
+-- the argument that names a mode
 abbrev pub mode_word : Purpose → Task → List ℕ
 mode_word purpose.Output task = task_name task
 mode_word purpose.Digests task = codes "hash"
@@ -109,19 +109,19 @@ IsTaskFor other order (Write mode) = (mode ≡ modes.Canonical) × (order ≡ As
 IsTaskFor other order (Preprocessed preprocessing (work.Write mode)) = (mode ≡ modes.Canonical) × (order ≡ Ascending)
 IsTaskFor other order task = ⊥
 
--- the word names this mode
+-- the argument names this mode
 abbrev pub IsNamed : (word : List ℕ) → Purpose → (verb : Task) → Type 0
 IsNamed word purpose verb = (word ≡ mode_word purpose verb) × IsVerbFor purpose verb
 
 -- ---- commands
 
--- the input that the word of a command names
+-- the input that a command names
 abbrev pub input_named : (word : List ℕ) → Input → Input
 input_named word input = if bytes_eq word (codes "lines") then Lines
     else (if bytes_eq word (codes "decode") then Documents
     else (if bytes_eq word (codes "encode") then Lines else input))
 
--- no word has named another
+-- no argument has named another
 abbrev pub is_text : Input → Bool
 is_text Text = true
 is_text input = false
@@ -133,14 +133,14 @@ command_of Documents task = command.Decode
 command_of Lines (Some Encode) = command.Encode
 command_of Lines task = command.Lines
 
--- ---- what the words give
+-- ---- the meaning of the arguments
 
--- after a mode a word is a file
+-- after a mode an argument is a file
 abbrev pub input_of : (word : List ℕ) → Given → Input
 input_of word given = option_map_or (λ verb. given.input) given.task (input_named word given.input)
 
--- what a word sets where no option waits for it: each option and each command sets its own part, and any other word none
--- of these
+-- what an argument sets that is not the value of an option: each option and each command sets its own part, and any
+-- other argument none of these
 abbrev pub given_of : List ℕ → Given → Given
 given_of word given = record given {
   keeps_going = bytes_eq word (codes "--keep-going") || given.keeps_going;
@@ -157,7 +157,7 @@ given_of word given = record given {
       else (if bytes_eq word (codes "--jobs") then Jobs else given.next)));
 }
 
--- a word that is an option gives what the table says; the words of files, of the mode and of numbers give the rest
+-- an argument that is an option sets what the table says; arguments for files, the mode and numbers set the rest
 abbrev pub Sets : (word : List ℕ) → (old new : Given) → Type 0
 Sets word old new = new ≡ record (given_of word old) {
   task = new.task;
@@ -168,7 +168,7 @@ Sets word old new = new ≡ record (given_of word old) {
   inputs = new.inputs;
 }
 
--- the word is taken for what the word before it waits for
+-- the argument is the one that the argument before it expects
 abbrev pub TakesFor : Next → (word : List ℕ) → (old new : Given) → Type 0
 TakesFor Any word old new = Sets word old new
 TakesFor Output word old new = new ≡ record old { next = Any; output = new.output }
@@ -184,7 +184,7 @@ TakesFor Name word old new = new ≡ record old {
 abbrev pub AcceptsWord : (word : List ℕ) → (old new : Given) → Type 0
 AcceptsWord word old new = TakesFor old.next word old new
 
--- nothing was given yet
+-- the state before the first argument
 abbrev pub IsInitial : Given → Type 0
 IsInitial given = given ≡ record given {
   task = None;
@@ -203,29 +203,29 @@ IsInitial given = given ≡ record given {
   next = Any;
 }
 
--- what the words give, one after the other
+-- the state after the arguments, one after another
 pub data AreGiven : List (List ℕ) → Given → Type 0 where
   none : (given : Given) → IsInitial given → vec_len given.inputs ≡ 0 → AreGiven [] given
   one_more : {words : List (List ℕ)} {old : Given} (word : List ℕ) (new : Given) → AreGiven words old → AcceptsWord word old new
       → AreGiven (words ++ word ∷ []) new
 
--- ---- words that are not accepted
+-- ---- arguments that are not accepted
 
--- the word names a mode, or, as the first, a command
+-- the argument names a mode, or, as the first, a command
 abbrev pub IsMode : Input → (word : List ℕ) → Type 0
 IsMode Text word = ((purpose : Purpose) × (task : Task) × (word ≡ mode_word purpose task)) ⊎ (word ≡ codes "lines")
     ⊎ (word ≡ codes "decode")
 IsMode input word = (purpose : Purpose) × (task : Task) × (task ≢ Encode) × (word ≡ mode_word purpose task)
 
--- the value that is expected of the word, or of what is behind its option, is not there
+-- the argument, or the part after its option, is not the expected value
 abbrev pub IsUnnumbered : (most : ℕ) → (option word : List ℕ) → Type 0
 IsUnnumbered most option word = (text : List ℕ) × IsNoCount most text × ((word ≡ text) ⊎ (word ≡ option ++ text))
 
--- the word begins as an option
+-- the argument begins as an option
 abbrev pub IsDashed : (word : List ℕ) → Type 0
 IsDashed word = (slice_index word 0 == 45) ≡ true
 
--- why the word is not accepted behind those that gave this
+-- why the argument is not accepted after those before it
 abbrev pub IsMisuse : Given → (word : List ℕ) → Misuse → Type 0
 IsMisuse given word misuse.UnknownOption = IsDashed word × (is_option word ≡ false)
 IsMisuse given word misuse.UnknownMode = (given.task ≡ None) × (IsMode given.input word → ⊥)
@@ -235,11 +235,11 @@ IsMisuse given word (misuse.NoValue flag.Indent) = IsUnnumbered 16 (codes "--ind
 IsMisuse given word (misuse.NoValue flag.Jobs) = IsUnnumbered 9999 (codes "--jobs=") word
 IsMisuse given word other = ⊥
 
--- the word asks for help: `help` is a file behind a mode
+-- the argument requests help: `help` is a file after a mode
 abbrev pub IsHelp : Given → (word : List ℕ) → Type 0
 IsHelp given word = (word ≡ codes "--help") ⊎ (word ≡ codes "-h") ⊎ ((word ≡ codes "help") × (given.task ≡ None))
 
--- what is answered to a word behind those that gave this
+-- the result for an argument after those before it
 abbrev pub IsParsed : Given → (word : List ℕ) → arguments.Parsed → Type 0
 IsParsed given word parsed.Word = Unit {0}
 IsParsed given word parsed.Help = IsHelp given word
@@ -248,7 +248,7 @@ IsParsed given word (parsed.Wrong why) = IsMisuse given word why
 
 -- ---- modes and options
 
--- the command has all options that are given
+-- the command has all options that are set
 pub record AllFit (given : Given) (task : Task) : Type 0 where
   pub sort_keys : clashes flag.SortKeys given task ≡ false
   pub strict : clashes flag.Strict given task ≡ false
@@ -291,7 +291,7 @@ awaited next = None
 
 -- ---- what is asked for
 
--- the task of a verb with the options
+-- the task of a mode with the options
 abbrev pub task_of : Given → (verb : Task) → Task
 task_of given verb =
     let task = judged given.is_canonical verb in
@@ -303,12 +303,12 @@ options_of given = record {
   key_order = requested_order given.purpose given.sorts_keys given.is_strict;
 }
 
--- the files, or the standard stream where none is given
+-- the files, or the standard stream if there is none
 abbrev pub or_standard : List (List ℕ) → List (List ℕ)
 or_standard [] = codes "-" ∷ []
 or_standard (name ∷ names) = name ∷ names
 
--- the run that was given
+-- the run that the arguments request
 pub record IsGiven (given : Given) (invocation : Invocation) : Type 0 where
   pub verb : Task
   pub is_verb : given.task ≡ Some verb
@@ -324,27 +324,27 @@ pub record IsGiven (given : Given) (invocation : Invocation) : Type 0 where
   pub output : string_bytes invocation.output ≡ option_map_or string_bytes given.output (codes "-")
   pub inputs : map string_bytes invocation.inputs.items ≡ or_standard (map string_bytes given.inputs.items)
 
--- what is wrong with all words, where each was accepted
+-- what is wrong with all arguments, if each was accepted
 abbrev pub IsWrongOf : Given → Misuse → Type 0
 IsWrongOf given (misuse.NoValue flag) = awaited given.next ≡ Some flag
 IsWrongOf given misuse.NoMode = given.task ≡ None
 IsWrongOf given why = (verb : Task) × (given.task ≡ Some verb) × IsMisfit given (judged given.is_canonical verb) why
 
--- the answer to what was given, where no help was asked for: a run, or what is wrong
+-- the result for all arguments, if no help was requested: a run, or what is wrong
 abbrev pub IsAnswer : Given → Request → Type 0
 IsAnswer given (Run invocation) = IsGiven given invocation
 IsAnswer given (Wrong wrong) = IsWrongOf given wrong.misuse × (wrong.command ≡ command_of given.input given.task)
 IsAnswer given other = ⊥
 
--- the word is among the words, and those before it give this
+-- the argument is among the arguments, and this is the state after those before it
 pub record IsWordAfter (words : List (List ℕ)) (given : Given) (word : List ℕ) : Type 0 where
   pub at : ℕ
   pub within : at < length words
   pub is : get_or words at word ≡ word
   pub before : AreGiven (take at words) given
 
--- what each answer says of the words: a run is what all of them give, and any other answer is that to the first word that
--- asks for help, or is not accepted, or to all words
+-- what each request says of the arguments: a run is what all of them request, and any other request is that of the
+-- first argument that requests help, or is not accepted, or that of all arguments
 abbrev pub IsRequestedBy : (words : List (List ℕ)) → Request → Type 0
 IsRequestedBy words (Run invocation) =
     Contains words (mode_word invocation.purpose invocation.task)
@@ -363,7 +363,7 @@ abbrev pub IsWrongRequest : Misuse → Command → Request → Type 0
 IsWrongRequest why command (Wrong wrong) = (wrong.misuse ≡ why) × (wrong.command ≡ command)
 IsWrongRequest why command other = ⊥
 
--- the number of an option is in the text, or the option is given twice
+-- the number of an option is in the text, or the option occurs twice
 abbrev pub IsNumbered : Flag → (most : ℕ) → Given → (text : List ℕ) → arguments.Parsed → Type 0
 IsNumbered flag most given text parsed.Word = Unit {0}
 IsNumbered flag most given text (parsed.Wrong why) =
@@ -375,6 +375,6 @@ IsStored given parsed.Word = Unit {0}
 IsStored given (parsed.Wrong (misuse.Twice flag.Output)) = has_flag flag.Output given ≡ true
 IsStored given other = ⊥
 
--- the value of an option is in its word, or the word is not an option
+-- the value of an option is in its argument, or the argument is not an option
 abbrev pub IsValueInWord : Given → (word : List ℕ) → arguments.Parsed → Type 0
 IsValueInWord given word it = (it ≡ parsed.Wrong misuse.UnknownOption) ⊎ IsParsed given word it

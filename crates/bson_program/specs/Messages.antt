@@ -40,7 +40,7 @@ is_standard name = bytes_eq name (codes "-")
 abbrev pub is_unprintable : ℕ → Bool
 is_unprintable c = is_control c || ((c == 0x2028) || (c == 0x2029))
 
--- such a one by its escape in Rust, any other as it is
+-- this character as its escape in Rust, any other unchanged
 abbrev pub printable : ℕ → List ℕ
 printable c = if is_unprintable c then encode_utf8_all (escape_default c) else encode_utf8 c
 
@@ -53,7 +53,7 @@ shown_name name stream = if is_standard name then codes "standard " ++ stream el
 
 -- ---- what stopped a run
 
--- the system's words for an error behind a colon, which no contract says; none where the error is not known
+-- the system's message for an error after a colon, which no contract says; nothing if the error is not known
 abbrev pub IsCause : Option Error → List ℕ → Type 0
 IsCause None cause = cause ≡ []
 IsCause (Some error) cause = (words : List ℕ) × (cause ≡ codes ": " ++ words)
@@ -62,16 +62,16 @@ IsCause (Some error) cause = (words : List ℕ) × (cause ≡ codes ": " ++ word
 abbrev pub head_of : List ℕ → List ℕ
 head_of name = if is_standard name then codes "bson" else escaped_name name
 
--- of a line also its number, as editors have it behind a file's name
+-- for a line also its number, as editors have it after a file's name
 abbrev pub line_head : List ℕ → ℕ → List ℕ
 line_head name number =
     if is_standard name then codes "bson: line " ++ decimal number else escaped_name name ++ codes ":" ++ decimal number
 
--- the head of a text on the line of this number, or of the one text of a file (0)
+-- the beginning of a message for a text on the line of this number, or for the one text of a file (0)
 abbrev pub text_head : List ℕ → ℕ → List ℕ
 text_head name number = if number == 0 then head_of name else line_head name number
 
--- what is told of a text that is refused
+-- the message for a text that is rejected
 abbrev pub text_message : List ℕ → ℕ → conversion.Error → (place : List ℕ) → List ℕ
 text_message name number fault place = text_head name number ++ codes ": " ++ words_of fault ++ place
 
@@ -100,18 +100,18 @@ IsLineFor stop.Terminal line =
 IsLineFor (stop.Text name number fault place) line = line ≡ text_message name.now number fault (string_bytes place)
 IsLineFor (stop.Document name end) line = line ≡ document_message name.now end
 
--- ---- verdicts
+-- ---- diagnostics
 
--- the pieces of which each but the last ends with the one newline in it
+-- the lines, each with the newline that ends it, except the last
 abbrev pub spans : List ℕ → List (List ℕ)
 spans [] = []
 spans (x ∷ xs) = if x == 10 then (10 ∷ []) ∷ spans xs else onto_first x (spans xs)
 
--- what a verdict on a line begins with
+-- the beginning of a diagnostic on a line
 abbrev pub line_prefix : List ℕ
 line_prefix = codes "bson: line "
 
--- a verdict behind a file's name: of a line its number, a colon before it, or else the verdict
+-- a diagnostic after a file's name: for a line its number, a colon before it, otherwise the diagnostic
 abbrev pub under : (name verdict : List ℕ) → List ℕ
 under name verdict =
     name ++ (if starts_with nat_eq verdict line_prefix then codes ":" ++ drop (length line_prefix) verdict else codes ": " ++ verdict)
@@ -121,7 +121,7 @@ all_under name verdicts = flat_map (under name) (spans verdicts)
 
 -- ---- for private clauses
 
--- how long the first piece is
+-- the length of the first line
 abbrev pub line_len : List ℕ → ℕ
 line_len [] = 0
 line_len (x ∷ xs) = if x == 10 then 1 else suc (line_len xs)

@@ -1,4 +1,4 @@
--- What is told of arguments that the program does not accept.
+-- The messages about arguments that the program does not accept.
 use Rattle.std.specs.Prelude.{ℕ, List, ◌++◌, codes}
 use Rattle.bson_run.specs.declared.order.Criterion.TheVariants.{Canonical}
 use Rattle.bson_run.specs.declared.order.Task.{Task}
@@ -14,7 +14,7 @@ use Rattle.bson_program.specs.declared.invocation.Misuse.{Misuse}
 use Rattle.bson_program.specs.declared.invocation.Misuse.TheVariants as misuse
 use Rattle.bson_program.specs.declared.invocation.Purpose.{Purpose}
 
--- the words behind which a command's options and its help are
+-- the program and command before a command's options and its help
 abbrev pub command_name : Command → List ℕ
 command_name command.All = codes "bson"
 command_name command.Text = codes "bson"
@@ -22,7 +22,7 @@ command_name command.Lines = codes "bson lines"
 command_name command.Decode = codes "bson decode"
 command_name command.Encode = codes "bson encode"
 
--- the mode that does not have an option, and behind it the option by which it does not
+-- the mode that does not have an option, and after it the option because of which it does not
 abbrev pub mode_without : Flag → Purpose → Task → List ℕ
 mode_without flag.Canonical purpose task = mode_word purpose task
 mode_without option purpose (Check Canonical) = codes "check --canonical"
@@ -41,7 +41,7 @@ kind_of_word other = codes "mode"
 abbrev pub see : Command → List ℕ
 see it = codes " (see " ++ command_name it ++ codes " --help)"
 
--- the word is the one that is wrong
+-- the argument is the one that is wrong
 abbrev pub misuse_message : Command → Misuse → (word : List ℕ) → List ℕ
 misuse_message it misuse.UnknownOption word = codes "bson: unknown option '" ++ escaped_name word ++ codes "'" ++ see it
 misuse_message it misuse.UnknownMode word = codes "bson: unknown " ++ kind_of_word it ++ codes " '" ++ escaped_name word ++ codes "'" ++ see it

@@ -43,7 +43,7 @@ IsComparison true first second (Some difference) = IsUnorderedDifference first s
 
 -- ---- messages
 
--- a number of values in words
+-- a number of values for a message
 abbrev pub counted : ℕ → List ℕ
 counted count = if count == 1 then codes "1 value" else decimal count ++ codes " values"
 

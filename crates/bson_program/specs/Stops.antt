@@ -1,4 +1,4 @@
--- Which writer stops a run over files, what is asked of a run over documents, and where an output lies.
+-- Which writer stops a run over files, the settings of a run over documents, and the path of an output.
 use Rattle.std.specs.Prelude.{◌≡◌, ◌≢◌, ◌++◌, ℕ, List, Option, None, Some, codes, string_bytes, MatchOption, String, true}
 use Rattle.std.specs.Fmt.{decimal}
 use Rattle.std.specs.declared.alloc.Global.{Global}
@@ -24,25 +24,25 @@ IsUnread name stop = ⊥
 
 -- ---- writers
 
--- the writer that failed: that of verdicts, where the cause of its failure is kept, or else the output
+-- the writer that failed: that of diagnostics, if the cause of its failure is kept, or else the output
 abbrev pub IsUnwritten : Invocation → (reported written : Option Error) → Stop → Type 0
 IsUnwritten invocation reported written (Output name error) = MatchOption reported
     ((name.now ≡ string_bytes invocation.output) × (error ≡ written)) (λ cause. (name.now ≡ codes "-") × (error ≡ Some cause))
 IsUnwritten invocation reported written stop = ⊥
 
--- what stands before verdicts: the name of their file, or for documents of standard input that of the program
+-- the name before diagnostics: that of their file, or for documents of standard input that of the program
 abbrev pub IsTitle : invocation.Input → (name : List ℕ) → Option (String Global) → Type 0
 IsTitle input name None = (is_standard name ≡ true) × (input ≢ Documents)
 IsTitle input name (Some title) = (string_bytes title ≡ head_of name) × (is_standard name ≡ true → input ≡ Documents)
 
--- verdicts as they are told of a file of this name
+-- the diagnostics for a file of this name
 abbrev pub reported_under : Option (String Global) → (verdicts : List ℕ) → List ℕ
 reported_under None verdicts = verdicts
 reported_under (Some name) verdicts = all_under (string_bytes name) verdicts
 
 -- ---- documents
 
--- what is written of each document: its text in the mode, what Display has of it, or nothing
+-- the line for each document: its text in the mode, the text of Display, or nothing
 abbrev pub document_line : Task → documents.Line
 document_line (task.Write Canonical) = line.Text forms.Canonical
 document_line (task.Write Relaxed) = line.Text forms.Relaxed
@@ -51,6 +51,6 @@ document_line other = line.Nothing
 
 -- ---- files
 
--- the part lies beside the file whose place it takes, told by a number
+-- the part has the path of the file that it replaces, and a number
 abbrev pub IsNumberedPart : Part → Type 0
 IsNumberedPart part = (n : ℕ) × (string_bytes part.path ≡ string_bytes part.file ++ codes "." ++ decimal n ++ codes ".part")

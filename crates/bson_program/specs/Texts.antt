@@ -70,8 +70,8 @@ GivesTexts invocation content output =
 
 -- ---- a run
 --
--- Before and after are the bytes that the reader had left and has left, had and holds what the writer held and holds:
--- None if that is not known.
+-- Before and after are the remaining bytes of the reader, and the other pair is the contents of the output writer,
+-- before and after the run: None if they are not known.
 
 -- all was read, and what the bytes give was written
 pub record TextsDone (invocation : Invocation) (name : List ℕ) (before after had holds : Option (List ℕ)) : Type 0 where
@@ -99,7 +99,7 @@ HasLine (NotCanonical column) content start text number = number ≡ 1
 HasLine OutOfMemory content start text number = number ≡ 0
 HasLine fault content start text number = number ≡ begin_line content start text
 
--- the text was rejected, and nothing of it was written; the words say where its error is
+-- the text was rejected, and nothing of it was written; the message says where its error is
 abbrev pub TextFails : Invocation → Error → (place : List ℕ) → (number : ℕ) → (content : List ℕ) → (start : ℕ) → (text : List ℕ) → Type 0
 TextFails invocation OutOfMemory place number content start text = (number ≡ 0) × (place ≡ [])
 TextFails invocation fault place number content start text = IsUngiven invocation.options invocation.task fault text × IsWhere text fault place

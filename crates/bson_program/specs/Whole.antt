@@ -1,4 +1,4 @@
--- What one text gives.
+-- The output of one text.
 use Rattle.std.specs.Prelude.{◌≡◌, ◌⊎◌, ◌-◌, ℕ, List, [], Option, None, Some, length, nat_eq, take, if◌then◌else◌}
 use Rattle.std.specs.List.{ends_with}
 use Rattle.bson.specs.declared.extjson.options.Options.{Options}
@@ -33,7 +33,7 @@ WritesIndented o (Some n) mode text output =
 abbrev pub without_newline : List ℕ → List ℕ
 without_newline bytes = if ends_with nat_eq bytes newline then take (length bytes - 1) bytes else bytes
 
--- what the criterion judges of a text; behind a canonical one a newline may stand
+-- the part of a text that the criterion checks; a newline may follow a canonical text
 abbrev pub judged_of : Criterion → List ℕ → List ℕ
 judged_of Valid text = text
 judged_of criterion.Canonical text = without_newline text

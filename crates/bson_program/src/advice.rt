@@ -27,7 +27,7 @@ use bson_scalar::doubles::NUMBER;
 use bson_tree::place::{Place, Reason};
 use std::alloc::Global;
 
-/// What helps with a text that was rejected.
+/// The advice for a text that was rejected.
 #[derive(Clone, Copy, PartialEq, Eq)]
 pub enum Advice {
     /// Numbers that `--strict` alone rejects.

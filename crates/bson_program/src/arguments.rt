@@ -1,4 +1,4 @@
-//! What the words after the program's name give, one after the other.
+//! The arguments after the program's name, parsed one after another.
 ghost use Rattle.std.specs.Prelude.{◌≡◌, ◌⊎◌, None, OnOk, IfOk, IfSome, string_bytes, if◌then◌else◌, vec_len};
 ghost use Rattle.bson_program.specs.Flags.{has_flag};
 ghost use Rattle.bson_program.specs.Invocation.{command_of, input_of, is_text, IsNamed};
@@ -24,7 +24,7 @@ const MOST_SPACES: usize = 16;
 /// The greatest number of jobs.
 const MOST_JOBS: usize = 9999;
 
-/// What the words so far gave.
+/// The meaning of the arguments so far.
 #[derive(Drop)]
 pub struct Given {
     alloc: Global,
@@ -45,7 +45,7 @@ pub struct Given {
     pub next: Next,
 }
 
-/// What the next word is.
+/// The expected kind of the next argument.
 #[derive(Clone, Copy, PartialEq, Eq)]
 pub enum Next {
     Any,
@@ -59,7 +59,7 @@ pub enum Next {
     Name,
 }
 
-/// What a word is.
+/// The kind of an argument.
 #[derive(Clone, Copy, PartialEq, Eq)]
 pub enum Parsed {
     /// One that is accepted.
@@ -71,7 +71,7 @@ pub enum Parsed {
 }
 
 impl Given {
-    /// Returns what no word gives.
+    /// Returns the state before the first argument.
     pub fn new(alloc: Global) -> Given
         ensures first { IsInitial result }
         ensures inputs { vec_len result.inputs ≡ 0 }
@@ -96,7 +96,7 @@ impl Given {
         }
     }
 
-    /// Returns the command that the words so far name.
+    /// Returns the command that the arguments so far name.
     pub fn command(&self) -> Command
         ensures { result ≡ command_of self.now.input self.now.task }
     {
@@ -109,7 +109,7 @@ impl Given {
         }
     }
 
-    /// Returns whether the option is given.
+    /// Returns whether the option is set.
     pub fn has(&self, flag: Flag) -> bool
         ensures { result ≡ has_flag flag self.now }
     {
@@ -127,7 +127,7 @@ impl Given {
         }
     }
 
-    /// Accepts the next word, or says why not.
+    /// Accepts the next argument, or says why not.
     pub fn take(&mut self, word: &str) -> Result<Parsed, AllocError>
         ensures given { AcceptsWord word.now self.old self.new }
         ensures verb { IfSome self.new.task (λ verb. ((self.old.task ≡ Some verb) × (self.new.purpose ≡ self.old.purpose)) ⊎ IsNamed word.now self.new.purpose verb) }
@@ -151,7 +151,7 @@ impl Given {
         }
     }
 
-    // Accepts a word that no option waits for.
+    // Accepts an argument that is not the value of an option.
     fn take_any(&mut self, word: &str) -> Result<Parsed, AllocError>
         ensures given { Sets word.now self.old self.new }
         ensures verb { IfSome self.new.task (λ verb. ((self.old.task ≡ Some verb) × (self.new.purpose ≡ self.old.purpose)) ⊎ IsNamed word.now self.new.purpose verb) }
@@ -196,7 +196,7 @@ impl Given {
         Ok(Parsed::Word)
     }
 
-    // Accepts an option whose value is in the same word.
+    // Accepts an option with its value in the same argument.
     fn take_joined(&mut self, word: &str) -> Result<Parsed, AllocError>
         ensures given { self.new ≡ record self.old { indent = self.new.indent; jobs = self.new.jobs; output = self.new.output } }
         ensures parsed { IfOk result (IsValueInWord self.old word.now) }
@@ -267,7 +267,7 @@ impl Given {
         Ok(Parsed::Word)
     }
 
-    // Accepts a command or a mode, and behind them files.
+    // Accepts a command or a mode, and after them files.
     fn take_name(&mut self, word: &str) -> Result<Parsed, AllocError>
         ensures given { self.new ≡ record self.old { task = self.new.task; purpose = self.new.purpose; input = input_of word.now self.old; inputs = self.new.inputs } }
         ensures verb { IfSome self.new.task (λ verb. ((self.old.task ≡ Some verb) × (self.new.purpose ≡ self.old.purpose)) ⊎ IsNamed word.now self.new.purpose verb) }
@@ -287,7 +287,7 @@ impl Given {
         }
     }
 
-    // Accepts the word of a command, which is the first.
+    // Accepts the name of a command, which comes first.
     fn take_command(&mut self, input: Input, task: Option<Task>) -> Parsed
         ensures given { self.new ≡ record self.old { input = input; purpose = Purpose.Output; task = task } }
         ensures parsed { result ≡ (if is_text self.old.input then Parsed.Word else Parsed.Wrong Misuse.UnknownMode) }
@@ -328,7 +328,7 @@ impl Given {
         }
     }
 
-    /// Returns what all words ask for.
+    /// Returns what all arguments request.
     pub fn answer(self) -> Result<Request, AllocError>
         ensures { IfOk result (IsAnswer self) }
     {
@@ -386,7 +386,7 @@ impl Given {
     }
 }
 
-// Returns what is wrong with all words.
+// Returns what is wrong with all arguments.
 fn wrong(alloc: Global, misuse: Misuse, command: Command) -> Request
     ensures { IsWrongRequest misuse command result }
 {

@@ -1,5 +1,5 @@
-//! What follows from the options that are given: the task, which doubles have a text, the order of keys,
-//! and that an option is given once.
+//! The effects of the options: the task, which doubles have a text, the order of keys,
+//! and that an option occurs once.
 ghost use Rattle.std.specs.Prelude.{◌≡◌, true, if◌then◌else◌};
 ghost use Rattle.bson_program.specs.Invocation.{awaited, doubles_of, first_preprocessed, judged, requested_order, requested_preprocessing};
 
@@ -8,7 +8,7 @@ use crate::invocation::{Flag, Misuse, Purpose};
 use bson::extjson::{Doubles, KeyOrder};
 use bson_run::order::{Criterion, Preprocessing, Task, Work};
 
-/// Sets what an option sets, unless it is given twice.
+/// Sets what an option sets, unless it occurs twice.
 pub fn set(is_given: &mut bool, flag: Flag) -> Parsed
     ensures word { result ≡ (if is_given.old then Parsed.Wrong (Misuse.Twice flag) else Parsed.Word) }
     ensures set { is_given.new ≡ true }

@@ -9,7 +9,7 @@ use bson_convert::error;
 use std::alloc::{AllocError, Global};
 
 /// Returns how the values of two files differ, or `None` if they are the same. It reads both files
-/// whole, and keeps their output in memory. If an input is rejected for what it holds instead, a hint
+/// whole, and keeps their output in memory. If an input is rejected for its format, a hint
 /// is added.
 pub fn compare_files<'a>(
     rt: &HostRuntime,

@@ -7,7 +7,7 @@ use crate::invocation::Purpose;
 use sha2::{Digest, Sha256};
 use std::alloc::{AllocError, Global};
 
-/// A hasher of lines that come in pieces.
+/// A hasher of lines that come in blocks.
 #[derive(Drop)]
 pub struct LineHasher {
     alloc: Global,

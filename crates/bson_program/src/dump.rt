@@ -1,4 +1,4 @@
-//! A run over BSON documents, one behind the other.
+//! A run over concatenated BSON documents.
 ghost use Rattle.std.specs.Prelude.{◌≡◌, ◌+◌, ◌↔◌, [], false, IfErr, IfOk, IsTrue};
 ghost use Rattle.std.specs.Io.Buffered.{writer_buffer, writer_inner};
 ghost use Rattle.std.specs.Io.KnownBytes.{Appends};
@@ -48,7 +48,7 @@ pub fn run_dump<'a>(
     }
 }
 
-// What is asked of each document.
+// Returns the settings for each document.
 fn run_of(invocation: &Invocation) -> Run
     ensures depth { result.depth ≡ DEPTH }
     ensures options { result.options ≡ invocation.now.options }
@@ -63,7 +63,7 @@ fn run_of(invocation: &Invocation) -> Run
     }
 }
 
-// What is written of each document.
+// Returns what is written for each document.
 fn document_line(task: Task) -> Line
     ensures { result ≡ document_line task }
 {

@@ -1,4 +1,4 @@
-//! Which options each command has, and whether the given ones are among them.
+//! Which options each command has, and whether the arguments use only these.
 ghost use Rattle.std.specs.Prelude.{◌≡◌, IfSome, None, true};
 ghost use Rattle.bson_program.specs.Flags as flags;
 ghost use Rattle.bson_program.specs.Invocation.{AllFit, AreTwoFiles, IsMisfit, TaskFits};
@@ -9,7 +9,7 @@ use crate::invocation::{Flag, Input, Misuse, Purpose, STANDARD};
 use bson_convert::mode::Mode;
 use bson_run::order::{Criterion, Task};
 
-/// Returns what is wrong with a mode and the given options, or `None` if they fit one another.
+/// Returns what is wrong with a mode and its options, or `None` if the mode has these options.
 pub fn misfit(given: &Given, task: Task) -> Option<Misuse>
     ensures some { IfSome result (IsMisfit given.now task) }
     ensures none { result ≡ None → TaskFits given.now task }
@@ -42,7 +42,7 @@ fn two_files(given: &Given) -> Option<Misuse>
     Some(Misuse::StandardTwice)
 }
 
-// Returns the first given option that the command does not have.
+// Returns the first option that is set, and that the command does not have.
 fn unfit(given: &Given, task: Task) -> Option<Flag>
     ensures some { IfSome result (λ flag. flags.clashes flag given.now task ≡ true) }
     ensures none { result ≡ None → AllFit given.now task }
@@ -80,7 +80,7 @@ fn unfit(given: &Given, task: Task) -> Option<Flag>
     None
 }
 
-// Returns whether the option is given, and the command does not have it.
+// Returns whether the option is set, and the command does not have it.
 fn clashes(flag: Flag, given: &Given, task: Task) -> bool
     ensures { result ≡ flags.clashes flag given.now task }
 {
@@ -126,7 +126,7 @@ fn reads_texts(input: Input, task: Task) -> bool
     input != Input::Documents && !matches!(task, Task::Encode | Task::Check(Criterion::Canonical))
 }
 
-// Returns whether what is read is only judged.
+// Returns whether the input is only checked.
 fn is_check(task: Task) -> bool
     ensures { result ≡ flags.is_check task }
 {

@@ -1,4 +1,4 @@
-//! What a rejected input holds in place of what it should, as its first bytes show.
+//! The actual format of a rejected input, by its first bytes.
 ghost use Rattle.std.specs.Prelude.{◌≡◌, not, reverse};
 ghost use Rattle.std.specs.List.{find};
 ghost use Rattle.bson_program.specs.Hints.{advised, after_line, compression_of, hint_of_encoding, ends_in_zero, first_line};
@@ -10,10 +10,10 @@ use crate::advice::Advice;
 use crate::invocation::Input;
 use crate::messages::line_len;
 
-/// The greatest length of a document that is told from text by its first bytes.
+/// The greatest length of a document that its first bytes distinguish from text.
 const MOST: usize = 1 << 27;
 
-/// What a rejected input holds, or how it is read.
+/// What a rejected input contains, or how it is read.
 #[derive(Clone, Copy, PartialEq, Eq)]
 pub enum Hint {
     /// Bytes that `gzip` made.
@@ -36,7 +36,7 @@ pub enum Hint {
     Utf16LittleEndian,
     /// UTF-16 without one, the higher byte first.
     Utf16BigEndian,
-    /// A text behind a byte order mark, which standard input may not have.
+    /// A text after a byte order mark, which standard input may not have.
     Mark,
     /// Texts over several lines, if a text per line is expected.
     LongTexts,
@@ -46,16 +46,16 @@ pub enum Hint {
     Advised(Advice),
 }
 
-/// What is known of a rejected input besides its first bytes.
+/// The properties of a rejected input in addition to its first bytes.
 #[derive(Clone, Copy, PartialEq, Eq)]
 pub struct Rejected {
-    /// What the input should be.
+    /// The expected input.
     pub input: Input,
     /// Whether bytes are made of each line.
     pub encodes: bool,
     /// Whether it is standard input.
     pub is_standard: bool,
-    /// What helps with the text that was rejected.
+    /// The advice for the text that was rejected.
     pub advice: Option<Advice>,
 }
 
@@ -79,7 +79,7 @@ pub fn hint_for(rejected: Rejected, head: &[u8]) -> Option<Hint>
     }
 }
 
-// What helps where texts are expected.
+// Returns the hint if texts are expected.
 fn hint_for_texts(rejected: Rejected, head: &[u8]) -> Option<Hint>
     ensures { result ≡ hint_of_texts rejected head.now }
 {
@@ -89,7 +89,7 @@ fn hint_for_texts(rejected: Rejected, head: &[u8]) -> Option<Hint>
     advised(rejected.advice)
 }
 
-// What helps where a text per line is.
+// Returns the hint if a text per line is expected.
 fn hint_for_lines(rejected: Rejected, head: &[u8]) -> Option<Hint>
     ensures { result ≡ hint_of_lines rejected head.now }
 {
@@ -104,7 +104,7 @@ fn hint_for_lines(rejected: Rejected, head: &[u8]) -> Option<Hint>
     }
 }
 
-// What helps where documents of BSON are.
+// Returns the hint if documents of BSON are expected.
 fn hint_for_dump(rejected: Rejected, head: &[u8]) -> Option<Hint>
     ensures { result ≡ hint_of_dump rejected head.now }
 {

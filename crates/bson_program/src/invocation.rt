@@ -1,4 +1,4 @@
-//! What the arguments ask for.
+//! What the arguments request.
 ghost use Rattle.std.specs.Prelude.{◌≡◌, ◌⊎◌, ◌↔◌, IfOk, IsTrue, map, string_bytes};
 ghost use Rattle.bson_program.specs.Invocation.{IsRequestedBy};
 ghost use Rattle.bson_run.specs.declared.order.Criterion.{Criterion};
@@ -12,7 +12,7 @@ use std::alloc::{AllocError, Global};
 /// The name of standard input among the files that are read, and of standard output.
 pub const STANDARD: &str = "-";
 
-/// What the arguments ask for.
+/// What the arguments request.
 #[derive(Drop)]
 pub enum Request {
     /// A run over files.
@@ -28,7 +28,7 @@ pub enum Request {
 /// The commands, each with its usage and its help.
 #[derive(Clone, Copy, PartialEq, Eq)]
 pub enum Command {
-    /// Every command: no word has named one.
+    /// Every command: no argument has named one.
     All,
     /// One document, in a mode.
     Text,
@@ -40,39 +40,39 @@ pub enum Command {
     Encode,
 }
 
-/// What is wrong with the arguments.
+/// An error of the arguments.
 #[derive(Drop)]
 pub struct Wrong {
-    /// What is wrong.
+    /// The kind of the error.
     pub misuse: Misuse,
-    /// The command that the words before name.
+    /// The command that the arguments before name.
     pub command: Command,
-    /// The word that is wrong, if it is one.
+    /// The argument that is wrong, if it is one.
     pub word: String,
 }
 
-/// What can be wrong with arguments.
+/// The kinds of errors of arguments.
 #[derive(Clone, Copy, PartialEq, Eq)]
 pub enum Misuse {
-    /// A word is an option that no command has.
+    /// An argument is an option that no command has.
     UnknownOption,
-    /// A word is expected to be a command or a mode, and is not.
+    /// An argument is expected to be a command or a mode, and is not.
     UnknownMode,
-    /// A word is an option of an earlier version, which is the default now.
+    /// An argument is an option of an earlier version, which is the default now.
     Former,
-    /// An option is given twice.
+    /// An option occurs twice.
     Twice(Flag),
     /// An option has no value, or not one that it can have.
     NoValue(Flag),
     /// The mode does not have an option.
     Unfit(Flag, Purpose, Task),
-    /// No mode is given.
+    /// No mode is specified.
     NoMode,
     /// A comparison needs two files.
     TwoFiles,
     /// Standard input is named twice.
     StandardTwice,
-    /// A word is not UTF-8.
+    /// An argument is not UTF-8.
     NotUtf8,
 }
 
@@ -101,7 +101,7 @@ pub enum Flag {
     Unordered,
 }
 
-/// What a run makes of the output.
+/// How a run uses the output.
 #[derive(Clone, Copy, PartialEq, Eq)]
 pub enum Purpose {
     /// The output is written.
@@ -112,7 +112,7 @@ pub enum Purpose {
     Comparison,
 }
 
-/// What the input is.
+/// The format of the input.
 #[derive(Clone, Copy, PartialEq, Eq)]
 pub enum Input {
     /// One text, on any number of lines.
@@ -126,19 +126,19 @@ pub enum Input {
 /// A run over files.
 #[derive(Drop)]
 pub struct Invocation {
-    /// What is done with each line, or each document.
+    /// The task for each line, or each document.
     pub task: Task,
     /// Which texts have a meaning, which values a text, and the order of keys in the output.
     pub options: Options,
-    /// What becomes of the run at a line or a document that is refused.
+    /// Whether the run goes on after a rejected line or document.
     pub on_refusal: OnRefusal,
-    /// What the run makes of the output.
+    /// How the run uses the output.
     pub purpose: Purpose,
     /// Whether a comparison ignores the order of values.
     pub is_unordered: bool,
-    /// What the input is.
+    /// The format of the input.
     pub input: Input,
-    /// How many spaces indent the output for each bracket, where it is laid out over several lines.
+    /// How many spaces indent the output for each bracket, if it is written over several lines.
     pub indent: Option<usize>,
     /// The file that the output goes to, or `-`.
     pub output: String,
@@ -154,7 +154,7 @@ impl Invocation {
         self.task == Task::Encode
     }
 
-    /// Whether what is read is only judged or compared.
+    /// Whether the input is only checked or compared.
     pub fn writes_nothing(&self) -> bool
         ensures { IsTrue result
             ↔ ((self.now.purpose ≡ Purpose.Comparison)
@@ -169,8 +169,8 @@ impl Invocation {
     }
 }
 
-/// Returns what the words after the program's name ask for: a command, a mode, then names of files,
-/// with options anywhere before a word `--`, each once at most.
+/// Returns what the arguments after the program's name request: a command, a mode, then names of files,
+/// with options anywhere before an argument `--`, each once at most.
 pub fn parse_arguments(alloc: Global, words: Vec<String>) -> Result<Request, AllocError>
     ensures { IfOk result (λ requested. IsRequestedBy (map string_bytes words.items) requested) }
 {

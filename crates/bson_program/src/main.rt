@@ -1,7 +1,7 @@
 //! The program that `./bson` runs: it converts one document, the lines of files, or dumps, and writes
-//! dumps, all of them with the words that its user gave.
+//! dumps, as the arguments of its user request.
 //!
-//! The library `bson_run` converts. This crate has the arguments (`order`, `arguments`, `values`,
+//! The library `bson_run` converts. This crate has the arguments (`invocation`, `arguments`, `values`,
 //! `choices`, `fits`), the files (`run`, `streams`, `output`; `texts` for JSON texts with `whole` for
 //! each, `dump` for BSON documents), digests of lines (`digests`), comparisons (`compared`, `same`),
 //! the line of progress (`progress`), the lines on standard error (`messages`, `misuse`, `hints`,
@@ -44,12 +44,12 @@ use std::alloc::AllocError;
 use std::io::ErrorKind;
 use std::process::ExitCode;
 
-/// The status by which a shell tells that nobody reads the output any more: 128, and SIGPIPE.
+/// The status that reports to a shell that nobody reads the output any more: 128, and SIGPIPE.
 const NO_READER: u8 = 141;
 
 // Status 0: done, and no line was refused. Status 1: a line was refused, or the run could not go
-// on, which standard error tells. Status 2: other arguments, and nothing was read. Status 141:
-// nobody reads the output any more, and nothing is told.
+// on, which standard error shows. Status 2: wrong arguments, and nothing was read. Status 141:
+// nobody reads the output any more, and standard error shows nothing.
 fn main(rt: HostRuntime) -> ExitCode {
     match read_order(&rt) {
         Ok(Request::Run(invocation)) if invocation.purpose == Purpose::Comparison => compare_order(
@@ -90,7 +90,7 @@ fn reject(rt: &HostRuntime, wrong: &Wrong) -> ExitCode {
     }
 }
 
-// Runs, and tells what came of it, and what helps with the inputs that were rejected.
+// Runs, reports the result, and prints the hints for the inputs that were rejected.
 fn run_order(rt: &HostRuntime, invocation: &Invocation) -> ExitCode {
     let mut hints = Vec::new(rt.alloc());
     let status = match run(rt, invocation, &mut hints) {
@@ -123,7 +123,7 @@ fn print_hints(rt: &HostRuntime, hints: &Vec<String>) {
     }
 }
 
-// This status, once the line was given to standard error.
+// Prints the line on standard error, and returns this status.
 fn end_with(rt: &HostRuntime, line: Result<String, AllocError>, status: u8) -> ExitCode {
     match line {
         Ok(line) => report_failure(rt, &line, status),

@@ -12,10 +12,10 @@ use bson_run::lines::Counts;
 use std::alloc::{AllocError, Global};
 use std::io::Error;
 
-/// What a verdict begins with, before its line's number.
+/// The beginning of a diagnostic, before its line's number.
 const HEAD: &[u8] = b"bson: line ";
 
-/// Where bytes would go to a terminal.
+/// The error if bytes would go to a terminal.
 const TERMINAL: &str = "bson: BSON bytes are not written to a terminal; give -o FILE, or a pipe";
 
 /// How many lines or documents there were, and how many were refused.
@@ -26,7 +26,7 @@ pub fn summary(alloc: Global, input: Input, counts: Counts) -> Result<String, Al
     format!(in alloc; "bson: {} {what}, {} refused", counts.lines, counts.refused)
 }
 
-// What the input has.
+// Returns the name of the parts of the input.
 fn kind_of(input: Input) -> &'static str
     ensures { result.now ≡ input_kind input }
 {
@@ -36,7 +36,7 @@ fn kind_of(input: Input) -> &'static str
     }
 }
 
-/// What stopped the run, and where.
+/// Returns the message for what stopped the run, and where.
 pub fn line_of(alloc: Global, stop: Stop<'_>) -> Result<String, AllocError>
     ensures { IfOk result (λ line. IsLineFor stop.entry (string_bytes line)) }
 {
@@ -97,7 +97,7 @@ fn at_text(
     format!(in alloc; "{head}: {words}{place}")
 }
 
-// What a message begins with: where the text is on a line, with its number.
+// Returns the beginning of a message: for a text on a line with its number.
 fn text_head(alloc: Global, name: &str, number: u64) -> Result<String, AllocError>
     ensures { IfOk result (λ head. string_bytes head ≡ text_head name.now number) }
 {
@@ -108,7 +108,7 @@ fn text_head(alloc: Global, name: &str, number: u64) -> Result<String, AllocErro
     }
 }
 
-/// What a message begins with: the file's name, or that of the program.
+/// Returns the beginning of a message: the file's name, or that of the program.
 pub fn head_of(alloc: Global, name: &str) -> Result<String, AllocError>
     ensures { IfOk result (λ head. string_bytes head ≡ head_of name.now) }
 {
@@ -150,7 +150,7 @@ pub fn escape_name(alloc: Global, name: &str) -> Result<String, AllocError>
     Ok(escaped)
 }
 
-// Adds a letter, or its escape where it would break a line or steer a terminal.
+// Appends a character, or its escape if it would break a line or control a terminal.
 fn push_printable(text: &mut String, letter: char) -> Result<(), AllocError>
     ensures { OnOk result (string_bytes text.new ≡ string_bytes text.old ++ printable letter) }
 {
@@ -164,7 +164,7 @@ fn push_printable(text: &mut String, letter: char) -> Result<(), AllocError>
     Ok(())
 }
 
-// The system's words for an error, behind a colon.
+// Returns the system's message for an error, after a colon.
 fn cause_of(alloc: Global, error: Option<Error>) -> Result<String, AllocError>
     ensures { IfOk result (λ cause. IsCause error (string_bytes cause)) }
 {
@@ -178,7 +178,7 @@ fn cause_of(alloc: Global, error: Option<Error>) -> Result<String, AllocError>
     }
 }
 
-/// Verdicts on lines, with a file's name and the line's number in front, as editors and grep have
+/// Returns diagnostics on lines, with a file's name and the line's number in front, as editors and grep have
 /// them; on documents, with the name in front.
 pub fn name_verdicts(alloc: Global, name: &str, verdicts: &[u8]) -> Result<Vec<u8>, AllocError>
     ensures { IfOk result (λ named. named.items ≡ all_under name.now verdicts.now) }
@@ -193,7 +193,7 @@ pub fn name_verdicts(alloc: Global, name: &str, verdicts: &[u8]) -> Result<Vec<u
     Ok(named)
 }
 
-/// How long the first line is, with the newline behind it.
+/// Returns the length of the first line, with the newline after it.
 pub fn line_len(bytes: &[u8]) -> usize
     ensures { result ≡ line_len bytes.now }
 {
@@ -203,14 +203,14 @@ pub fn line_len(bytes: &[u8]) -> usize
     }
 }
 
-// Where the first newline stands.
+// Returns the offset of the first newline.
 fn newline_at(bytes: &[u8]) -> Option<usize>
     ensures { result ≡ position (λ byte. byte == 10) bytes.now }
 {
     bytes.iter().position(|byte| *byte == b'\n')
 }
 
-// Adds a verdict behind the name.
+// Appends a diagnostic after the name.
 fn push_named(named: &mut Vec<u8>, name: &str, verdict: &[u8]) -> Result<(), AllocError>
     ensures { OnOk result (named.new.items ≡ named.old.items ++ under name.now verdict.now) }
 {

@@ -1,4 +1,4 @@
-//! What is told of arguments that the program does not accept.
+//! The messages about arguments that the program does not accept.
 ghost use Rattle.std.specs.Prelude.{◌≡◌, ℕ, List, IfOk, string_bytes};
 ghost use Rattle.bson_program.specs.Flags.{flag_name};
 ghost use Rattle.bson_program.specs.Misuses.{command_name, full_name, kind_of_word, mode_without, see, misuse_message};
@@ -47,7 +47,7 @@ fn unknown_option(alloc: Global, command: Command, word: &str) -> Result<String,
     format!(in alloc; "bson: unknown option '{word}'{see}")
 }
 
-// Names a word that is not a command or a mode.
+// Names an argument that is not a command or a mode.
 fn unknown_mode(alloc: Global, command: Command, word: &str) -> Result<String, AllocError>
     ensures { IfOk result (λ line. string_bytes line ≡ misuse_message command Misuse.UnknownMode word.now) }
 {
@@ -122,7 +122,7 @@ fn full_name(alloc: Global, command: Command, mode: &str) -> Result<String, Allo
     }
 }
 
-// Returns the words before a command's options.
+// Returns the program and command before a command's options.
 fn command_name(command: Command) -> &'static str
     ensures { result.now ≡ command_name command }
 {
@@ -134,7 +134,7 @@ fn command_name(command: Command) -> &'static str
     }
 }
 
-// Returns what a word is expected to be.
+// Returns what an argument is expected to be.
 fn kind_of_word(command: Command) -> &'static str
     ensures { result.now ≡ kind_of_word command }
 {
@@ -144,7 +144,7 @@ fn kind_of_word(command: Command) -> &'static str
     }
 }
 
-// Returns the mode that does not have an option, and behind it the option by which it does not.
+// Returns the mode that does not have an option, and after it the option because of which it does not.
 fn mode_without(flag: Flag, purpose: Purpose, task: Task) -> &'static str
     ensures { result.now ≡ mode_without flag purpose task }
 {
@@ -154,7 +154,7 @@ fn mode_without(flag: Flag, purpose: Purpose, task: Task) -> &'static str
     }
 }
 
-/// Returns the word that names a mode.
+/// Returns the argument that names a mode.
 pub fn mode_word(purpose: Purpose, task: Task) -> &'static str
     ensures { result.now ≡ mode_word purpose task }
 {

@@ -1,4 +1,4 @@
-//! Where the output goes. A file gets it whole or not at all: it is written beside the file, and
+//! The output of a run. A file gets it whole or not at all: it is written next to the file, and
 //! takes the file's place at the end.
 ghost use Rattle.std.specs.Prelude.{◌≡◌, codes, IfOk, IfSome, IsOk, IsOkAnd, None};
 ghost use Rattle.bson_program.specs.Stops.{IsNumberedPart};
@@ -10,7 +10,7 @@ use std::io::ErrorKind;
 use std::os::unix::fs::{MetadataExt, fchown};
 use std::{fs, io, process};
 
-/// Where the output goes.
+/// The output of a run.
 #[derive(Drop)]
 pub struct Output {
     pub sink: Sink,

@@ -1,4 +1,4 @@
-//! How far a run is, on a terminal: a line that is renewed in place while files are read.
+//! How far a run is, on a terminal: a line that is updated in place while files are read.
 ghost use Rattle.std.specs.Prelude.{◌≡◌, ◌==◌, count_by, OnOk};
 ghost use Rattle.std.specs.Io.KnownBytes.{Appends};
 ghost use Rattle.bson_program.specs.Stops.{reported_under};
@@ -13,10 +13,10 @@ use std::{io, str};
 /// Milliseconds from one line to the next.
 const LEAST_PAUSE: u64 = 100;
 
-/// Takes what is written there off the terminal's line.
+/// Clears the terminal's line.
 const CLEARED: &str = "\r\x1b[K";
 
-/// What verdicts have of a number that is no 64-bit integer, and of a document with a finite double.
+/// Diagnostics have these texts for a number that is not a 64-bit integer, and for a document with a finite double.
 const NO_INTEGER: &str = " (not a 64-bit integer; found ";
 
 const FINITE_DOUBLE: &str = ": a finite double";
@@ -25,7 +25,7 @@ const FINITE_DOUBLE: &str = ": a finite double";
 #[derive(Drop)]
 pub struct Progress<'a> {
     rt: &'a HostRuntime,
-    /// How many bytes the files have; none where no progress is told.
+    /// The total size of the files, or none if no progress is shown.
     total: Option<u64>,
     /// Whether they have lines.
     has_lines: bool,
@@ -86,7 +86,7 @@ impl<'a> Progress<'a> {
         }
     }
 
-    /// Takes the line away, where it stands.
+    /// Clears the line, if it is shown.
     pub fn clear(&self) {
         if self.stands.get() {
             self.stands.set(false);
@@ -96,7 +96,7 @@ impl<'a> Progress<'a> {
     }
 }
 
-// Whether verdicts tell of a number that is read without `--strict`.
+// Whether diagnostics mention a number that is read without `--strict`.
 fn reports_double(verdicts: &[u8]) -> bool {
     match str::from_utf8(verdicts) {
         Ok(text) => text.contains(NO_INTEGER) || text.contains(FINITE_DOUBLE),
@@ -147,7 +147,7 @@ impl<R: Read> Read for Counted<'_, R> {
     }
 }
 
-/// A writer of verdicts, a line for each refused line, with the name of their file where it has
+/// A writer of diagnostics, a line for each rejected line, with the name of their file where it has
 /// one, which keeps why a write failed.
 #[derive(Drop)]
 pub struct Verdicts<'a, T> {
@@ -160,7 +160,7 @@ pub struct Verdicts<'a, T> {
 }
 
 impl<T: Write> Verdicts<'_, T> {
-    // Writes whole verdicts.
+    // Writes whole diagnostics.
     fn put(&mut self, verdicts: &[u8]) -> io::Result<()>
         ensures { OnOk result (Appends (T.contents self.old.writer) (T.contents self.new.writer)
             (reported_under self.old.name verdicts.now)) }

@@ -1,4 +1,4 @@
-//! What is told beside the error of an input: what it holds instead, and what reads that.
+//! The hint that follows the error of an input: what it contains instead, and what reads that.
 ghost use Rattle.std.specs.Prelude.{◌≡◌, IfOk, IfSome, string_bytes};
 ghost use Rattle.bson_program.specs.Hints.{IsHelpFor, advice_text, hint_line, is_rejected, is_strict, option_if, reading_mode, reading_words};
 ghost use Rattle.bson_program.specs.Hints.{sorts_keys, preprocessing_options, hint_text};
@@ -146,7 +146,7 @@ fn preprocessing_options(task: Task) -> &'static str
     }
 }
 
-// Whether the option that sorts keys is given, and not another that sorts them.
+// Whether the option that sorts keys is set, and not another that sorts them.
 fn sorts_keys(purpose: Purpose, doubles: Doubles, order: KeyOrder) -> bool
     ensures { result ≡ sorts_keys purpose doubles order }
 {
@@ -165,7 +165,7 @@ fn hint_line(alloc: Global, name: &str, hint: Hint, words: &str) -> Result<Strin
     format!(in alloc; "bson: {name} {reported}")
 }
 
-// What an input holds instead, and what reads it.
+// Returns the text of a hint: what an input contains instead, and what reads it.
 fn tell(alloc: Global, hint: Hint, words: &str) -> Result<String, AllocError>
     ensures { IfOk result (λ reported. string_bytes reported ≡ hint_text hint words.now) }
 {
@@ -198,7 +198,7 @@ fn tell(alloc: Global, hint: Hint, words: &str) -> Result<String, AllocError>
     }
 }
 
-// What an advice says.
+// Returns the text of an advice.
 fn advice_text(advice: Advice) -> &'static str
     ensures { result.now ≡ advice_text advice }
 {

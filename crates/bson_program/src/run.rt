@@ -1,4 +1,4 @@
-//! A run over files: what is opened, and what is told where that can't be done.
+//! A run over files: which files are opened, and the error if that fails.
 ghost use Rattle.std.specs.Prelude.{◌≡◌, ◌⊎◌, [], IfErr, IfOk, string_bytes};
 ghost use Rattle.bson_run.specs.Lines.{text_held};
 ghost use Rattle.bson_run.specs.Place.{IsWhere};
@@ -37,7 +37,7 @@ pub enum Stop<'a> {
     /// Bytes would go to a terminal.
     Terminal,
     /// At a text of the file that is refused: at the line of this number, or at no line (0), why,
-    /// and where in the text, in words.
+    /// and where in the text, as a message.
     Text(&'a str, u64, error::Error, String),
     /// At a document of the file.
     Document(&'a str, RunEnd),
@@ -46,7 +46,7 @@ pub enum Stop<'a> {
 /// Converts the lines of all files in their order. It stops where a file can't be read or written,
 /// or as a run over lines does. Nothing is read or written before each file was found to be one that
 /// opens, and none that is written, and no bytes of BSON go to a terminal. Where an input is rejected
-/// for what it holds instead, a hint is added.
+/// for its format, a hint is added.
 pub fn run<'a>(
     rt: &HostRuntime,
     invocation: &'a Invocation,
@@ -170,8 +170,8 @@ fn run_each<'a>(
     }
 }
 
-// Where the fault lies in the line at which the run stopped; nothing where memory is wanting for
-// the words.
+// Returns the position of the error in the line at which the run stopped, or nothing if memory for the message
+// is lacking.
 fn place_in(alloc: Global, run: &LineRun, fault: &error::Error) -> String
     ensures { IsWhere (text_held run.now.collected) fault.now (string_bytes result) ⊎ (string_bytes result ≡ []) }
 {
@@ -181,7 +181,7 @@ fn place_in(alloc: Global, run: &LineRun, fault: &error::Error) -> String
     }
 }
 
-/// What could not be written: verdicts, or else the output.
+/// Returns the failed writer: that of diagnostics, or else the output.
 pub fn write_stop<'a>(
     invocation: &'a Invocation,
     sink: &Sink,
@@ -214,7 +214,7 @@ fn run_text<'a>(
     }
 }
 
-// What is read by the name.
+// Opens the input of this name.
 fn source<'a>(rt: &HostRuntime, name: &'a str) -> Result<Source, Stop<'a>>
     ensures { IfErr result (IsUnread name.now) }
 {
@@ -227,7 +227,7 @@ fn source<'a>(rt: &HostRuntime, name: &'a str) -> Result<Source, Stop<'a>>
     }
 }
 
-// The name that stands before verdicts, but those on lines of standard input.
+// Returns the name before each diagnostic, or none for lines of standard input.
 fn title<'a>(
     rt: &HostRuntime,
     invocation: &Invocation,
@@ -277,7 +277,7 @@ pub fn try_input<'a>(
     Ok(())
 }
 
-// Whether a file is what this name stands for.
+// Whether a file is the one with this name.
 fn is_written(rt: &HostRuntime, file: &Metadata, name: &str) -> bool {
     match fs::metadata(rt, name) {
         Ok(output) => { file.is_file() && file.dev() == output.dev() && file.ino() == output.ino() }
@@ -285,7 +285,7 @@ fn is_written(rt: &HostRuntime, file: &Metadata, name: &str) -> bool {
     }
 }
 
-/// How many bytes are to be read, where progress is told: standard error is a terminal to which no
+/// Returns the total size of the inputs if progress is shown: standard error is a terminal to which no
 /// output goes, and all that is read is files.
 pub fn total(rt: &HostRuntime, invocation: &Invocation) -> Option<u64> {
     let is_apart = invocation.output.as_str() != STANDARD

@@ -61,7 +61,7 @@ pub fn difference_line(
     }
 }
 
-// Returns a number of values in words.
+// Returns a number of values for a message.
 fn counted(alloc: Global, count: usize) -> Result<String, AllocError>
     ensures { IfOk result (λ words. string_bytes words ≡ counted count) }
 {

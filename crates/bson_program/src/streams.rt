@@ -1,4 +1,4 @@
-//! What is read and written: standard streams and files, with the cause where that fails.
+//! The inputs and outputs: standard streams and files, which keep the cause of a failure.
 ghost use Rattle.std.specs.Prelude.{◌≡◌, ℕ, IsOk, None, Vec};
 ghost use Rattle.std.specs.Io.{WritesAtMost};
 ghost use Rattle.std.specs.declared.rt.Stdout.{Stdout};
@@ -10,7 +10,7 @@ use std::io;
 use std::io::{Read, Write};
 use std::rt::{Stdin, Stdout};
 
-/// What lines are read from.
+/// The input of a run.
 #[derive(Drop)]
 pub enum Source {
     Stdin(Stdin),
@@ -26,7 +26,7 @@ impl Read for Source {
     }
 }
 
-/// What the output is written to.
+/// The output of a run.
 #[derive(Drop)]
 pub enum Target {
     Stdout(Stdout),
@@ -78,7 +78,7 @@ impl Write for Target {
 #[derive(Drop)]
 pub struct Sink {
     pub target: Target,
-    /// If it is given, the digest of each line is written in place of the line.
+    /// If there is a hasher, the digest of each line is written in place of the line.
     pub hasher: Option<LineHasher>,
     pub error: Option<io::Error>,
 }

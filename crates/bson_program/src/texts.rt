@@ -250,7 +250,7 @@ fn stop_at<'a>(
     }
 }
 
-// Returns the line of an error, and where the text is wrong, in words.
+// Returns the line of an error, and the message that says where the text is wrong.
 fn place_of(
     alloc: Global,
     task: Task,
@@ -271,7 +271,7 @@ fn place_of(
     }
 }
 
-// Returns the line on which the text is not JSON, and where, in words.
+// Returns the line on which the text is not JSON, and the message that says where.
 fn syntax_place(alloc: Global, found: Found<'_>) -> Result<(u64, String), AllocError>
     ensures { IfOk result (λ at. IsStop found.entry.text.now (string_bytes at.1)) }
 {

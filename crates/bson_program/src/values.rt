@@ -38,14 +38,14 @@ fn begins_otherwise(word: &str) -> bool
     word.starts_with('+') || word.starts_with('0')
 }
 
-/// Returns whether a word begins as an option.
+/// Returns whether an argument begins as an option.
 pub fn is_dashed(word: &str) -> bool
     ensures { result ≡ (slice_index word.now 0 == 45) }
 {
     word.starts_with('-')
 }
 
-/// Returns the file in a word that has its option too.
+/// Returns the file in an argument that has its option too.
 pub fn output_in(word: &str) -> Option<&str>
     ensures some { IfSome result (λ file. IsOutputOption file.now word.now) }
     ensures none { result ≡ None → (file : List ℕ) → IsOutputOption file word.now → ⊥ }

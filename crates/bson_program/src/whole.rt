@@ -1,4 +1,4 @@
-//! What one text gives, on any number of lines.
+//! The output of one text, on any number of lines.
 ghost use Rattle.std.specs.Prelude.{◌≡◌, ◌≢◌, ◌⊎◌, IfOk, IfErr, IfSome, None, OnOk, string_bytes};
 ghost use Rattle.bson_convert.specs.Convert.{IsRefusedIn};
 ghost use Rattle.bson_run.specs.Accepted.{HasOutput, IsUtf8Accepted};
@@ -45,8 +45,8 @@ pub fn accept(alloc: Global, invocation: &Invocation, bytes: &[u8]) -> Result<Ac
     }
 }
 
-// What a newer text gives. A long one is looked at for its fault before it is written, so that of
-// the two texts it alone is held beside the output.
+// Returns the output of the newer text. A long one is checked for its error before it is written, so that of
+// the two texts it alone is in memory next to the output.
 fn accept_upgraded(
     alloc: Global,
     invocation: &Invocation,
@@ -67,7 +67,7 @@ fn accept_upgraded(
     }
 }
 
-// What a text gives that was taken.
+// Returns the output of a text that was preprocessed.
 fn accept_preprocessed(
     alloc: Global,
     invocation: &Invocation,
@@ -144,7 +144,7 @@ fn strip_newline(bytes: &[u8]) -> &[u8]
     }
 }
 
-// The form that is laid out over several lines, and by how many spaces.
+// Returns the form that is written over several lines, and the number of spaces.
 fn layout(invocation: &Invocation, mode: Mode) -> Option<(Form, usize)>
     ensures some { IfSome result (λ laid. (mode ≡ mode_of laid.0) × (mode ≢ Mode.Show)
         × (invocation.now.indent ≡ Some laid.1)) }

@@ -1,4 +1,4 @@
--- What a text gives that was accepted.
+-- The output of an accepted text.
 use Rattle.std.proofs.Common.{◌≡◌, ℕ, List, Vec, Global, sym, subst}
 use Rattle.std.specs.Prelude.{IsUtf8}
 use Rattle.serde_json.specs.Read.{read}

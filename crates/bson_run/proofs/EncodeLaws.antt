@@ -1,4 +1,4 @@
--- The bytes of what a text means: there is one such, and what has none by one meaning has none by another.
+-- The bytes of the document that a text denotes are unique, and each meaning has bytes or none of them has.
 use Rattle.std.proofs.Common.{◌≡◌, ℕ, List, Some, sym, ap, ◌∙◌, subst, rules}
 use Rattle.std.specs.Prelude.{IsUtf8}
 use Rattle.bson.specs.TextMeaning.{HasTextMeaningBy, MeansBy}

@@ -50,7 +50,7 @@ other_where text (errors.NotCanonical column) h = absurd h
 other_where text errors.OutOfMemory h = refl
 other_where text errors.CannotWrite h = refl
 
--- the words of an explanation say where the fault lies
+-- the message of an explanation says where the error is
 pub where_from : (text : List ℕ) (fault : Error) (e : Explanation) → IsExplanation text fault e → IsWhere text fault (words_at text e)
 where_from text fault (explained.Syntax stop) h =
     subst (λ (f : Error). IsWhere text f (words_at text (explained.Syntax stop))) (sym h.0) (column_at stop.offset text, stop.rule, h.1, refl)
@@ -64,7 +64,7 @@ where_from text fault (explained.Difference column) h =
     subst (λ (f : Error). IsWhere text f (at_difference column)) (sym h) refl
 where_from text fault explained.Other h = other_where text fault h
 
--- ---- words as they are told
+-- ---- cut and escaped messages
 
 pub added : {E : Type 0} (r : Result (Unit {0}) E) (old new text wanted : List ℕ)
     → new ≡ cond (is_ok r) (old ++ text) old → text ≡ wanted → OnOk r (new ≡ old ++ wanted)
@@ -77,7 +77,7 @@ pub shown_control : (c : ℕ) → c < 256 → (c == 0x2028) ≡ false → (c == 
 shown_control c small line paragraph control =
     rw (line, paragraph, control) (ap (λ ds. codes "\\u00" ++ ds) (hex_byte false c small))
 
--- what a hole of two hexadecimal digits writes behind a text
+-- the two hexadecimal digits that a format string writes after a text
 pub hole : (d : _) (s : _) (text : List ℕ) (n : ℕ) → digits_output d ≡ Some (radix_digits 16 false n)
     → s ≡ format_spec 32 0 4 2 (2 ^ 64 - 1) → IfSome (Some (codes "\\u00") ++? styled_digits_output d s) (λ bs. text ≡ bs)
     → text ≡ codes "\\u00" ++ padded_integral (format_spec 32 0 4 2 (2 ^ 64 - 1)) false [] (digits 16 false n)

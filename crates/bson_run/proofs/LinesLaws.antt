@@ -15,7 +15,7 @@ use Rattle.bson_run.specs.LinesSteps.{Error, CannotRead, NotJson, NotExtendedJso
 use Rattle.bson_run.specs.LinesSteps.{CannotWrite, Collected, NotCanonical, OnRefusal, Task}
 use Rattle.bson_run.specs.declared.order.OnRefusal.TheVariants.{Stop}
 
--- a newline ends what stands before it
+-- a newline ends the bytes before it
 lines_ended : (line more : List ℕ) → HasNoNewline line → lines (line ++ 10 ∷ more) ≡ line ∷ lines more
 lines_ended [] more h = refl
 lines_ended (x ∷ xs) more h =
@@ -81,7 +81,7 @@ by_memory : (o : Options) (task : Task) (on_refusal : OnRefusal) (fault : Error)
 by_memory o task on_refusal fault held n others e =
     subst (λ f. IsStoppedAtIn o task on_refusal f held n others) (sym e) tt
 
--- the text of a line that is held still
+-- the text of a line that is still buffered
 same_text : (s t : Collected) → HaveSameOutcomes s t → t.line ≡ s.line → text_held t ≡ text_held s
 same_text s t same held = ap (λ n. line_text n t.line.items) same.lines ∙ ap (λ (v : Vec ℕ Global). line_text s.lines v.items) held
 
@@ -93,7 +93,7 @@ at_newline rest n h is =
     drop-cons rest n 0 h ∙ ap (λ x. x ∷ drop (suc n) rest) is ∙ ap (λ k. 10 ∷ drop k rest) (sym (add-one n)) in
     sym (take-append-drop n rest) ∙ ap (λ l. take n rest ++ l) after
 
--- the bytes behind it
+-- the bytes after it
 pub regrouped : (taken rest : List ℕ) (n : ℕ) → n < length rest → get_or rest n 0 ≡ 10
     → taken ++ rest ≡ (taken ++ (take n rest ++ 10 ∷ [])) ++ take (length rest - (n + 1)) (drop (n + 1) rest)
 regrouped taken rest n h is =
@@ -183,7 +183,7 @@ module _ {o : Options} {task : Task} {on_refusal : OnRefusal} where
       subst (λ l. Progress o task on_refusal l output reported u) (append_assoc before xs ys)
       (g (before ++ xs) output reported (f before output reported p))
 
-  -- a piece of the line
+  -- some bytes of the line
   pub span_taken : (span : List ℕ) (s t : Collected) → HasNoNewline span → t.line.items ≡ s.line.items ++ span
       → HaveSameOutcomes s t → Takes o task on_refusal span s t
   span_taken span s t h e same before output reported p = record {

@@ -18,7 +18,7 @@ left_at_end : (after : Option (List ℕ)) → IsAtEnd after → left_of after �
 left_at_end None h = refl
 left_at_end (Some bytes) h = h
 
--- all that the reader had
+-- all bytes of the reader
 whole : (after : Option (List ℕ)) (bytes : List ℕ) → IsAtEnd after → bytes ≡ bytes ++ left_of after
 whole after bytes at_end = sym (ap (λ l. bytes ++ l) (left_at_end after at_end) ∙ append-nil bytes)
 

@@ -29,7 +29,7 @@ last_one x (y ∷ ys) =
     let more = last_one y ys in
     (x ∷ more.0, more.1, ap (λ l. x ∷ l) more.2)
 
--- of two parts of one list, each before an element, one is the other or goes on behind it
+-- two parts of one list, each before an element, are equal, or one is a proper prefix of the other
 abbrev Parts : {X : Type 0} (xs ys : List X) (x y : X) (us vs : List X) → Type 0
 Parts {X = X} xs ys x y us vs = ((xs ≡ ys) × (x ≡ y))
     ⊎ (((rest : List X) × (ys ≡ xs ++ x ∷ rest)) ⊎ ((rest : List X) × (xs ≡ ys ++ y ∷ rest)))
@@ -55,7 +55,7 @@ parts (w ∷ ws) (z ∷ zs) x y us vs e =
 module _ (o : Options) (task : Task) (on_refusal : OnRefusal) (only : Decided o task) where
   -- ---- the last line
 
-  -- what a line gives that stands after so many others
+  -- the outcome of a line after this number of lines
   abbrev Step : (before : ℕ) → (line more said : List ℕ) → (over : ℕ) → Type 0
   Step n line more said over =
       (IsBlank (line_text n line) × (more ≡ []) × (said ≡ []) × (over ≡ 0))

@@ -1,4 +1,4 @@
--- What is written of a text is one output, and what has no bytes has none for one cause.
+-- The output of a text is unique, and a text without bytes has one cause for that.
 use Rattle.std.proofs.Common.{◌≡◌, ◌⊎◌, inl, inr, ℕ, List, ◌++◌, Some, None, refl, ap, sym, ◌∙◌, subst}
 use Rattle.std.proofs.lemmas.List.{append_cancel_right}
 use Rattle.std.specs.Prelude.{IsUtf8}

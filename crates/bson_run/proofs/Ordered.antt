@@ -1,4 +1,4 @@
--- What is converted in the order of keys: the one output of the value that the bytes mean so.
+-- Conversion in input order of keys: the one output of the value that the bytes denote in that order.
 use Rattle.std.proofs.Common.{◌≡◌, ◌++◌, ℕ, List, true, Result, Ok, Err, refl, sym}
 use Rattle.std.proofs.Common.{◌∙◌, ap, subst}
 use Rattle.std.specs.Prelude.{is_ok, IsUtf8}

@@ -1,4 +1,4 @@
--- Rows of tables that no law rests on: the names, the words and the bytes that a run over lines goes by. A definition
+-- Rows of tables that no law rests on: the names, messages and bytes that a run over lines goes by. A definition
 -- that is changed together with its code is refused here.
 use Rattle.std.proofs.Common.{◌≡◌, zero, suc, [], ◌∷◌, inl, inr, refl, arith}
 use Rattle.std.specs.Char.{encode_utf8}
@@ -15,7 +15,7 @@ tasks_named : ((criterion : _) → task_name (Check criterion) ≡ codes "check"
     × (task_name Encode ≡ codes "encode")
 tasks_named = (λ criterion. refl, refl)
 
--- ---- words of rules of JSON
+-- ---- messages of rules of JSON
 
 rules_told : (words_broken rule.Utf8 ≡ codes "invalid UTF-8")
     × (words_broken rule.UnexpectedEnd ≡ codes "unexpected end of input")
@@ -33,7 +33,7 @@ rules_told : (words_broken rule.Utf8 ≡ codes "invalid UTF-8")
     × (words_broken rule.RewrittenDepth ≡ codes "the rewritten input is nested more than 127 levels deep")
 rules_told = (refl, refl, refl, refl, refl, refl, refl, refl, refl, refl, refl, refl, refl, refl)
 
--- ---- characters as they are told
+-- ---- escaped characters
 
 characters_told : (shown 0x1B ≡ codes "\\u001b")
     × (shown 10 ≡ codes "\\u000a")
@@ -46,7 +46,7 @@ characters_told = (refl, refl, refl, refl, refl, refl)
 
 -- ---- lines
 
--- no line stands behind the last newline, and a byte order mark is passed over where the first line begins
+-- no line is after the last newline, and a byte order mark is skipped at the beginning of the first line
 lines_cut : (lines (53 ∷ 10 ∷ 10 ∷ 54 ∷ []) ≡ (53 ∷ []) ∷ [] ∷ (54 ∷ []) ∷ [])
     × (lines (53 ∷ 10 ∷ []) ≡ (53 ∷ []) ∷ [])
     × (line_text 0 (239 ∷ 187 ∷ 191 ∷ 53 ∷ []) ≡ 53 ∷ [])

@@ -18,7 +18,7 @@ of_nothing : skip_value max_depth [] ≡ None
 unfolding value
 of_nothing = refl
 
--- no value stands where no token does
+-- there is no value at bytes that are not a token
 of_none : (bytes : List ℕ) → tokens bytes ≡ [] → skip_value max_depth (tokens bytes) ≡ None
 of_none bytes e = ap (λ ts. skip_value max_depth ts) e ∙ of_nothing
 
@@ -37,7 +37,7 @@ all_read (Some (j, x ∷ xs)) t e = absurd cc
 has_grammar : (bytes : List ℕ) → HasTree bytes → HasGrammar bytes
 has_grammar bytes (t, is) = (is.utf8, all_read (value max_depth (tokens bytes)) t is.tree_read)
 
--- ---- more behind a value
+-- ---- more input after a value
 
 pub more_behind : (bytes : List ℕ) → HasTrailingData bytes → Breaks bytes TrailingData
 more_behind bytes m = record {

@@ -1,4 +1,4 @@
--- What is written in the order of keys is read as a value that is written so.
+-- Output in the order of keys is read as a value with the same output.
 use Rattle.std.proofs.Common.{◌≡◌, ◌≤◌, ◌++◌, ℕ, List, Some, Vec, Global, Result, Ok, Err, IfOk, option_and_then, refl, sym, ap, ◌∙◌}
 use Rattle.std.specs.Prelude.{IsUtf8}
 use Rattle.json.specs.Json as json

@@ -1,4 +1,4 @@
--- What a text gives that was accepted.
+-- The output of an accepted text.
 use Rattle.std.specs.Prelude.{◌≡◌, ℕ, List, IsUtf8, string_bytes}
 use Rattle.bson.specs.declared.extjson.options.Options.{Options}
 use Rattle.bson_convert.specs.Convert.{IsAccepted}

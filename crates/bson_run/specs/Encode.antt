@@ -1,4 +1,4 @@
--- What encoding makes of bytes: the canonical bytes (BSON 1.1) of the document that they mean as a text, or why there
+-- Encoding bytes: the canonical bytes (BSON 1.1) of the document that they denote as a text, or why there
 -- are none.
 use Rattle.std.specs.Prelude.{◌≡◌, ℕ, suc, List}
 use Rattle.bson.specs.TextMeaning.{HasTextMeaningBy}

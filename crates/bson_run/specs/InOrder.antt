@@ -1,4 +1,4 @@
--- What converting makes of bytes in the order of their keys.
+-- Converting bytes with keys in input order.
 use Rattle.std.specs.Prelude.{◌≡◌, ◌≤◌, ℕ, List, ◌++◌, IsUtf8}
 use Rattle.serde_json.specs.Data.{Data, depth}
 use Rattle.serde_json.specs.Read.{max_depth}
@@ -68,7 +68,7 @@ IsTextInOrderFor o Canonical value text = IsTextInOrder o.doubles form.Canonical
 IsTextInOrderFor o Relaxed value text = IsTextInOrder o.doubles form.Relaxed value text
 IsTextInOrderFor o Show value text = text ≡ display_text value
 
--- such a text of the value that the bytes mean in the order of their keys
+-- a text for the mode, of the value that the bytes denote with keys in input order
 abbrev pub IsConvertedTextInOrder : Options → Mode → List ℕ → List ℕ → Type 0
 IsConvertedTextInOrder o mode bytes text =
     (value : Value) × IsUtf8 bytes × HasMeaningInOrder o.doubles bytes value × IsTextInOrderFor o mode value text

@@ -1,5 +1,5 @@
--- A JSON text over several lines: each member and each element on a line of its own, further in by some spaces for each
--- bracket that it stands in.
+-- A JSON text over several lines: each member and each element on a line of its own, indented by some spaces for each
+-- open bracket.
 use Rattle.std.specs.Prelude.{◌≡◌, ◌≤◌, ◌+◌, ◌-◌, ℕ, List, [], ◌∷◌, ◌++◌, Bool, false, if◌then◌else◌, replicate, Some}
 use Rattle.json.specs.Json.{Json, value as json_value}
 use Rattle.json.specs.Layout.{Last, nothing, bracket, name, value, is_value, after}
@@ -23,13 +23,13 @@ use Rattle.bson_run.specs.declared.indent.Before.{Before}
 use Rattle.bson_run.specs.declared.indent.Before.TheVariants as before
 use Rattle.bson_run.specs.declared.indent.Layout.{Layout}
 
--- ---- what stands between the tokens
+-- ---- white space between the tokens
 
 -- the beginning of a line
 abbrev pub line : ℕ → List ℕ
 line indent = 10 ∷ replicate indent 32
 
--- What stands between two tokens, behind the comma where there is one: by what the first is, and whether the second
+-- The white space between two tokens, after a comma if there is one: by the kind of the first, and whether the second
 -- closes no bracket. A space follows a key, and an empty array or object stays on its line.
 abbrev pub gap : Last → Bool → ℕ → List ℕ
 gap nothing begins indent = []
@@ -37,21 +37,21 @@ gap bracket begins indent = if begins then line indent else []
 gap name begins indent = 32 ∷ []
 gap value begins indent = line indent
 
--- how far in a token stands, behind others that leave so much: a closing bracket n spaces less
+-- the indentation of a token, after tokens that leave this indentation: less for a closing bracket
 abbrev pub stands : ℕ → Token → ℕ → ℕ
 stands n t indent = if begins t then indent else indent - n
 
--- and how much it leaves: an opening bracket n spaces more
+-- the indentation after the token: more for an opening bracket
 abbrev pub leaves : ℕ → Token → ℕ → ℕ
 leaves n t indent = if opens (t ∷ []) then stands n t indent + n else stands n t indent
 
--- each token with what stands before it
+-- each token with the white space before it
 unfoldable pub spaced : ℕ → Last → ℕ → List Token → List (List ℕ × Token)
 spaced n last indent [] = []
 spaced n last indent (t ∷ ts) =
     (gap last (begins t) (stands n t indent), t) ∷ spaced n (after t 0).0 (leaves n t indent) ts
 
--- the tokens over several lines, n spaces for each bracket
+-- the tokens over several lines, indented for each bracket
 abbrev pub indented : ℕ → List Token → List ℕ
 indented n ts = print_spaced false (spaced n nothing 0 ts)
 
@@ -94,12 +94,12 @@ last_of before.Bracket = bracket
 last_of before.Key = name
 last_of before.Value = value
 
--- a line begins so far in, and a bracket adds n spaces
+-- a line has this indentation, and a bracket adds the spaces
 pub record IsAt (n indent : ℕ) (s : Layout) : Type 0 where
   pub step : s.step.items ≡ replicate n 32
   pub start : s.start.items ≡ line indent
 
--- the token was written behind what stands before it
+-- the token was written after its comma and white space
 pub record IsTokenLaidOut (n indent : ℕ) (s t : Layout) (it : Token) : Type 0 where
   pub at : IsAt n (leaves n it indent) t
   pub before : last_of t.before ≡ (after it 0).0

@@ -1,4 +1,4 @@
--- What a run over lines does: each line of the input is a text of its own.
+-- A run over lines: each line of the input is a text of its own.
 use Rattle.std.specs.Prelude.{◌≡◌, ◌≢◌, ◌⊎◌, ◌+◌, ◌==◌, ◌&&◌, ℕ, List, [], ◌∷◌, ◌++◌, Option, None, Some, length, drop}
 use Rattle.std.specs.Prelude.{codes, All, IsUtf8, if◌then◌else◌, min, ◌-◌, ◌^◌}
 use Rattle.std.specs.Fmt.{decimal}
@@ -33,12 +33,12 @@ use Rattle.bson_run.specs.Preprocessed.{IsPreprocessedAs, IsRejectedBefore}
 
 -- ---- the lines of an input
 
--- the lines, where a byte stands before them
+-- the lines, with one more byte before them
 abbrev pub onto_first : ℕ → List (List ℕ) → List (List ℕ)
 onto_first x [] = (x ∷ []) ∷ []
 onto_first x (line ∷ more) = (x ∷ line) ∷ more
 
--- each newline ends a line; what stands after the last newline is a line too, unless it is empty
+-- each newline ends a line; the bytes after the last newline are a line too, unless there are none
 abbrev pub lines : List ℕ → List (List ℕ)
 lines [] = []
 lines (x ∷ xs) = if x == 10 then [] ∷ lines xs else onto_first x (lines xs)
@@ -47,7 +47,7 @@ lines (x ∷ xs) = if x == 10 then [] ∷ lines xs else onto_first x (lines xs)
 abbrev pub byte_order_mark : List ℕ
 byte_order_mark = 239 ∷ 187 ∷ 191 ∷ []
 
--- the text of a line that stands after so many others: a byte order mark at the start of the first is passed over
+-- the text of a line after this number of lines: a byte order mark at the start of the first is skipped
 abbrev pub line_text : ℕ → List ℕ → List ℕ
 line_text before line = if (before == 0) && starts_with (λ x y. x == y) line byte_order_mark then drop 3 line else line
 
@@ -118,7 +118,7 @@ IsBadLineIn o task (NoBytes why) text = IsWithoutBytes o task why text
 IsBadLineIn o task (NotCanonical column) text = IsUncanonicalFor o task column text
 IsBadLineIn o task other text = ⊥
 
--- what is told of a refused line: its number, the fault and its place
+-- the diagnostic for a rejected line: its number, the error and its path
 abbrev pub diagnostic_at : ℕ → Error → List ℕ → List ℕ
 diagnostic_at number fault place =
     codes "bson: line " ++ decimal number ++ codes ": " ++ words_of fault ++ place ++ newline
@@ -128,7 +128,7 @@ IsDiagnostic number fault text reported = (place : List ℕ) × IsWhere text fau
 
 -- ---- what lines give, one after the other
 
--- these lines give this output, what is told of them is this, and so many of them were refused
+-- the output of these lines, their diagnostics, and the number of rejected lines
 pub data OutcomesIn (o : Options) (task : Task) (on_refusal : OnRefusal)
     : List (List ℕ) → List ℕ → List ℕ → ℕ → Type 0 where
   none : OutcomesIn o task on_refusal [] [] [] 0
@@ -143,7 +143,7 @@ pub data OutcomesIn (o : Options) (task : Task) (on_refusal : OnRefusal)
       → IsBadLineIn o task fault (line_text (length before) line) → IsDiagnostic (length before + 1) fault (line_text (length before) line) more
       → OutcomesIn o task on_refusal (before ++ line ∷ []) output (reported ++ more) (refused + 1)
 
--- the same, and texts that are written are UTF-8, as is what is told
+-- the same, and texts that are written are UTF-8, as are the diagnostics
 pub record GivesIn (o : Options) (task : Task) (on_refusal : OnRefusal) (all : List (List ℕ)) (output reported : List ℕ)
     (refused : ℕ) : Type 0 where
   pub outcomes : OutcomesIn o task on_refusal all output reported refused
@@ -152,15 +152,15 @@ pub record GivesIn (o : Options) (task : Task) (on_refusal : OnRefusal) (all : L
 
 -- ---- a run
 --
--- Of a run, before and after are the bytes that the reader had left and has left, had and holds what the writer held
--- and holds, told and tells what the writer of verdicts held and holds: None where that is not known.
+-- For a run, before and after are the remaining bytes of the reader, and the other pairs are the contents of the output
+-- writer and of the diagnostics writer, before and after the run: None if they are not known.
 
 -- what the reader has left, where it is known
 abbrev pub left_of : Option (List ℕ) → List ℕ
 left_of None = []
 left_of (Some bytes) = bytes
 
--- all lines of the input were done, and what they give was written and told
+-- all lines of the input were done, and their output and diagnostics were written
 pub record DoneLinesIn (o : Options) (task : Task) (on_refusal : OnRefusal)
     (before after had holds reported reports : Option (List ℕ)) (number refused : ℕ) : Type 0 where
   pub bytes : List ℕ
@@ -181,12 +181,12 @@ pub record ReachesIn (o : Options) (task : Task) (on_refusal : OnRefusal) (befor
   pub whole : lines (bytes ++ left_of after) ≡ done ++ others
   pub outcomes : GivesIn o task on_refusal done output verdicts refused
 
--- the output and the verdicts were written and told
+-- the output and the diagnostics were written
 abbrev pub WritesBoth : (had holds reported reports : Option (List ℕ)) → (output verdicts : List ℕ) → Type 0
 WritesBoth had holds reported reports output verdicts = Appends had holds output × Appends reported reports verdicts
 
--- not both were written whole: the verdicts were not, and of the output no more than a beginning was written; or the
--- verdicts were, and the output was not
+-- not both were written whole: not all diagnostics, and no more than a beginning of the output; or all
+-- diagnostics, and not all output
 abbrev pub CutsShort : (had holds reported reports : Option (List ℕ)) → (output verdicts : List ℕ) → Type 0
 CutsShort had holds reported reports output verdicts =
     (WritesPart reported reports verdicts × WritesBeginning had holds output)
@@ -206,19 +206,19 @@ pub record EndsAtIn (o : Options)
   pub reason : why (length done) others
   pub written : leaves had holds reported reports output verdicts
 
--- the run stopped at the line of this number: what the lines before it give was written and told
+-- the run stopped at the line of this number: the output and diagnostics of the lines before it were written
 abbrev pub StopsAtIn : Options → (ℕ → List (List ℕ) → Type 0) → Task → OnRefusal
     → (before after had holds reported reports : Option (List ℕ)) → ℕ → Type 0
 StopsAtIn o why task on_refusal before after had holds reported reports number =
     EndsAtIn o WritesBoth why task on_refusal before after had holds reported reports number
 
--- what the lines before it give was not written and told whole
+-- the output and diagnostics of the lines before it were not written whole
 abbrev pub CutShortAtIn : Options → Task → OnRefusal
     → (before after had holds reported reports : Option (List ℕ)) → ℕ → Type 0
 CutShortAtIn o task on_refusal before after had holds reported reports number =
     EndsAtIn o CutsShort (λ n others. Unit {0}) task on_refusal before after had holds reported reports number
 
--- why a run stops at a text: it is refused, and refusals stop the run; or for no reason that the bytes tell
+-- why a run stops at a text: it is rejected, and rejections stop the run; or for a reason that the bytes do not show
 abbrev pub IsStoppedIn : Options → Task → OnRefusal → Error → List ℕ → Type 0
 IsStoppedIn o task on_refusal CannotRead text = Unit {0}
 IsStoppedIn o task on_refusal NotJson text = (on_refusal ≡ Stop) × IsUnreadIn o task text
@@ -229,7 +229,7 @@ IsStoppedIn o task on_refusal (NotCanonical column) text = (on_refusal ≡ Stop)
 IsStoppedIn o task on_refusal OutOfMemory text = Unit {0}
 IsStoppedIn o task on_refusal CannotWrite text = ⊥
 
--- the same of the first of the lines that stand after so many others; where it is refused, its text is held
+-- the same for the first of the lines after this number of lines; if it is rejected, this is its text
 abbrev pub IsStoppedAtIn : Options → Task → OnRefusal → Error → (held : List ℕ) → ℕ → List (List ℕ) → Type 0
 IsStoppedAtIn o task on_refusal CannotRead held before others = Unit {0}
 IsStoppedAtIn o task on_refusal OutOfMemory held before others = Unit {0}
@@ -238,8 +238,8 @@ IsStoppedAtIn o task on_refusal fault held before [] = ⊥
 IsStoppedAtIn o task on_refusal fault held before (line ∷ others) =
     (held ≡ line_text before line) × IsStoppedIn o task on_refusal fault held
 
--- what each fault says of the bytes, and of the line whose number and text stand beside it: that it came for this
--- reason, but for a fault of a writer
+-- what each error says of the bytes, and of the line with this number and text: the error has this
+-- reason, except an error of a writer
 abbrev pub FailsAtIn : Options → Error → Task → OnRefusal
     → (before after had holds reported reports : Option (List ℕ)) → (number : ℕ) → (held : List ℕ) → Type 0
 FailsAtIn o CannotWrite task on_refusal before after had holds reported reports number held =
@@ -251,6 +251,6 @@ FailsAtIn o fault task on_refusal before after had holds reported reports number
 abbrev pub number_of : LineRun → ℕ
 number_of run = min (run.collected.lines + 1) (2 ^ 64 - 1)
 
--- the text of what is collected of a line
+-- the text of the buffered line
 abbrev pub text_held : Collected → List ℕ
 text_held collected = line_text collected.lines collected.line.items

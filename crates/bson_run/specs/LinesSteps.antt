@@ -30,12 +30,12 @@ abbrev pub IsJudged : Options → Task → Error → List ℕ → Type 0
 IsJudged o task OutOfMemory text = Unit {0}
 IsJudged o task fault text = IsBadLineIn o task fault text
 
--- the verdict on a text was added to what was told
+-- the diagnostic on a text was appended to those before
 abbrev pub IsReported : Options → Task → ℕ → Error → List ℕ → List ℕ → List ℕ → Type 0
 IsReported o task number fault text before after =
     (more : List ℕ) × (IsBadLineIn o task fault text → IsDiagnostic number fault text more) × (after ≡ before ++ more) × IsUtf8 more
 
--- nothing was collected
+-- the run is before its first line
 pub record IsStart (s : Collected) : Type 0 where
   pub line : s.line.items ≡ []
   pub output : s.output.items ≡ []
@@ -43,14 +43,14 @@ pub record IsStart (s : Collected) : Type 0 where
   pub lines : s.lines ≡ 0
   pub refused : s.refused ≡ 0
 
--- the same was given by as many lines
+-- as many lines have the same outcome
 pub record HaveSameOutcomes (s t : Collected) : Type 0 where
   pub output : t.output.items ≡ s.output.items
   pub reported : t.reported.items ≡ s.reported.items
   pub lines : t.lines ≡ s.lines
   pub refused : t.refused ≡ s.refused
 
--- the line that was collected is done, and added what it gives
+-- the buffered line is done, and its output or diagnostic was added
 pub record TakesLine (o : Options) (task : Task) (on_refusal : OnRefusal) (s t : Collected) : Type 0 where
   pub line : t.line.items ≡ []
   pub lines : t.lines ≡ s.lines + 1
@@ -59,8 +59,8 @@ pub record TakesLine (o : Options) (task : Task) (on_refusal : OnRefusal) (s t :
       → GivesIn o task on_refusal (before ++ s.line.items ∷ []) (output ++ t.output.items) (reported
       ++ t.reported.items) t.refused
 
--- the bytes are the lines that are done and what has come of the next; what was written and told is what the lines
--- gave, but for what is still held
+-- the bytes are the lines that are done and the beginning of the next; the output and diagnostics of the lines were
+-- written, except those that are still buffered
 pub record Progress (o : Options) (task : Task) (on_refusal : OnRefusal) (bytes output reported : List ℕ)
     (s : Collected) : Type 0 where
   pub done : List (List ℕ)
@@ -112,7 +112,7 @@ StopsLast o task on_refusal fault s t = (before output reported : List ℕ)
 
 -- ---- with a reader and writers
 
--- what a reader gave was taken, and all that the lines gave was written and told
+-- the bytes of the reader were read, and all output and diagnostics of their lines were written
 pub record Running (o : Options) (task : Task) (on_refusal : OnRefusal)
     (before after had holds reported reports : Option (List ℕ)) (s : Collected) : Type 0 where
   pub bytes : List ℕ
@@ -125,12 +125,12 @@ pub record Running (o : Options) (task : Task) (on_refusal : OnRefusal)
   pub nothing_untold : s.reported.items ≡ []
   pub progress : Progress o task on_refusal bytes output verdicts s
 
--- the writer of verdicts failed, and nothing was written to the other; or all verdicts were told, and the other failed
+-- the writer of diagnostics failed, and the other was not used; or all diagnostics were written, and the other failed
 abbrev pub CannotWriteBoth : (had holds reported reports : Option (List ℕ)) → (output verdicts : List ℕ) → Type 0
 CannotWriteBoth had holds reported reports output verdicts =
     (WritesPart reported reports verdicts × Keeps had holds) ⊎ (Appends reported reports verdicts × WritesPart had holds output)
 
--- nothing is held any more, and the lines are as they were
+-- nothing is buffered any more, and the lines are as they were
 pub record HasWritten (s t : Collected) : Type 0 where
   pub line : t.line.items ≡ s.line.items
   pub output : t.output.items ≡ []

@@ -25,8 +25,8 @@ IsSameFault (NoBytes why) (NoBytes other) = why ≡ other
 IsSameFault (NotCanonical column) (NotCanonical other) = column ≡ other
 IsSameFault fault other = ⊥
 
--- verdicts on the same texts for the same faults; they differ only in what `IsDiagnostic` leaves open: the column and the rule
--- of a text that is no JSON, and behind a path the words for what was expected and found
+-- diagnostics on the same texts for the same errors; they differ only in what `IsDiagnostic` leaves open: the column
+-- and the rule of a text that is not JSON, and after a path the message of what was expected and found
 pub data AreAlike : List ℕ → List ℕ → Type 0 where
   silent : AreAlike [] []
   also : {reported reports : List ℕ} (number : ℕ) (fault cause : Error) (text said says : List ℕ) → AreAlike reported reports

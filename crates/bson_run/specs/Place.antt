@@ -1,4 +1,4 @@
--- Where the fault of a refused text lies, in words.
+-- The message that says where the error of a rejected text is.
 use Rattle.std.specs.Prelude.{◌≡◌, ◌≢◌, ◌⊎◌, ◌↔◌, ◌+◌, ◌<◌, ◌/◌, ◌%◌, ◌==◌, ℕ, List, [], ◌∷◌, ◌++◌, codes, length, nat_lt, take, sum_by, Some, IsUtf8, string_bytes, Bool, true, false, not, suc, ◌-◌, min}
 use Rattle.std.specs.Prelude.{count_by, reverse, take_while}
 use Rattle.std.specs.Prelude.{if◌then◌else◌}
@@ -26,12 +26,12 @@ use Rattle.bson_run.specs.declared.rule.Rule.TheVariants.{NoValue, Number, Contr
 use Rattle.bson_run.specs.declared.rule.Rule.TheVariants.{Quotes, Separator, ExpectedColonAndValue, Depth, RewrittenDepth}
 use Rattle.bson_run.specs.Words.{words_broken}
 
--- a path that has no word is left out
+-- an empty path is left out
 abbrev pub at_path : List ℕ → List ℕ
 at_path [] = []
 at_path (x ∷ xs) = codes " at " ++ x ∷ xs
 
--- a character as it is told: one that breaks a line or steers a terminal by its escape in JSON, any other as it is
+-- a character in a message: as its escape in JSON if it breaks a line or controls a terminal, any other unchanged
 abbrev pub shown : ℕ → List ℕ
 shown c = if c == 0x2028 then codes "\\u2028"
     else (if c == 0x2029 then codes "\\u2029"
@@ -42,34 +42,34 @@ abbrev pub letter : (escapes : Bool) → ℕ → List ℕ
 letter true = shown
 letter false = encode_utf8
 
--- so many characters of words, each as it is told, and two points for any others
+-- the first characters of a message, and two points if there are more
 abbrev pub cut_at : ℕ → (ℕ → List ℕ) → List ℕ → List ℕ
 cut_at most tell words =
     flat_map tell (take most (chars words)) ++ (if nat_lt most (length (chars words)) then codes ".." else [])
 
--- words as they are told: 300 characters
+-- a message cut to 300 characters
 abbrev pub shown_words : List ℕ → List ℕ
 shown_words words = cut_at 300 shown words
 
--- what is told of a value: 60 characters
+-- the quote of a value: 60 characters
 abbrev pub found_as : List ℕ → List ℕ
 found_as value = codes "; found " ++ cut_at 60 encode_utf8 value
 
--- it stands in the text as it is
+-- it is a contiguous part of the text
 abbrev pub IsPart : List ℕ → List ℕ → Type 0
 IsPart part text = (front : List ℕ) × (rest : List ℕ) × (text ≡ front ++ part ++ rest)
 
--- nothing, or what is told of a part of the text; that it is the value at a place no contract says
+-- nothing, or the quote of a part of the text; no contract says that it is the value at the path
 abbrev pub IsQuote : List ℕ → List ℕ → Type 0
 IsQuote text words = (words ≡ []) ⊎ ((part : List ℕ) × IsPart part text × (words ≡ found_as part))
 
--- what was expected, and behind it what is found in the text; of an object id any words
+-- what was expected, and after it what was found in the text; any message for an object id
 abbrev pub IsReasonIn : List ℕ → Reason → List ℕ → Type 0
 IsReasonIn text (WrongShape expected) words =
     (quote : List ℕ) × IsQuote text quote × (words ≡ expected.now ++ quote)
 IsReasonIn text (BadObjectId why) words = Unit {0}
 
--- the path to the place, and such a message
+-- the path of the error, and its reason
 abbrev pub IsPlacedMessage : List ℕ → Place → List ℕ → Type 0
 IsPlacedMessage text place words =
     (message : List ℕ) × IsReasonIn text place.reason message
@@ -83,7 +83,7 @@ HasGrammar bytes = IsUtf8 bytes × (skip_value max_depth (tokens bytes) ≡ Some
 abbrev pub HasTree : List ℕ → Type 0
 HasTree bytes = (t : Data) × IsTextOf bytes t
 
--- one value stands at the beginning of a text, and more behind it
+-- the text begins with one value, and has more input after it
 abbrev pub HasTrailingData : List ℕ → Type 0
 HasTrailingData bytes =
     IsUtf8 bytes × ((t : Token) × (ts : List Token) × (skip_value max_depth (tokens bytes) ≡ Some (t ∷ ts)))
@@ -99,17 +99,17 @@ closes end_object = 1
 closes end_array = 1
 closes token = 0
 
--- behind some of the tokens more brackets are open than may be
+-- after some of the tokens more brackets are open than the limit allows
 abbrev pub NestsDeeper : List Token → Type 0
 NestsDeeper ts =
     (front : List Token) × (rest : List Token) × (ts ≡ front ++ rest)
     × (sum_by closes front + max_depth < sum_by opens front)
 
--- what stands somewhere in a text is no token
+-- some bytes of the text are not a token
 abbrev pub HasBad : List Token → Type 0
 HasBad ts = (front : List Token) × (rest : List Token) × (ts ≡ front ++ bad ∷ rest)
 
--- the rules that are told of what is no token
+-- the rules for bytes that are not a token
 abbrev pub IsOfBad : Rule → Type 0
 IsOfBad NoValue = Unit {0}
 IsOfBad Number = Unit {0}
@@ -118,9 +118,9 @@ IsOfBad Escape = Unit {0}
 IsOfBad ExpectedElement = Unit {0}
 IsOfBad rule = ⊥
 
--- which rule bytes break that are no text: three are told exactly where they are broken; of a text of blanks it is told
--- that it ends too early; that it nests too deep, and of what is no token, where there is such a place. Of bytes that are
--- a text, and of no others, it is told that the text which is read in their place nests too deep
+-- which rule bytes break that are not JSON: three rules are named if and only if they are broken; blank input ends
+-- too early; a nesting or token rule is named only if there is such a position. Bytes that are JSON are rejected only
+-- if the rewritten text, which is read instead, nests too deep
 pub record Breaks (bytes : List ℕ) (rule : Rule) : Type 0 where
   pub utf8 : rule ≡ Utf8 ↔ ¬ (IsUtf8 bytes)
   pub number : rule ≡ OutOfRange ↔ HasGrammar bytes × IsNoText bytes
@@ -134,7 +134,7 @@ pub record Breaks (bytes : List ℕ) (rule : Rule) : Type 0 where
 abbrev pub before_stop : (offset : ℕ) → List ℕ → List ℕ
 before_stop offset bytes = take (min offset (length bytes - 1)) bytes
 
--- on which line it lies, and in which column of the line, both counted from 1
+-- its line, and its column in that line, both counted from 1
 abbrev pub line_at : (offset : ℕ) → List ℕ → ℕ
 line_at offset bytes = suc (count_by (λ x. x == 10) (before_stop offset bytes))
 
@@ -149,7 +149,7 @@ at_column n rule = codes " at column " ++ decimal n ++ codes " (" ++ words_broke
 abbrev pub at_difference : ℕ → List ℕ
 at_difference column = codes " at column " ++ decimal column
 
--- where bytes that are no text stop to be one, and which rule they break
+-- the column at which bytes are not JSON, and the rule that they break
 abbrev pub IsStop : List ℕ → List ℕ → Type 0
 IsStop bytes words = (n : ℕ) × (rule : Rule) × Breaks bytes rule × (words ≡ at_column n rule)
 
@@ -160,7 +160,7 @@ IsOfNoText (NotExtendedJson place) = ⊥
 IsOfNoText (NotCanonical column) = ⊥
 IsOfNoText other = Unit {0}
 
--- why a text is refused: the rule that it breaks, or the place of its fault and the reason as it is told, or nothing
+-- why a text is rejected: the rule that it breaks, or the path of its error and the reason in a message, or nothing
 abbrev pub IsExplanation : List ℕ → Error → Explanation → Type 0
 IsExplanation text fault (explained.Syntax stop) = (fault ≡ NotJson) × Breaks text stop.rule
 IsExplanation text fault (explained.Value place reason) =
@@ -169,7 +169,7 @@ IsExplanation text fault (explained.Value place reason) =
 IsExplanation text fault (explained.Difference column) = fault ≡ NotCanonical column
 IsExplanation text fault explained.Other = IsOfNoText fault
 
--- the words of an explanation
+-- the message of an explanation
 abbrev pub words_at : List ℕ → Explanation → List ℕ
 words_at text (explained.Syntax stop) = at_column (column_at stop.offset text) stop.rule
 words_at text (explained.Value place reason) =
@@ -177,7 +177,7 @@ words_at text (explained.Value place reason) =
 words_at text (explained.Difference column) = at_difference column
 words_at text explained.Other = []
 
--- where the fault of a text lies in it; nothing for a fault that no text has
+-- where the error of a text is; nothing for an error that is not one of a text
 abbrev pub IsWhere : List ℕ → Error → List ℕ → Type 0
 IsWhere text NotJson words = IsStop text words
 IsWhere text (NotExtendedJson place) words = IsPlacedMessage text place words
@@ -190,7 +190,7 @@ IsWhere text other words = words ≡ []
 abbrev pub IsOfValue : Rule → Type 0
 IsOfValue rule = (rule ≢ Utf8) × (rule ≢ OutOfRange) × (rule ≢ TrailingData) × (rule ≢ RewrittenDepth)
 
--- one that a token breaks where it stands, so many brackets being open
+-- a rule that a token breaks at its position, with this number of open brackets
 abbrev pub IsOfToken : ℕ → Token → Rule → Type 0
 IsOfToken depth token rule =
     (rule ≡ Quotes) ⊎ (rule ≡ Separator) ⊎ (rule ≡ ExpectedColonAndValue)

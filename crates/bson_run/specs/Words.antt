@@ -1,4 +1,4 @@
--- The names of tasks, and the words of broken rules.
+-- The names of tasks, and the messages of broken rules.
 use Rattle.std.specs.Prelude.{ℕ, List, codes}
 use Rattle.bson_convert.specs.Words.{name_of}
 use Rattle.bson_run.specs.declared.order.Task.{Task}

@@ -1,4 +1,4 @@
-//! A text that is let go once it was accepted, before its output is made.
+//! A text that is freed once it was accepted, before its output is written.
 ghost use Rattle.std.specs.Prelude.{◌≡◌, IfOk, IfErr, IsUtf8};
 ghost use Rattle.bson_convert.specs.Convert.{ConvertsIn, IsRefusedIn};
 ghost use Rattle.bson_run.specs.Accepted.{HasOutput, IsSure, IsUtf8Accepted, Outputs};
@@ -15,7 +15,7 @@ use bson_tokens::arrangement::Arrangement;
 use json::Scratch;
 use std::alloc::Global;
 
-/// What a text gives that was accepted: the text itself is no longer needed for it.
+/// The output of an accepted text, or a normalized text to write: the text itself is no longer needed.
 ///
 /// ```
 /// let options = Options::default();

@@ -11,7 +11,7 @@ use bson_tokens::MAX_DEPTH;
 use json::{Reader, Scratch, Token};
 use std::alloc::AllocError;
 
-/// The first rule that the value of a text breaks, where it has none.
+/// Returns the first rule that the value of a text breaks, if the text has no value.
 pub(crate) fn rule_of(text: &str, scratch: &mut Scratch) -> Result<Rule, AllocError>
     requires { skip_value max_depth (tokens text.now) ≡ None }
     ensures { IfOk result (λ rule. Breaks text.now rule) }
@@ -37,16 +37,16 @@ pub(crate) fn rule_of(text: &str, scratch: &mut Scratch) -> Result<Rule, AllocEr
     Ok(Rule::UnexpectedEnd)
 }
 
-// What is open between two tokens.
+// The open brackets between two tokens.
 #[derive(Drop)]
 struct Open {
-    // Of each bracket, the innermost at the low end, a bit that is set where it opens an object.
+    // One bit for each bracket, the innermost at the low end: set if the bracket opens an object.
     objects: u128,
     // How many brackets there are.
     depth: usize,
-    // A key and its colon stand there, and no value yet.
+    // A key and its colon were read, and no value yet.
     wants_value: bool,
-    // A text stands there in the place of a key, and no colon behind it.
+    // A string was read in the place of a key, and no colon after it.
     lacks_colon: bool,
 }
 
@@ -60,7 +60,7 @@ impl Open {
         self.is_object() && !self.wants_value
     }
 
-    // Passes a token, or tells the rule that it breaks where it stands.
+    // Passes a token, or returns the rule that the token breaks at this position.
     fn pass(&mut self, token: Token<'_>) -> Option<Rule>
         ensures { MatchOption result
             (self.new.depth + closes (token_of token.entry) ≡ self.old.depth + opens (token_of token.entry))
@@ -121,8 +121,8 @@ impl Open {
     }
 }
 
-// The rule that is broken where no token stands: told by the byte there, and by the one before it
-// that is no blank.
+// Returns the rule that is broken at bytes that are not a token, by the byte there and the last byte
+// before it that is not blank.
 fn rule_of_bad(bytes: &[u8], at: usize, wants_key: bool) -> Rule
     ensures { IsOfValue result × (result ≢ Rule.Depth) }
 {
@@ -150,7 +150,7 @@ fn rule_of_beginning(first: u8, rest: &[u8], wants_key: bool) -> Rule
     }
 }
 
-// The rule that a text breaks whose bytes behind its quote these are.
+// Returns the rule that a string breaks. The bytes are those after its opening quote.
 fn rule_of_text(bytes: &[u8]) -> Rule
     ensures { IsOfValue result × (result ≢ Rule.Depth) }
 {

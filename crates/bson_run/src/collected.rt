@@ -1,4 +1,4 @@
-//! The line that is being collected, and what the lines before it gave.
+//! The state of a run over lines: the buffered line, and the output of the lines before it.
 ghost use Rattle.std.specs.Prelude.{◌≡◌, ◌⊎◌, ◌++◌, ◌+◌, [], ◌∷◌, ◌<◌, length, IfOk, IfErr, take};
 ghost use Rattle.std.specs.Prelude.{OnOk, OnErr, None, Ok, IsTrue, ◌↔◌, string_bytes};
 ghost use Rattle.std.specs.Prelude.{MatchOption, IfSome, IsUtf8, ◌≢◌, slice_index};
@@ -28,7 +28,7 @@ use json::Scratch;
 use memchr::memchr;
 use std::alloc::{AllocError, Global};
 
-/// What a step over a line answers.
+/// The result of a step over a line.
 type Step = Result<(), Error>;
 
 /// U+FEFF in UTF-8.
@@ -37,7 +37,7 @@ const BYTE_ORDER_MARK: [u8; 3] = [0xef, 0xbb, 0xbf];
 /// An output of more bytes is long.
 const LONG: usize = 1 << 20;
 
-/// What is asked of a run.
+/// The options and the task of a run.
 #[derive(Clone, Copy)]
 pub struct Settings {
     pub options: Options,
@@ -45,7 +45,7 @@ pub struct Settings {
     pub on_refusal: OnRefusal,
 }
 
-/// The line that is being collected, and what the lines before it gave since it was last written.
+/// The buffered line, and the output and diagnostics of the lines before it that are not written yet.
 #[derive(Drop)]
 pub struct Collected {
     pub line: Vec<u8>,
@@ -57,7 +57,7 @@ pub struct Collected {
     pub scratch: Scratch,
 }
 
-// Where the first newline stands.
+// Returns the offset of the first newline.
 fn newline_at(bytes: &[u8]) -> Option<usize>
     ensures { MatchOption result (HasNoNewline bytes.now) (λ at. (at < length bytes.now) × HasNoNewline (take at bytes.now)
         × (slice_index bytes.now at ≡ 10)) }
@@ -65,7 +65,7 @@ fn newline_at(bytes: &[u8]) -> Option<usize>
     memchr(b'\n', bytes)
 }
 
-// The text of a line that stands after so many others.
+// Returns the text of a line that comes after this number of lines.
 fn text(before: u64, line: &[u8]) -> &[u8]
     ensures { result.now ≡ line_text before line.now }
 {
@@ -84,7 +84,7 @@ fn is_blank(text: &[u8]) -> bool
         .all(|byte| *byte == b' ' || *byte == b'\t' || *byte == b'\r')
 }
 
-// What is written of the text, or nothing for one that is blank.
+// Returns the output for the text, or nothing for a blank text.
 fn judge(
     alloc: Global,
     settings: Settings,
@@ -136,7 +136,7 @@ fn check(
     }
 }
 
-// What is written of a text that is not blank, once it was taken.
+// Returns the output for a text that is not blank, after preprocessing.
 fn check_preprocessed(
     alloc: Global,
     options: Options,
@@ -176,7 +176,7 @@ fn work_on(
     }
 }
 
-// What is told of a line that is refused: its number, the words for the fault, and its place.
+// Returns the diagnostic for a rejected line: its number, the message of the error, and the path.
 fn verdict(alloc: Global, number: u64, fault: &Error, place: &str) -> Result<String, AllocError>
     ensures { IfOk result (λ reported. string_bytes reported ≡ diagnostic_at number fault.now place.now) }
 {
@@ -223,7 +223,7 @@ impl Collected {
         }
     }
 
-    /// Returns where the line that is being read is wrong, in the words of `explain_under`.
+    /// Returns where the line that is being read is wrong, as the message of `explain_under`.
     ///
     /// # Errors
     ///
@@ -234,7 +234,7 @@ impl Collected {
         explain_under(alloc, task, fault, text(self.lines, &self.line))
     }
 
-    // Adds a piece of the line.
+    // Appends bytes to the line.
     fn extend_line(&mut self, span: &[u8]) -> Step
         ensures ok { OnOk result (self.new.line.items ≡ self.old.line.items ++ span.now) }
         ensures same { HaveSameOutcomes self.old self.new }
@@ -243,7 +243,7 @@ impl Collected {
         append(&mut self.line, span)
     }
 
-    // Takes the line that was collected: what it gives is added, and the next line is empty.
+    // Finishes the buffered line: its output or diagnostic is added, and the next line is empty.
     fn end_line(&mut self, alloc: Global, settings: Settings) -> Step
         requires room { CountsFit self.old }
         ensures room { CountsFit self.new }
@@ -284,7 +284,7 @@ impl Collected {
         append(&mut self.output, &output)
     }
 
-    // Tells of the line, where refused lines don't stop the run.
+    // Adds a diagnostic, if rejected lines do not stop the run.
     fn refuse(&mut self, alloc: Global, settings: Settings, fault: Error) -> Step
         requires room { CountsFit self.old }
         ensures ok { OnOk result ((fault ≢ Error.OutOfMemory) × (settings.on_refusal ≢ Stop)
@@ -311,7 +311,7 @@ impl Collected {
         Ok(())
     }
 
-    // Adds the verdict on the line.
+    // Adds the diagnostic on the line.
     fn tell(&mut self, alloc: Global, task: Task, fault: &Error) -> Result<(), AllocError>
         requires room { CountsFit self.old }
         ensures ok { OnOk result
@@ -326,7 +326,7 @@ impl Collected {
         self.reported.extend_from_slice(verdict.as_bytes())
     }
 
-    /// Takes bytes: each line that ends in them, and what comes of the next.
+    /// Reads bytes: each line that ends in them, and the beginning of the next.
     pub fn take(&mut self, alloc: Global, settings: Settings, bytes: &[u8]) -> Step
         requires room { CountsFit self.old }
         ensures room { CountsFit self.new }
@@ -343,7 +343,7 @@ impl Collected {
         self.extend_line(rest)
     }
 
-    /// Takes a last line that no newline ends, unless it is empty.
+    /// Finishes a last line that has no newline, unless it is empty.
     pub fn take_last(&mut self, alloc: Global, settings: Settings) -> Step
         requires room { CountsFit self.old }
         ensures room { CountsFit self.new }

@@ -105,7 +105,7 @@ fn convert_line_in_order(
     end_line(text)
 }
 
-/// The text of [`convert_text`] with keys in this order, for a text that is let go once it is read or
+/// The text of [`convert_text`] with keys in this order, for a text that is freed once it is read or
 /// normalized.
 pub(crate) fn convert_whole_by(
     alloc: Global,

@@ -1,4 +1,4 @@
-//! Why a text is rejected, and where: as data, and in words.
+//! Why a text is rejected, and where: as data, and as a message.
 ghost use Rattle.std.specs.Prelude.{◌≡◌, ◌++◌, codes, ℕ, List, IfOk, string_bytes};
 ghost use Rattle.bson_tree.specs.Place.{dotted, path_of};
 ghost use Rattle.bson_run.specs.Place.{IsExplanation, IsQuote, IsReasonIn, IsWhere, at_difference, at_path, shown_words};
@@ -13,7 +13,7 @@ use bson_convert::error::Error;
 use bson_tree::place::{Place, Reason, Segment};
 use std::alloc::{AllocError, Global};
 
-/// How many characters are told of a path, and of a message.
+/// The greatest number of characters of a path, and of a message.
 const MOST: usize = 300;
 
 /// Why a text is rejected, and where.
@@ -53,7 +53,7 @@ impl<'a> Explanation<'a> {
         explanation_in(alloc, fault, text, None)
     }
 
-    /// Writes the explanation in the words of [`explain`].
+    /// Writes the explanation as the message of [`explain`].
     ///
     /// # Errors
     ///
@@ -70,8 +70,8 @@ impl<'a> Explanation<'a> {
     }
 }
 
-/// Returns the place of the fault of a rejected text, in words that follow those of the error. They
-/// are empty for a fault that no text has.
+/// Returns the message for the position of the error of a rejected text. It follows the message of the
+/// error, and is empty for an error that is not one of a text.
 ///
 /// - `NotJson`: ` at column N (RULE)`. The column, counted from 1, is that of the byte at which the
 ///   text stops to be JSON. `RULE` is the message of the `Rule` that it breaks. If the text has the
@@ -133,7 +133,7 @@ fn newer_text(alloc: Global, task: Task, text: &[u8]) -> Result<Option<String>, 
     }
 }
 
-// The words for the error of a text, or of the newer one that was read.
+// Returns the message for the error of a text, or of the newer text that was read.
 fn explain_in(
     alloc: Global,
     fault: &Error,
@@ -165,14 +165,14 @@ fn explanation_in<'a>(
     }
 }
 
-// The words for a column.
+// Returns the message for a column.
 fn column_text(alloc: Global, column: usize) -> Result<String, AllocError>
     ensures { IfOk result (λ words. string_bytes words ≡ at_difference column) }
 {
     format!(in alloc; " at column {column}")
 }
 
-// The words for a place, and for the reason there.
+// Returns the message for a path, and for the reason there.
 fn place_text(alloc: Global, place: &Place, reason: &str) -> Result<String, AllocError>
     ensures { IfOk result (λ words. string_bytes words
         ≡ at_path (shown_words (dotted (path_of place.now))) ++ codes " (" ++ reason.now ++ codes ")") }
@@ -199,7 +199,7 @@ fn reason_text(
     shorten(alloc, reason.as_str(), MOST, true)
 }
 
-// The words for what was expected at a place, and for what is found there in a text.
+// Returns the message for what was expected at a path, and for the value that was found there.
 fn reason_in(
     alloc: Global,
     place: &Place,
@@ -217,7 +217,7 @@ fn reason_in(
     }
 }
 
-// The words for what is found at a place; none for a key that stands twice, since no value is wrong,
+// Returns the quote of the value at a path. It is empty for a duplicate key, since no value is wrong,
 // and none if the newer text has another value there.
 fn quote_at(
     alloc: Global,

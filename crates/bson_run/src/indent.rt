@@ -46,7 +46,7 @@ pub fn indent_text(alloc: Global, spaces: usize, text: &str) -> Result<Vec<u8>, 
     Ok(layout.out)
 }
 
-// What was written last.
+// The kind of the last token.
 #[derive(Clone, Copy, Drop)]
 pub(crate) enum Before {
     Nothing,
@@ -55,7 +55,7 @@ pub(crate) enum Before {
     Value,
 }
 
-// A text that is laid out.
+// A text that is written with indentation.
 #[derive(Drop)]
 pub(crate) struct Layout {
     alloc: Global,
@@ -82,7 +82,7 @@ impl Layout {
         })
     }
 
-    // Writes the token, and before it what stands between it and the one before.
+    // Writes the token, after the white space that separates it from the token before.
     fn put(&mut self, token: Token<'_>) -> Result<(), AllocError>
         requires { token ≢ Token.Bad → IsPrintable (token_of token) }
         ensures laid { (n indent : ℕ) → IsAt n indent self.old
@@ -124,7 +124,7 @@ fn opens(token: Token<'_>) -> bool
     matches!(token, Token::BeginObject | Token::BeginArray)
 }
 
-// What the token is to the next one.
+// Returns the kind of the token, for the token after it.
 fn before_next(token: Token<'_>) -> Before
     ensures { last_of result ≡ (after (token_of token.entry) 0).0 }
 {
@@ -135,7 +135,7 @@ fn before_next(token: Token<'_>) -> Before
     }
 }
 
-// Where a bracket closes, takes spaces from the beginning of a line, as many as it has at most.
+// Removes the spaces of a closing bracket from the beginning of a line.
 fn step_out(start: &mut Vec<u8>, begins: bool, spaces: &[u8])
     ensures { (indent : ℕ) → start.old.items ≡ line indent
         → start.new.items ≡ line (if begins then indent else (indent - length spaces.now)) }
@@ -146,7 +146,7 @@ fn step_out(start: &mut Vec<u8>, begins: bool, spaces: &[u8])
     }
 }
 
-// Where a bracket opens, adds the spaces to the beginning of a line.
+// Adds the spaces of an opening bracket to the beginning of a line.
 #[tactic(auto, using(crate::proofs::Indenting::stepped_in))]
 fn step_in(start: &mut Vec<u8>, opens: bool, spaces: &[u8]) -> Result<(), AllocError>
     ensures { (n indent : ℕ) → spaces.now ≡ replicate n 32 → start.old.items ≡ line indent
@@ -158,7 +158,7 @@ fn step_in(start: &mut Vec<u8>, opens: bool, spaces: &[u8]) -> Result<(), AllocE
     Ok(())
 }
 
-// A comma stands between a value and what does not close its bracket.
+// Writes a comma between a value and the next token, unless that closes a bracket.
 fn put_comma(out: &mut Vec<u8>, before: Before, begins: bool) -> Result<(), AllocError>
     ensures { OnOk result (out.new.items ≡ out.old.items ++ cond (is_value (last_of before) && begins) (44 ∷ []) []) }
 {
@@ -168,7 +168,7 @@ fn put_comma(out: &mut Vec<u8>, before: Before, begins: bool) -> Result<(), Allo
     Ok(())
 }
 
-// What stands between what was written last and a token, behind the comma.
+// Writes the white space between the last token and this one, after the comma.
 fn put_gap(out: &mut Vec<u8>, before: Before, begins: bool, start: &[u8]) -> Result<(), AllocError>
     ensures { (indent : ℕ) → start.now ≡ line indent
         → OnOk result (out.new.items ≡ out.old.items ++ gap (last_of before) begins indent) }
@@ -181,7 +181,7 @@ fn put_gap(out: &mut Vec<u8>, before: Before, begins: bool, start: &[u8]) -> Res
     }
 }
 
-// The text of the token alone; none of one that can't stand there.
+// Writes the text of the token alone, or nothing for an invalid token.
 #[tactic(auto, using(crate::proofs::Indenting::print_one))]
 fn put_text(alloc: Global, out: &mut Vec<u8>, token: Token<'_>) -> Result<(), AllocError>
     requires { token ≢ Token.Bad → IsPrintable (token_of token) }

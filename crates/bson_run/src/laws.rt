@@ -49,7 +49,7 @@ pub fn one_stop()
 }
 
 /// Proves that an output in a form is accepted again: its own output is the same bytes, unless it
-/// nests deeper than texts may. A layout is laid out again as it is.
+/// nests deeper than texts may. An indented text is indented again as it is.
 pub fn outputs_are_kept()
     ensures plain { (order : KeyOrder) (options : Options) (mode : Mode) (bytes output : List ℕ)
         → ConvertsBy order options mode bytes output → IsUtf8 output → IsKeptBy order options mode output }
@@ -59,7 +59,7 @@ pub fn outputs_are_kept()
 {}
 
 /// Proves that a run over known bytes that is done has done all of their lines. One that stops for a
-/// fault of a text stops inside them. What it wrote and reported is that of the lines before.
+/// fault of a text stops inside them. Its output and diagnostics are those of the lines before.
 pub fn runs_are_inside()
     ensures done { (options : Options) (task : Task) (on_refusal : OnRefusal) (all : List ℕ)
         (after had holds reported reports : Option (List ℕ)) (number refused : ℕ)

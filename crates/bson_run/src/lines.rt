@@ -16,7 +16,7 @@ use bson_convert::stream::write_whole;
 use std::alloc::{AllocError, Global};
 use std::io::{Read, Write};
 
-/// As much as a pipe holds.
+/// The capacity of a pipe.
 const BLOCK: usize = 65536;
 
 /// How many lines there were.
@@ -51,11 +51,11 @@ pub struct Counts {
 /// ```
 #[derive(Drop)]
 pub struct LineRun {
-    /// What a line means, which values have a text, and the order of keys in the output.
+    /// The meaning of a line, the values that have a text, and the order of keys in the output.
     pub options: Options,
-    /// What is done with each line.
+    /// The task for each line.
     pub task: Task,
-    /// What becomes of the run at a line that is refused.
+    /// Whether the run goes on after a rejected line.
     pub on_refusal: OnRefusal,
     pub(crate) collected: Collected,
 }
@@ -80,7 +80,7 @@ impl LineRun {
     /// none. Lines of spaces, tabs and carriage returns have no output, and count. A byte order
     /// mark at the start of the input is passed over.
     ///
-    /// A rejected line ends the run, or is reported and left out, as `on_refusal` says. Memory is
+    /// A rejected line ends the run, or is skipped with a diagnostic, as `on_refusal` says. Memory is
     /// that of the longest line and of a block of 64 KiB with its output. The output of a block is
     /// written before the next is read.
     ///
@@ -93,7 +93,7 @@ impl LineRun {
     ///   `on_refusal` stops the run.
     /// - `CannotRead`: the reader failed, `Interrupted` too.
     /// - `CannotWrite`: the writer or the report failed, `Interrupted` too, or accepted no byte.
-    ///   Either not all lines were reported, or all of them were and not all output was written.
+    ///   Either not all diagnostics were written, or all of them were and not all output was.
     /// - `OutOfMemory`: an allocation failed.
     pub fn run<R: Read, W: Write, T: Write>(
         &mut self,
@@ -128,7 +128,7 @@ impl LineRun {
         self.collected.lines.saturating_add(1)
     }
 
-    /// Returns where the line at which the run stopped is wrong, in the words of `explain_under`.
+    /// Returns where the line at which the run stopped is wrong, as the message of `explain_under`.
     ///
     /// # Errors
     ///
@@ -140,7 +140,7 @@ impl LineRun {
     }
 }
 
-// A run that has collected nothing yet.
+// Runs from the state before the first line.
 fn run_on<R: Read, W: Write, T: Write>(
     alloc: Global,
     settings: Settings,
@@ -174,7 +174,7 @@ fn run_on<R: Read, W: Write, T: Write>(
     Err(Error::CannotRead)
 }
 
-// Takes a block, and writes what its lines gave.
+// Reads a block, and writes the output of its lines.
 fn pass_on<W: Write, T: Write>(
     alloc: Global,
     settings: Settings,
@@ -204,7 +204,7 @@ fn pass_on<W: Write, T: Write>(
     step
 }
 
-// Takes a last line that no newline ends, and writes what it gave.
+// Finishes a last line that has no newline, and writes its output.
 fn end<W: Write, T: Write>(
     alloc: Global,
     settings: Settings,
@@ -237,8 +237,8 @@ fn end<W: Write, T: Write>(
     })
 }
 
-// Writes what is held, and tells what is untold. The verdicts come first, so that a writer that
-// takes no more hides none.
+// Writes the output and the diagnostics that are in memory. The diagnostics come first, so that a
+// writer that fails loses none.
 fn write_out<W: Write, T: Write>(
     collected: &mut Collected,
     writer: &mut W,

@@ -1,11 +1,11 @@
-//! What a run over lines does with each line.
+//! The task of a run over lines, for each line.
 ghost use Rattle.std.specs.Prelude.{◌≡◌, IfSome, None};
 ghost use Rattle.bson_run.specs.Words.{task_name};
 ghost use Rattle.bson_run.specs.declared.order.Task.{Task};
 
 use bson_convert::mode::Mode;
 
-/// What a run does with each line.
+/// The task of a run, for each line.
 ///
 /// ```
 /// let mut lines: &[u8] = b"1\n2";
@@ -48,7 +48,7 @@ pub enum Criterion {
     Canonical,
 }
 
-/// What is checked or rewritten before a text is read.
+/// The checks or rewrites before a text is read.
 ///
 /// ```
 /// let mut lines: &[u8] = br#"{"a": 1, "a": 2}"#;
@@ -69,7 +69,7 @@ pub enum Preprocessing {
     DistinctLegacy,
 }
 
-/// What is done with a text that was preprocessed.
+/// The task for a text that was preprocessed.
 ///
 /// ```
 /// let mut lines: &[u8] = br#"{"$type": "00", "$binary": "AQI="}"#;
@@ -103,7 +103,7 @@ impl Task {
     }
 }
 
-/// What becomes of a run at a line that is refused.
+/// Whether a run goes on after a rejected line.
 ///
 /// ```
 /// let mut lines: &[u8] = b"[\n2";
@@ -117,6 +117,6 @@ impl Task {
 pub enum OnRefusal {
     /// It stops.
     Stop,
-    /// The line is told, with the place of its fault, and left out, and the run goes on.
+    /// The line is skipped, with a diagnostic that has the path of its error, and the run goes on.
     KeepGoing,
 }

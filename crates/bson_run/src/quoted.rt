@@ -1,4 +1,4 @@
-//! The value that stands at a place in a text.
+//! The value at a path in a text.
 ghost use Rattle.std.specs.Prelude.{◌≡◌, IfOk, IfSome, string_bytes};
 ghost use Rattle.bson_run.specs.Place.{IsPart, IsQuote, found_as};
 
@@ -8,11 +8,11 @@ use bson_tree::place::Segment;
 use json::{Invalid, Reader, Scratch, Token};
 use std::alloc::{AllocError, Global};
 
-/// How many characters are told of a value.
+/// The number of characters of a value that a message quotes.
 const MOST: usize = 60;
 
-/// The words for the value that stands at a place in the text, to be put behind those for what was
-/// expected there; empty where none stands there. Of a key that stands twice it is the last value.
+/// Returns the part of a message that quotes the value at a path in the text. It follows the part that says
+/// what was expected. It is empty if there is no value. For a duplicate key it quotes the last value.
 pub(crate) fn quote(alloc: Global, segments: &[Segment], text: &[u8]) -> Result<String, AllocError>
     ensures { IfOk result (λ words. IsQuote text.now (string_bytes words)) }
 {
@@ -30,7 +30,7 @@ pub(crate) fn quote(alloc: Global, segments: &[Segment], text: &[u8]) -> Result<
     }
 }
 
-// The words for a value.
+// Returns the part of a message that quotes a value.
 fn found_text(alloc: Global, value: &str) -> Result<String, AllocError>
     ensures { IfOk result (λ words. string_bytes words ≡ found_as value.now) }
 {
@@ -48,8 +48,8 @@ fn part(text: &str, from: usize, following: usize) -> Option<&str>
     Some(part.trim_ascii_end())
 }
 
-// Passes a value, and gives where the one at the end of a path into it begins, and where what is
-// behind that does.
+// Skips a value. Returns the offset of the value at the end of a path into it, and the offset of
+// the bytes after that value.
 #[cycle(passing)]
 fn value_at(
     reader: &mut Reader<'_>,

@@ -25,16 +25,16 @@ pub enum Rule {
     ControlCharacter,
     /// A string has an escape that denotes no character, such as `\x41` or half of a surrogate pair.
     Escape,
-    /// Neither a comma nor the closing bracket stands behind an element; or a bracket is closed that
-    /// is not open, or a key stands outside of an object.
+    /// There is neither a comma nor the closing bracket after an element; or a bracket is closed that
+    /// is not open, or a key is outside of an object.
     Separator,
-    /// No element stands behind a comma.
+    /// There is no element after a comma.
     ExpectedElement,
-    /// No colon stands behind a key, or no value behind the colon.
+    /// There is no colon after a key, or no value after the colon.
     ExpectedColonAndValue,
     /// Arrays and objects nest deeper than 127.
     Depth,
-    /// More stands behind the value.
+    /// There is more input after the value.
     TrailingData,
     /// The text has the grammar of JSON, but a number in it has no finite nearest double.
     OutOfRange,

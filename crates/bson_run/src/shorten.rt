@@ -1,11 +1,11 @@
-//! Words as they are told: their first characters, as they are or by their escapes.
+//! Messages that are cut to a number of characters, with or without escapes.
 ghost use Rattle.std.specs.Prelude.{◌≡◌, ◌++◌, IfOk, OnOk, string_bytes};
 ghost use Rattle.bson_run.specs.Place.{cut_at, letter, shown};
 
 use std::alloc::{AllocError, Global};
 
-/// The first characters of words, so many at most, and `..` for any others. Where escapes are
-/// wanted, what could break a line or steer a terminal is told by its escape.
+/// Returns the first characters of a message, up to a number, and `..` if there are more. With
+/// `escapes`, a character that breaks a line or controls a terminal is written as its escape.
 pub(crate) fn shorten(
     alloc: Global,
     words: &str,
@@ -24,7 +24,7 @@ pub(crate) fn shorten(
     Ok(said)
 }
 
-// Adds a character as it is told.
+// Appends a character, or its escape if escapes are enabled.
 fn push_letter(alloc: Global, said: &mut String, c: char, escapes: bool) -> Result<(), AllocError>
     ensures { OnOk result (string_bytes said.new ≡ string_bytes said.old ++ letter escapes c) }
 {
@@ -35,7 +35,7 @@ fn push_letter(alloc: Global, said: &mut String, c: char, escapes: bool) -> Resu
     }
 }
 
-// Adds a character, or its escape.
+// Appends a character, or its escape.
 fn push_shown(alloc: Global, said: &mut String, c: char) -> Result<(), AllocError>
     ensures { OnOk result (string_bytes said.new ≡ string_bytes said.old ++ shown c) }
 {

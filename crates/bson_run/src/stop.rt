@@ -1,4 +1,4 @@
-//! Where bytes stop to be a JSON text.
+//! The offset at which bytes are not JSON.
 ghost use Rattle.std.specs.Prelude.{◌≡◌, ◌↔◌, IfOk, IsTrue, false, string_bytes};
 ghost use Rattle.bson.specs.TextMeaning.{IsNoText};
 ghost use Rattle.bson_run.specs.Place.{Breaks, HasGrammar, HasTree, at_column, before_stop, column_at, line_at};
@@ -12,7 +12,7 @@ use bson_tokens::number::number;
 use json::{Reader, Scratch, Token};
 use std::alloc::{AllocError, Global};
 
-/// Where bytes stop to be a JSON text, for a message.
+/// The offset at which bytes are not JSON, for a message.
 ///
 /// ```
 /// let text: &[u8] = b"[1,\n 2 3]";
@@ -21,7 +21,7 @@ use std::alloc::{AllocError, Global};
 /// ```
 #[derive(Clone, Copy, Debug)]
 pub struct Stop {
-    /// How many bytes stand before it.
+    /// The number of bytes before it.
     pub offset: usize,
     /// The bytes have the grammar of JSON, and the number there is out of the range of doubles.
     pub is_number: bool,
@@ -57,7 +57,7 @@ impl Stop {
         }
     }
 
-    /// Returns the line on which it lies, counted from 1.
+    /// Returns its line, counted from 1.
     pub fn line(self, bytes: &[u8]) -> usize
         ensures { result ≡ line_at self.offset bytes.now }
     {
@@ -73,7 +73,7 @@ impl Stop {
         1 + line.take_while(|byte| **byte != b'\n').count()
     }
 
-    /// Returns what a program reports after the words for the error: the column and the rule.
+    /// Returns the end of a message, after the name of the error: the column and the rule.
     ///
     /// # Errors
     ///
@@ -94,7 +94,7 @@ impl Stop {
     }
 }
 
-// Where the text stops to be JSON.
+// Finds the offset at which the text is not JSON.
 fn stop_in(alloc: Global, text: &str) -> Result<Stop, AllocError>
     ensures grammar { IfOk result (λ stop. IsTrue stop.is_number ↔ HasGrammar text.now × IsNoText text.now) }
     ensures rule { IfOk result (λ stop. Breaks text.now stop.rule) }
@@ -142,7 +142,7 @@ fn has_tree(alloc: Global, text: &str) -> Result<bool, AllocError>
     }
 }
 
-// How many bytes stand before the first number that has no finite double, or 0 if there is none.
+// Returns the offset of the first number that has no finite double, or 0 if there is none.
 fn number_out_of_range(text: &str, scratch: &mut Scratch) -> Result<usize, AllocError> {
     let mut reader = Reader::new(text, scratch)?;
     let mut following = 0usize;
@@ -159,7 +159,7 @@ fn is_out_of_range(token: Token<'_>) -> bool {
     matches!(token, Token::Number(digits) if number(digits).is_none())
 }
 
-// How many bytes from there on stand before a number.
+// Counts the bytes from there on before a number.
 fn blanks(bytes: &[u8], from: usize) -> usize {
     let is_digit = |byte: &u8| *byte == b'-' || byte.is_ascii_digit();
     bytes

@@ -13,7 +13,7 @@ use Rattle.vbson.specs.Dumps.{GivesDocuments}
 use Rattle.vbson.specs.Text.{IsOwnedText}
 use Rattle.vbson.specs.declared.text.Text.{Text}
 
--- a writer that held nothing holds what was written
+-- a writer that was empty contains what was written
 wrote : (had holds output : List ℕ) → holds ≡ had ++ output → had ≡ [] → output ≡ holds
 wrote had holds output is none = sym (is ∙ ap (λ x. x ++ output) none)
 

@@ -2,7 +2,7 @@ use Rattle.std.specs.Io.Buffered.{writer_buffer, writer_contents, writer_inner}
 use Rattle.bson_program.proofs.Dumping.{cut_dump, on_ok}
 use Rattle.bson_program.proofs.dump.run_whole.Goals as goal
 
--- the run ended at a document, and goes on behind the file
+-- the run ended at a document, and goes on after the file
 pub returns-in-Err-clause-done : goal.returns-in-Err-clause-done
 returns-in-Err-clause-done g c =
     let end = c.in-Err.end in
