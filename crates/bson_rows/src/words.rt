@@ -1,8 +1,8 @@
-//! The parts of a row.
+//! Parses the arguments of a row.
 use crate::stop::Stop;
 use std::alloc::Global;
 
-/// The text up to the first blank, and what stands behind it.
+/// Returns the text up to the first space, and the rest after it.
 pub(crate) fn cut(text: &str) -> (&str, &str) {
     match text.split_once(' ') {
         Some(parts) => parts,
@@ -10,7 +10,7 @@ pub(crate) fn cut(text: &str) -> (&str, &str) {
     }
 }
 
-/// The text up to the first colon, and what stands behind it.
+/// Returns the text up to the first colon, and the rest after it.
 pub(crate) fn cut_at_colon(text: &str) -> (&str, &str) {
     match text.split_once(':') {
         Some(parts) => parts,
