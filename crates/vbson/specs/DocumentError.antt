@@ -24,13 +24,13 @@ use Rattle.vbson.specs.declared.options.CallOptions.{CallOptions}
 
 -- ---- what is wrong
 
--- under the options the bytes are a document, and it has a text in the two forms
+-- under the options the bytes are a document that has a text in the two forms
 pub record HasDocumentText (options : CallOptions) (bytes : List ℕ) : Type 0 where
   pub pairs : Pairs
   pub read : IsReadIn (duplicate_keys_of options) depth bytes pairs
   pub writable : writable_in (options_of_flags options).doubles (document pairs) ≡ true
 
--- under the options the bytes are a document, and it has no text in the two forms
+-- under the options the bytes are a document that has no text in the two forms
 pub record HasNoDocumentText (options : CallOptions) (bytes : List ℕ) : Type 0 where
   pub pairs : Pairs
   pub read : IsReadIn (duplicate_keys_of options) depth bytes pairs

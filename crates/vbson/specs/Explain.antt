@@ -33,7 +33,7 @@ code_in (explained.Value place reason) = status_for place.now.reason
 code_in (Difference column) = 16
 code_in Other = 0
 
--- where a text stops to be JSON, or to be canonical: the line and the column, from 1, and the bytes before it; else 0
+-- where a text stops to be JSON, or to be canonical: the line and the column, from 1, and the offset; otherwise 0
 abbrev pub line_in : List ℕ → Explanation → ℕ
 line_in text (Syntax stop) = line_at stop.offset text
 line_in text (explained.Value place reason) = 0

@@ -21,7 +21,7 @@ use std::alloc::{AllocError, Global};
 /// What is wrong with bytes, as a document that has a text.
 #[derive(Clone, Copy)]
 pub enum Finding {
-    /// The bytes are a document, and it has a text.
+    /// The bytes are a document that has a text.
     Nothing,
     /// The bytes are not a document.
     Malformed {
@@ -59,7 +59,7 @@ pub extern "C" fn vbson_explain_document_nonnull(
     }
     match explained(alloc, *options, bytes) {
         Ok(rejection) => *out = rejection,
-        // (the path has no segment, so it is not too long)
+        // (a path without segments is not too long)
         Err(_) => return status::OUT_OF_MEMORY,
     }
     status::OK
