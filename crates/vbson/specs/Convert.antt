@@ -1,4 +1,4 @@
--- What a conversion writes, which number selects which mode, and which options are in the struct of a call.
+-- What a conversion writes, which integer selects which mode, and which options are in the struct of a call.
 use Rattle.std.specs.Prelude.{◌≡◌, ◌==◌, ℕ, List, ◌++◌, IsUtf8, Option, Some, None, if◌then◌else◌}
 use Rattle.serde_json.specs.Data.{Data}
 use Rattle.bson_tree.specs.Faults.{Fault as TreeFault, wrong_shape, wrong_id}
@@ -38,7 +38,7 @@ options_of_flags options = record {
 }
 
 -- the output is the line that the input is converted to in the mode that was selected, with a NUL in place of its
--- newline. It is UTF-8. In a form, converting the output again changes nothing
+-- newline. It is UTF-8. In a form, a second conversion changes nothing
 pub record IsConvertedBy (k : KeyOrder) (o : Options) (number : ℕ) (input : List ℕ) (out : Text) : Type 0 where
   pub mode : Mode
   pub named : mode_at number ≡ Some mode

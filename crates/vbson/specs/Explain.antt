@@ -104,7 +104,7 @@ abbrev pub Explains : CallOptions → List ℕ → Rejection → Type 0
 Explains options text out =
     (((value : Value) × MeansUnder options text value) × Says [] Other [] out) ⊎ ExplainsRejection options text out
 
--- the path to the error is too long for BSON
+-- the path to the error exceeds the limits of BSON
 abbrev pub IsLongPath : Error → Type 0
 IsLongPath (NotExtendedJson place) = FitsDocument (path_pairs (path_of place)) → ⊥
 IsLongPath other = ⊥
@@ -123,7 +123,7 @@ ExplainsRead o text out =
     (((value : Value) × HasTextMeaningIn o.doubles text value) × Says [] Other [] out)
     ⊎ ((fault : Error) × IsRefusedIn o fault text × (fault ≢ OutOfMemory) × IsError text fault out)
 
--- memory ran out, or the path to an error that rejects the text is too long
+-- memory ran out, or the path to an error that rejects the text exceeds the limits of BSON
 abbrev pub IsUnexplained : PathError → (Error → Type 0) → Type 0
 IsUnexplained e refused = e ≢ sizes.OutOfMemory → (fault : Error) × refused fault × IsLongPath fault
 
