@@ -2,8 +2,8 @@
 //! deliver their bytes in chunks and writers that accept one byte a call, and that fail. tests/streams
 //! has the runs and their expected results.
 //!
-//! Standard input has one order on each line, then an empty line, and then the input of each run. For
-//! each order the program writes a line `WRITTEN REPORTED ANSWER`, the bytes that the writer and the
+//! Standard input has one request on each line, then an empty line, and then the input of each run. For
+//! each request the program writes a line `WRITTEN REPORTED ANSWER`, the bytes that the writer and the
 //! report accepted, and a newline. The first two words are the numbers of these bytes.
 #![tactic(auto)]
 

@@ -1,4 +1,4 @@
-//! Parses the order of a line: which call is made, and how its reader and writers fail.
+//! Parses the request of a line: which call is made, and how its reader and writers fail.
 use crate::failing::End;
 use bson::extjson::Form;
 use bson_codec::documents::Line;
@@ -7,7 +7,7 @@ use bson_run::order::{OnRefusal, Task};
 use std::io::ErrorKind;
 use std::str;
 
-/// The call of an order.
+/// The call of a request.
 #[derive(Clone, Copy, PartialEq, Eq, Debug)]
 pub(crate) enum Call {
     Run(Mode),
@@ -19,7 +19,7 @@ pub(crate) enum Call {
     RunDocuments(Line, OnRefusal),
 }
 
-/// A line `CALL PIECE READS WRITES REPORTS END`.
+/// A request: a line `CALL PIECE READS WRITES REPORTS END`.
 #[derive(Clone, Copy, PartialEq, Eq, Debug)]
 pub(crate) struct Order {
     pub call: Call,
@@ -35,7 +35,7 @@ pub(crate) struct Order {
     pub end: End,
 }
 
-/// Parses the order of a line.
+/// Parses the request of a line.
 pub(crate) fn order_of(line: &[u8]) -> Option<Order> {
     let mut words = str::from_utf8(line).ok()?.split(' ');
     Some(Order {

@@ -46,7 +46,7 @@ impl<'a> Ends<'a> {
     }
 }
 
-/// Makes the run of the order. Returns its result, and the bytes that its writers accepted.
+/// Makes the run of the request. Returns its result, and the bytes that its writers accepted.
 pub(crate) fn ran(alloc: Global, order: Order, input: &[u8]) -> Result<Vec<u8>, AllocError> {
     let mut ends = Ends::of(alloc, order, input)?;
     let answer = match order.call {
