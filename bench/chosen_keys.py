@@ -3,7 +3,7 @@
 
     bench/chosen_keys.py [--keys N ..] [--longest SECONDS] [PROGRAM ..]
 
-PROGRAM is a built `bson_cli`, this repository's own where none is given; of several, the columns stand side by side.
+PROGRAM is a built `bson_cli`, this repository's own where none is given; several programs get a column each.
 For each number of keys N (10000, 100000 and 400000 where none is given) it prints the processor time a key and the
 peak memory of `bson_cli canonical` on one object of N chosen keys, and of N keys that differ from these in one byte.
 A time is the least of five runs; the programs run in turns. A run past the longest, 60 s, is cut off and shown as >.

@@ -3,7 +3,7 @@
 
     bench/libbson.py [MEGABYTES ..]        (10 and 50 where none is given)
 
-Each kind of input of bench/run.py, as one document: a list stands under the key "a", since libbson takes documents
+Each kind of input of bench/run.py, as one document: a list is the value of the key "a", since libbson takes documents
 alone, and the deep values nest at most 80 levels, since it refuses 100; code with scope is left out, of which version
 1.23 refuses a list of some hundred. Beside these are places with a price, whose doubles bson_program
 accepts, with --sort-keys. Both programs read standard input and write the canonical text. A time is the least processor

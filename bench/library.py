@@ -6,7 +6,7 @@
 A million calls on a document of 103 bytes, the best of three runs; and each kind of input of bench/run.py at 10 MB: the
 program's wall time (the best of five runs), the first call of a C program and its best of five, and the same of a Rust
 program where cargo is. libbson reads numbers
-and keys as they stand, in their order; it takes a document alone, so it gets only the kind that is one.
+and keys as given, in their order; it takes a document alone, so it gets only the kind that is one.
 """
 import os
 import shutil

@@ -2,7 +2,7 @@
 """Draws the table "Beside libbson" of bench/README.md, as bench/libbson.py writes it, as bars: bench/libbson.svg.
 
     bench/plot.py            draws it anew
-    bench/plot.py --check    says whether it is the table's as it stands: status 1 if not
+    bench/plot.py --check    checks that the plot is that of the current table: status 1 if not
 
 Of each kind of input the smaller one is drawn, with the seconds of both programs and the peaks of their memory.
 """
@@ -36,7 +36,7 @@ def text(x, y, words, size=13, anchor="start", color="#333333", weight="normal")
 
 
 def panel(left, title, values, shown):
-    """Two bars a row, with their numbers behind them."""
+    """Two bars a row, each followed by its number."""
     greatest = max(max(pair) for pair in values)
     drawn = [text(left, TOP - 14, title, weight="bold")]
     for at, pair in enumerate(values):

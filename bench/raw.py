@@ -22,7 +22,7 @@ from run import BYTES, HERE, TOP
 
 OUT = f"{TOP}/languages/out"
 # The documents of the larger sizes come from memory, and those of the smallest one from the processor's cache. The rounds
-# of each are such that it takes seconds.
+# of each are chosen so that it takes seconds.
 SIZES = {65_000_000: 5, 10_000_000: 25, 200_000: 500}
 KEYS = (("the first", "_id"), ("the tenth", "status"), ("the last", "lines"), ("none", "absent"))
 

@@ -22,7 +22,7 @@ from run import BYTES, TOP
 
 LINE = b'{"_id":{"$oid":"53e37d08776f724e42000000"},"at":{"$date":{"$numberLong":"1590972160000"}},"n":{"$numberLong":"%d"},' \
        b'"name":"%s","tags":["a","b",{"$numberInt":"5"}]}\n'
-# A document of the same (bsonspec.org), but for its length and what stands in it for the places.
+# A document of the same (bsonspec.org), except for its length and what it has instead of the places.
 DOCUMENT = b"\x07_id\0\x53\xe3\x7d\x08\x77\x6f\x72\x4e\x42\0\0\0\x09at\0" + struct.pack("<q", 1590972160000) + \
            b"\x12n\0%b\x02name\0%b%b\0\x04tags\0\x1e\0\0\0\x020\0\2\0\0\0a\0\x021\0\2\0\0\0b\0\x102\0\5\0\0\0\0\0"
 # (the time of the cluster's start is not the conversion's)

@@ -6,7 +6,7 @@
 
 For each kind of input, canonical text by text to values of Python and back: by json_util, by the library with the types
 of bson, and with plain ones. A time is the processor time of one call, the least of five in turns; which package bson it is,
-and whether it has its part in C (python3-bson-ext), stands at the end. Documents are read one by one, as `loads` is called
+and whether it has its part in C (python3-bson-ext), is the last line. Documents are read one by one, as `loads` is called
 on lines, and as one list. VBSON_EXTENSION= leaves the compiled module _vbson.
 
 The ways: json_util; json.loads alone, and with a hook that finds an object's type by one look-up of its only key (neither

@@ -5,9 +5,9 @@
                                          for the library for other languages)
 
 The program is bson_cli where none is named. Each crate is proved from nothing, over the statements of the libraries
-below. They stand in crates/NAME/out/rlib/statements with a sum of all that they are made from: what has not changed is
+below. They are in crates/NAME/out/rlib/statements with a sum of all that they are made from: what has not changed is
 taken as it is. Standard error says what happens and how long it takes, and on a terminal has a line of progress, which
-is gone at the end. out/build.log beside the program has all that rattle printed, behind a line a crate with its times,
+is gone at the end. out/build.log beside the program has the output of rattle, after a line of times for each crate,
 and out/proved the last line of each crate's proof. A second run that starts meanwhile waits for the first. Status 0:
 built, or waited; 3: it can't be built here.
 """
@@ -248,7 +248,7 @@ class Build:
         self.steps, self.done, self.schedule, self.log = steps, done, schedule, log
         self.running, self.failed = {}, None
         self.began = time.monotonic()
-        # How many minutes it takes, as far as is known, and the number that was told last.
+        # How many minutes it takes, as far as is known, and the number that was printed last.
         self.planned = self.whole = max(schedule.planned(done).values(), default=0.0)
         self.told = 0.0
         # The minutes that the crates took that have ended, and those that the costs gave them.

@@ -69,7 +69,7 @@ class Clause:
 
 @dataclass
 class Function:
-    """A function of a crate, where it stands, and its contract."""
+    """A function of a crate, where it is defined, and its contract."""
 
     crate: str
     file: str
@@ -92,14 +92,14 @@ class Function:
         return "::".join([*parts, *([owner] if owner else []), self.name])
 
     def is_called(self, call: str) -> bool:
-        """Whether a name means this function: its own, behind the ends of its type, its trait, its module or crate."""
+        """Whether a name means this function: its own, after the ends of its type, its trait, its module or crate."""
         *outer, name = re.split(r"::|\+", call)
         own = [it for it in re.split(r"::|\+", self.path) if it != self.name]
         return name == self.name and all(it in [self.name, *own] for it in outer)
 
 
 def closed(text: str, at: int) -> int:
-    """The place behind the bracket that closes the one at a place."""
+    """The place after the bracket that closes the one at a place."""
     depth = 0
     for place in range(at, len(text)):
         depth += (text[place] == "{") - (text[place] == "}")

@@ -3,7 +3,7 @@
  *     export PKG_CONFIG_PATH=PREFIX/lib/pkgconfig
  *     cc example.c $(pkg-config --cflags --libs vbson) -Wl,-rpath,$(pkg-config --variable=libdir vbson) && ./a.out
  *
- * PREFIX is that of ./vbson install, or languages/out. The last word of cc tells the program where libvbson.so.0 is.
+ * PREFIX is that of ./vbson install, or languages/out. The last argument of cc says where libvbson.so.0 is.
  */
 #include <stdio.h>
 #include <string.h>

@@ -77,7 +77,7 @@ def deep(generator, text):
 
 
 def long(generator, text):
-    """The text behind many bytes."""
+    """The text after many bytes."""
     filling = generator.choice((' ', '0,', '"\u00e9",', '{"a":0},'))
     count = generator.randrange(generator.choice((0, 55_000)), LONGEST) // len(filling.encode())
     return f'[{filling * count}{text}]'

@@ -1,11 +1,11 @@
 """BSON 1.1 (bsonspec.org): what bytes mean, or their first fault; and the bytes that a document is written as.
 
 A value is a pair of its kind and its content, as in grammar.py, but that a double is its pattern of 64 bits, a decimal
-its 16 bytes, an object id its 12, and that the pairs of a document stand as they came, a key that came twice at its
+its 16 bytes, an object id its 12, and that the pairs of a document keep their order, a key that came twice at its
 first place with its last value. The keys of an array are dropped.
 
 Of the faults the first from the left counts; a length is held to its part once that is read, and a text ends before its
-bytes are looked at. Where keys are to stand once, a key that came before in its document or scope is a fault as soon as
+bytes are looked at. If duplicate keys are rejected, a key that came before in its document or scope is a fault as soon as
 it is read, before its value.
 """
 import struct
@@ -27,7 +27,7 @@ class Fault(Exception):
 
 
 class Reader:
-    """Reads a document from the front of bytes, in which a key may stand twice or not."""
+    """Reads a document from the front of bytes, which accepts duplicate keys or rejects them."""
 
     def __init__(self, data, once):
         self.data = data
@@ -76,7 +76,7 @@ class Reader:
         return self.text_of(inside, begin)
 
     def elements(self, levels, once):
-        """The keys and values of a document, as they stand."""
+        """The keys and values of a document, in their order."""
         if levels == 0:
             raise Fault('Depth', self.at)
         place = self.at
@@ -241,7 +241,7 @@ WRITERS = {
 
 
 def written(value):
-    """The bytes of a value behind its name; those of a document are the whole."""
+    """The bytes of a value after its name; those of a document are the whole."""
     kind, content = value
     return WRITERS[kind](content) if kind in WRITERS else b''
 

@@ -99,7 +99,7 @@ def plain(data):
 
 
 def joined(*parts):
-    """The parts one behind the other, with the places of their lengths."""
+    """The parts concatenated, with the places of their lengths."""
     data, lengths = b'', []
     for inside, places in parts:
         lengths += [len(data) + place for place in places]
@@ -108,7 +108,7 @@ def joined(*parts):
 
 
 def counted(part):
-    """The part behind its length, which counts itself."""
+    """The part after its length, which counts itself."""
     return joined((struct.pack('<I', len(part[0]) + 4), [0]), part)
 
 

@@ -1,4 +1,4 @@
-"""One damage to a valid tree, or to its text. Most leave JSON text behind, and some change nothing that counts."""
+"""One damage to a valid tree, or to its text. Most results are still JSON text, and some changes have no effect."""
 import re
 
 from generator import CHARACTERS, KEYS, Generator, Object, Raw, SHORT_ESCAPES, escaped, plainly, render, units
@@ -29,7 +29,7 @@ class Damage(Generator):
 
     def __init__(self, random):
         super().__init__(random)
-        # The root stands in a list, so that it has a place as each other node has.
+        # The root is in a list, so that it has a place as each other node has.
         self.top = [self.node(1 + self.below(12))]
 
     def damaged(self):
@@ -241,7 +241,7 @@ class Damage(Generator):
         return data[:at] if self.chance(0.6) else data[at:]
 
     def go_on(self, data):
-        """Something behind the text."""
+        """Something after the text."""
         return data + self.one_of(
             (b'\n', b' \t\r\n', b'\0', b'}', b']', b',', b' {}', data, b'\xef\xbb\xbf', b'1', b'\x0b'))
 

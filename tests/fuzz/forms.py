@@ -31,7 +31,7 @@ def relaxed(value):
 
 
 def in_order(value, is_relaxed):
-    """The compact text of a form in which the pairs of each document stand as they are, and a wrapper's keys ascend."""
+    """The compact text of a form in which the pairs of each document keep their order, and a wrapper's keys ascend."""
     return compact(tree(value, is_relaxed), list)
 
 

@@ -11,7 +11,7 @@ from grammar import DOUBLES, TAKEN
 
 
 class Raw(str):
-    """What is written as it stands."""
+    """What is written unchanged."""
 
 
 class Object(list):

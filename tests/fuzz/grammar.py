@@ -4,13 +4,13 @@ A value is a pair of its kind and its content:
   Null, Undefined, MinKey, MaxKey: None         Boolean: bool              Int32, Int64, DateTime: int
   String, Symbol, JavaScriptCode: str           Double: its text           Decimal128: as decimal128.py has it
   Array: list of values                         Document: list of (key, value), the keys ascending by their bytes, or
-                                                          where order is kept (TAKEN) as they stand in the tree
+                                                          where order is kept (TAKEN) in the order of the tree
   RegularExpression: (pattern, options)         Binary: (subtype, bytes)   ObjectId: lower-case text
   JavaScriptCodeWithScope: (code, pairs)        Timestamp: (time, increment)
   DbPointer: (namespace, lower-case text)
 
 An object with one of the 16 wrapper keys has exactly the keys and shapes of one wrapper; any other is a document.
-The own keys of a scope are free. The first fault is told: of a list's elements in order, of a document's or scope's
+The own keys of a scope are free. The first fault is reported: of a list's elements in order, of a document's or scope's
 values by ascending key; a wrapper is judged as a whole. Where finite doubles are taken (TAKEN), a number that is no i64,
 and a decimal number under `$numberDouble`, is the double nearest to it, where that is finite. The fault is BadObjectId where a `$oid` or `$dbPointer` is right but
 for the text of its id, and NotExtendedJson everywhere else.

@@ -1,8 +1,8 @@
 """Where bytes stop to be a JSON text (RFC 8259), and which rule they break there, as docs/PROGRAMS.md says it.
 
 A token is a bracket, a comma, a colon, a string, or a word: other characters up to a blank, a bracket, a comma or a
-colon. An error lies at the first token that is none of JSON, or that JSON has but not there: a comma or a colon lies at
-itself, any other token at what follows it, where a comma behind a value and a colon behind a key belong to these.
+colon. An error is at the first token that is not a token of JSON, or not allowed there: for a comma or a colon it is at
+itself, any other token at what follows it, where a comma after a value and a colon after a key belong to these.
 """
 from json_text import DEEPEST, NUMBER, NotJson, string
 
@@ -36,9 +36,9 @@ def error_of(data):
 
 
 def string_end(text, at):
-    """The place behind the string that begins here, or None where it is none."""
+    """The place after the string that begins here, or None if it is not a string."""
     try:
-        # (a character behind the text ends each string that has no quote)
+        # (a character after the text ends each string that has no quote)
         return string(text + '\0', at + 1)[1]
     except NotJson:
         return None
@@ -72,12 +72,12 @@ class Reader:
         return self.text[at] if at < len(self.text) else ''
 
     def comma(self, at):
-        """The place behind a comma that follows a value, and whether there is one."""
+        """The place after a comma that follows a value, and whether there is one."""
         at = self.start(at)
         return (self.start(at + 1), True) if self.mark(at) == ',' else (at, False)
 
     def no_token(self, at, is_key, may_begin=True):
-        """The error of what is no token here: a value or a key, unless one stands before it with no comma."""
+        """The error of what is not a token here: a value or a key, unless one comes before it without a comma."""
         first = self.mark(at)
         if not first:
             raise Broken(at, 'UnexpectedEnd')
@@ -93,7 +93,7 @@ class Reader:
         raise Broken(at, 'Number' if first in '0123456789-+.' else 'NoValue')
 
     def word_end(self, at):
-        """The place behind the literal or the number that begins here, or None where it is none."""
+        """The place after the literal or the number that begins here, or None if there is none."""
         end = at
         while end < len(self.text) and self.text[end] not in BLANKS + MARKS:
             end += 1
@@ -104,7 +104,7 @@ class Reader:
         return end if number or word in LITERALS else None
 
     def scalar_end(self, at, is_key):
-        """The place behind a string, a literal or a number."""
+        """The place after a string, a literal or a number."""
         if self.mark(at) in ('', *',:\\}]'):
             self.no_token(at, is_key)
         end = string_end(self.text, at) if self.mark(at) == '"' else self.word_end(at)
@@ -113,18 +113,18 @@ class Reader:
         return end
 
     def key_end(self, at):
-        """The place of the colon behind a string, or None where none follows."""
+        """The place of the colon after a string, or None if none follows."""
         end = self.start(string_end(self.text, at))
         return end if self.mark(end) == ':' else None
 
     def whole(self):
-        """Reads the text's value, behind which nothing stands."""
+        """Reads the text's value, after which nothing may follow."""
         at, has_comma = self.comma(self.value(self.start(0), DEEPEST, ''))
         if has_comma or self.mark(at):
             raise Broken(self.more(at, has_comma), 'TrailingData')
 
     def more(self, at, has_comma):
-        """The place that is told of what stands behind the text's value."""
+        """The place that is reported for what follows the text's value."""
         if not has_comma:
             return self.behind(at) if self.mark(at) in CLOSING else at
         if self.mark(at) in OPENING:
@@ -137,11 +137,11 @@ class Reader:
         return self.comma(end)[0] if colon is None else self.start(colon + 1)
 
     def behind(self, at):
-        """The place behind a bracket and the comma that follows it."""
+        """The place after a bracket and the comma that follows it."""
         return self.comma(at + 1)[0]
 
     def value(self, at, levels, before):
-        """The place behind a value that begins here, in an array, in an object behind its key, or at the top."""
+        """The place after a value that begins here, in an array, in an object after its key, or at the top."""
         first = self.mark(at)
         if first in CLOSING:
             self.closing(at, before)
@@ -161,7 +161,7 @@ class Reader:
         raise Broken(self.behind(at), 'ExpectedColonAndValue' if before == ':' else 'Separator')
 
     def items(self, at, levels):
-        """The place behind the array whose bracket stands here."""
+        """The place after the array whose bracket is here."""
         at, may_close, may_begin = self.start(at + 1), True, True
         while True:
             if self.mark(at) == ']' and may_close:
@@ -172,7 +172,7 @@ class Reader:
             may_close, may_begin = not has_comma, has_comma
 
     def members(self, at, levels):
-        """The place behind the object whose brace stands here."""
+        """The place after the object whose brace is here."""
         at, may_close, may_begin = self.start(at + 1), True, True
         while True:
             first = self.mark(at)
@@ -186,7 +186,7 @@ class Reader:
             may_close, may_begin = not has_comma, has_comma
 
     def key(self, at):
-        """The place of the value of the key that stands here."""
+        """The place of the value of the key that is here."""
         first = self.mark(at)
         if first in OPENING:
             raise Broken(self.start(at + 1), 'Quotes')

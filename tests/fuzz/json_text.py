@@ -47,12 +47,12 @@ def read(data):
 
 
 def space(text, at):
-    """The place behind the white space."""
+    """The place after the white space."""
     return at if text[at] > ' ' else SPACE.match(text, at).end()
 
 
 def value(text, at, levels):
-    """The tree that begins here, with so many levels left, and the place behind it."""
+    """The tree that begins here, with so many levels left, and the place after it."""
     first = text[at]
     if first == '"':
         return string(text, at + 1)
@@ -69,7 +69,7 @@ def value(text, at, levels):
 
 
 def items(text, at, levels):
-    """A list, behind its bracket."""
+    """A list, after its bracket."""
     if levels < 0:
         raise NotJson
     found = []
@@ -88,7 +88,7 @@ def items(text, at, levels):
 
 
 def members(text, at, levels):
-    """An object, behind its brace."""
+    """An object, after its brace."""
     if levels < 0:
         raise NotJson
     found = {}
@@ -112,7 +112,7 @@ def members(text, at, levels):
 
 
 def string(text, at):
-    """A string, behind its first quote."""
+    """A string, after its first quote."""
     end = PLAIN.match(text, at).end()
     if text[end] == '"':
         return text[at:end], end + 1
@@ -129,7 +129,7 @@ def string(text, at):
 
 
 def escape(text, at):
-    """The character of an escape, behind its backslash."""
+    """The character of an escape, after its backslash."""
     if text[at] in ESCAPES:
         return ESCAPES[text[at]], at + 1
     high, at = unit(text, at)

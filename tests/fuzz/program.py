@@ -5,7 +5,7 @@ import signal
 from dataclasses import dataclass
 
 LONGEST_SECONDS = 60
-# How the program over lines tells a refusal of one text: the words, and where. A hint can follow.
+# How the program over lines reports the rejection of one text: the message, and where. A hint can follow.
 TOLD = re.compile(rb'bson: (?:line [0-9]+: )?(not JSON|bad object id|not Extended JSON)(?: at .*| \(.*)\n(?:bson: standard input .*\n)?')
 
 
@@ -42,7 +42,7 @@ class Program:
         self.path, self.words = path, words
 
     def answer(self, mode, data):
-        """Runs the program once. A run that doesn't end is killed, and its status tells so."""
+        """Runs the program once. A run that doesn't end is killed, and its status shows it."""
         input_end, input_start = os.pipe()
         output_end, output_start = os.pipe()
         error_end, error_start = os.pipe()

@@ -21,7 +21,7 @@ def tree(text):
 
 
 def parts(value, ours, theirs):
-    """Each part that differs: its kind, its content, and what stands in either text."""
+    """Each part that differs: its kind, its content, and what either text has."""
     kind, content = value
     if kind == "Document" and keys(ours) == keys(theirs) is not None:
         return [it for (_, inner), (_, a), (_, b) in zip(content, ours, theirs) for it in parts(inner, a, b)]

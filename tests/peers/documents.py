@@ -1,6 +1,6 @@
 """Random documents in canonical bytes, by kind and content as tests/fuzz/bson_bytes.py has them.
 
-No key begins with a dollar sign, so that each document has texts of its own; keys stand in any order, each once. Dates are
+No key begins with a dollar sign, so that each document has texts of its own; keys are in any order, each once. Dates are
 of any 64 bits, doubles of any that has a text, decimals in their canonical patterns, options of a regular expression
 ascend.
 """

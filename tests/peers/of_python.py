@@ -59,7 +59,7 @@ MADE = {
 
 
 def of_its_writer(value, is_top=True):
-    """The value that its writer makes of what is read: what the types of Python do not tell apart."""
+    """The value that its writer makes of what is read: what the types of Python do not distinguish."""
     kind, content = value
     if kind == "Document":
         pairs = [(key, of_its_writer(it, False)) for key, it in content]

@@ -1,7 +1,7 @@
-/* Loaded before the C library (LD_PRELOAD): refuses the request for memory whose number, counted from 1, stands in
+/* Loaded before the C library (LD_PRELOAD): refuses the request for memory whose number, counted from 1, is in
    the variable REFUSE, and at the end writes the number of requests that there were to the file descriptor TELL.
 
-   Where EACH_LINE is set the requests are counted anew behind each line that the program writes to standard output,
+   If EACH_LINE is set, the requests are counted anew after each line that the program writes to standard output,
    a number is written for each, and none is refused before the first line. */
 #define _GNU_SOURCE
 #include <errno.h>

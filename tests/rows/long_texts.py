@@ -106,7 +106,7 @@ def many():
 
 
 def out_of_order(pairs, outputs):
-    """The same of objects whose keys do not ascend by bytes, which a text has before or behind its escapes."""
+    """The same of objects whose keys do not ascend by bytes, which a text has escaped or unescaped."""
     alike = b"the first sixteen bytes are alike "
     yield ("keys alike in their first bytes", keyed((alike + key, text) for key, text in pairs[::-1]),
            keyed((alike + key, output) for key, output in outputs))

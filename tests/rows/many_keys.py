@@ -2,7 +2,7 @@
 others.
 
 Each is a call of bson_rows: the keys put in descending or ascending order and found, taken out from both ends, compared
-and hashed in another order, written, read from a text that has them all twice, and read from bytes where none may stand
+and hashed in another order, written, read from a text that has them all twice, and read from bytes where none may occur
 twice, with each once or one of them once more. A step that takes time in proportion to the number of keys would take minutes.
 """
 from dataclasses import dataclass

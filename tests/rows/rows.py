@@ -1,4 +1,4 @@
-"""The rows of this folder: a line `CALL ARGS => ANSWER` each, and comments behind '#'.
+"""The rows of this folder: a line `CALL ARGS => ANSWER` each, and comments after '#'.
 
 A value is written by Display and a refusal by Debug, unless the row begins with `{}`, `{:?}` or `{:#?}`, which then
 stands for both. Of a DeserializationError only its name is written, unless the row begins so.

@@ -1,4 +1,4 @@
-"""Documents from readers, to writers and one behind the other: what each call gives over a reader that gives pieces and
+"""Documents from readers, to writers and concatenated: what each call returns over a reader that delivers parts and
 writers that take one byte, also where one of them fails, by the reader and writer of tests/fuzz/bson_bytes.py."""
 import struct
 import sys
@@ -123,7 +123,7 @@ def run_dump(line, keeps_going, data, piece, reads, writes, reports):
 
 
 def asked(*calls):
-    """What stands behind these calls of tests/rows, and the answers."""
+    """What follows these calls of tests/rows, and the answers."""
     for row in rows():
         words = row.call.decode(errors="replace").split(" ", 2)
         if words[0] == "bytes" and words[1] in calls and not row.name.startswith("{"):
@@ -143,7 +143,7 @@ def has_text(data):
 
 
 def dumps():
-    """Those of the rows, and all documents of the rows that have a text in one, between such as are refused."""
+    """Those of the rows, and all documents of the rows that have a text in one, between rejected ones."""
     documents = [it for it in single_documents() if len(it) < 200]
     refused = [it for it in documents if not has_text(it) and has_length(it) and not is_document(it)]
     whole = b"".join(it + (refused[at % len(refused)] if at % 5 == 0 else b"")

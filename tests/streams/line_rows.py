@@ -65,14 +65,14 @@ def of_text(form, text):
 
 @lru_cache(None)
 def place_of(text):
-    """What bson_program tells of a refused text, given alone, behind the words for its fault, without a hint."""
+    """What bson_program adds to the message of the fault of a rejected text, given alone, without a hint."""
     done = subprocess.run([LINES, "lines", "check", "--strict"], input=b"\n" + text, capture_output=True, timeout=120)
     return done.stderr.partition(b"\n")[0].removeprefix(b"bson: line 2: " + of_text("relaxed", text)[1])
 
 
 def expected(task, on_refusal, text, at_end):
     """What a run over the lines of the text gives, each by bson_cli, and the places of faults by bson_program; and over
-    those that a newline ends, where the reader fails behind the text."""
+    those that a newline ends, if the reader fails after the text."""
     lines = text.removeprefix(BYTE_ORDER_MARK).split(b"\n")
     last = lines.pop()
     at_start = text and not lines and last == b""

@@ -23,7 +23,7 @@ NAMED = re.compile(r"`(--[a-z][a-z-]*)")
 
 @functools.cache
 def words_of(script):
-    """The text that has the options of a script, or None if there is no such script."""
+    """The text that has the options of a script, or None if there is no script of this name."""
     if script in ("bson", "./bson"):
         return subprocess.run([f"{sources.TOP}/bson", "--help"], capture_output=True, text=True, timeout=60).stdout
     path = f"{sources.TOP}/{re.sub(r'^[./]+', '', script)}"

@@ -32,7 +32,7 @@ def checks(program):
     yield [] if found else [f"{ERRORS} has no rows"]
     for message, text, option, works in found:
         status, said = checked(program, text, *([option] if option else []))
-        # (behind the message a hint may say what reads the input)
+        # (after the message a hint may say what reads the input)
         line, _, hint = said.partition("\n")
         is_right = (status, line) == (1, f"bson: line 1: {message}") and (not hint or hint.startswith("bson: standard input "))
         yield [] if is_right else [f"{ERRORS}: {text} is answered by {said}"]

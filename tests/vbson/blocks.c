@@ -84,7 +84,7 @@ static void first_lines(void) {
     free(many);
 }
 
-/* ---- documents in a block, and lines that become such */
+/* ---- documents in a block, and lines that become documents */
 
 static const char block[] = "\x0c\0\0\0\x10n\0\5\0\0\0\0" "\x09\0\0\0\x08" "a\0\2\0" "\x05\0\0\0\0";
 

@@ -1,4 +1,4 @@
-/* Every call, on every status that it answers, and what it leaves behind. */
+/* Every call, on every status that it returns, and what it leaves in its arguments. */
 #include "check.h"
 
 /* ---- texts */
@@ -38,7 +38,7 @@ static void convert(void) {
     vbson_buffer_free(&out);
     vbson_buffer_free(&out);
 
-    /* only the bytes that are told are read */
+    /* only the bytes of the given length are read */
     CHECK(vbson_convert(VBSON_RELAXED, NULL, (const uint8_t *)"[1]]]", 3, &out) == VBSON_OK && out.len == 3);
     vbson_buffer_free(&out);
 }
@@ -110,7 +110,7 @@ static void keep_order(void) {
     CHECK(refuses_with(3, AS_GIVEN, "{}", VBSON_INVALID_ARGUMENT));
 }
 
-/* The path of an error as its keys and indexes, each behind a '/'. */
+/* The path of an error as its keys and indexes, each after a '/'. */
 static void print_path(const vbson_error *error, char *words, size_t size) {
     vbson_slice cursor = VBSON_SLICE_INIT, key = VBSON_SLICE_INIT, name = VBSON_SLICE_INIT;
     vbson_raw_value value = VBSON_RAW_VALUE_INIT;
@@ -463,7 +463,7 @@ static void damaged(void) {
     CHECK(vbson_encode(NULL, TEXT(text), &whole) == VBSON_OK && whole.len > 100);
     size_t others = 0;
     for (size_t bit = 0; bit < 9 * whole.len; bit++) {
-        /* (a block of its own, so that the sanitizer tells a byte past the end) */
+        /* (a block of its own, so that the sanitizer reports a byte past the end) */
         size_t len = bit < 8 * whole.len ? whole.len : bit - 8 * whole.len;
         uint8_t *bytes = malloc(len + 1);
         memcpy(bytes, whole.bytes, len);
@@ -488,7 +488,7 @@ static void damaged(void) {
 static uint8_t room[64];
 static size_t len;
 
-/* The room holds the text, and behind it what it held before. */
+/* The buffer has the text, followed by its old content. */
 static int holds(const char *text) {
     size_t i = strlen(text);
     if (len != i || memcmp(room, text, i) != 0) return 0;

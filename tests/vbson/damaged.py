@@ -1,4 +1,4 @@
-"""Two hundred small documents, each cut at each place and with each bit turned: what the library must tell of each, by the
+"""Two hundred small documents, each cut at each place and with each bit turned: what the library must report of each, by the
 checker of tests/fuzz (bson_bytes.py), as lines and answers of documents.py."""
 import random
 import sys
@@ -14,7 +14,7 @@ from documents import KINDS
 
 DOCUMENTS, MOST_BYTES = 200, 60
 # Fewer than one of any other kind is a sign that some are not met. (Neither a cut nor a bit makes a document that nests
-# deeper, or bytes behind one that is whole.)
+# deeper, or bytes after one that is whole.)
 LEAST = {"Depth": 0, "Trailing": 0}
 
 

@@ -138,7 +138,7 @@ def told_alike(refused):
 
 
 def blocks():
-    """Of all bytes of the rows one behind the other, and of all their texts as lines, what is wrong with the calls on blocks
+    """For all bytes of the rows concatenated, and for all their texts as lines, what is wrong with the calls on blocks
     beside those on each, or None. Bytes that do not begin with their length end a block of their own."""
     strings = [bytes.fromhex(line[3:]) for _, line, _ in cases() if line.startswith("is ")]
     whole = [it for it in strings if len(it) >= 5 and int.from_bytes(it[:4], "little") == len(it)]

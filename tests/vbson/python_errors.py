@@ -17,7 +17,7 @@ def try_places():
     blank, letter = no_digit % (" ", 1, "5 (xy)"), no_digit % ("z", 0, "zz (a)")
     early, quotes = "unexpected end of input", "keys and strings must be in double quotes"
     both = vbson.NotExtendedJson, vbson.BadObjectId
-    # (of a path and of a message 300 characters are told)
+    # (a path and a message are cut off after 300 characters)
     long, cut = "a" * 1000, "a" * 300 + ".."
     for text, words, path, why, error in (
             ("[1, 2", f"not JSON at column 5 ({early})", [], early, vbson.NotJson),

@@ -1,6 +1,6 @@
 /* Refuses the first request for memory of a call, then the second, up to the first call that meets no refusal: each
  * answers OUT_OF_MEMORY and leaves what it was handed as it was, or answers as it does with ample memory; and no block
- * is left behind. Linked with --wrap=malloc,--wrap=realloc,--wrap=free. */
+ * is leaked. Linked with --wrap=malloc,--wrap=realloc,--wrap=free. */
 #include "check.h"
 
 void *__real_malloc(size_t size);

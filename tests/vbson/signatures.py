@@ -262,7 +262,7 @@ RAW = {
 
 
 def raw_fault(name):
-    """Such a struct, as the sources, the header and the wrapper in Rust have it."""
+    """A struct of RAW, as the sources, the header and the wrapper in Rust have it."""
     source, rust, wanted = RAW[name]
     sources = "".join(it.read_text() for it in sorted(SOURCES.glob("*.rt")))
     has_fields = source in re.sub(r"(?m)^ *///.*\n", "", sources) and rust in (LANGUAGES / "rust/src/call.rs").read_text()

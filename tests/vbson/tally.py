@@ -37,7 +37,7 @@ def run(words, **how):
 
 
 def wants_status_0(tally, name, words, **how):
-    """Whether the command did well, which is told."""
+    """Whether the command succeeded, which is printed."""
     ran = run(words, **how)
     said = f"status {ran.returncode}: {ran.stdout[-800:]}{ran.stderr[-800:]}"
     tally.told(name, None if ran.returncode == 0 else said)

@@ -1,4 +1,4 @@
-//! A caller of the library from another crate, with a contract of its own that stands on the
+//! A caller of the library from another crate, with a contract of its own that is proved from the
 //! library's.
 #![tactic(auto)]
 

@@ -1,4 +1,4 @@
--- Which documents come back from their texts and their bytes.
+-- Which documents round-trip through their texts and their bytes.
 use Rattle.std.specs.Prelude.{◌≡◌, ◌≤◌, ℕ, suc, true}
 use Rattle.serde_json.specs.Data.{Data, depth}
 use Rattle.serde_json.specs.Read.{max_depth}
@@ -14,17 +14,17 @@ use Rattle.bson_convert.specs.declared.error.Error.TheVariants as errors
 use Rattle.bson_pairs.specs.declared.again.NotAgain.{NotAgain}
 use Rattle.bson_pairs.specs.declared.again.NotAgain.TheVariants.{NoBytes, NoDocument, NoText}
 
--- the document has no wrapper's key of its own, it is in normal form, and its text nests no deeper than texts may
+-- the document is plain and in normal form, and its text nests no deeper than JSON texts may
 pub record RoundTrips (ps : Pairs) : Type 0 where
   pub is_plain : plain (document ps) ≡ true
   pub is_normal : normal_form (document ps) ≡ document ps
   pub is_shallow : (t : Data) → WrittenInOrder Finite Canonical (document ps) t → depth t ≤ max_depth
 
--- documents, arrays and scopes stand at most so many in each other, the document itself counted
+-- documents, arrays and scopes nest at most so deep, with the document itself counted
 abbrev pub NestsAtMost : ℕ → Pairs → Type 0
 NestsAtMost depth ps = (d : ℕ) × (depth ≡ suc d) × NestsPairs ps d
 
--- a request for memory was refused
+-- an allocation failed
 abbrev pub IsWant : NotAgain → Type 0
 IsWant (NoBytes e) = e ≡ errors.OutOfMemory
 IsWant (NoDocument e) = e ≡ read_errors.OutOfMemory

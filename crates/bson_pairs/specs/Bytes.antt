@@ -1,4 +1,4 @@
--- Why bytes gave no text, and a text no bytes.
+-- Why bytes have no text, and a text has no bytes.
 use Rattle.std.specs.Prelude.{◌≡◌, ℕ, List}
 use Rattle.bson.specs.TextMeaning.{HasTextMeaning, IsTextFault}
 use Rattle.bson.specs.Value.{Pairs, Value, document}
@@ -11,23 +11,23 @@ use Rattle.bson_pairs.specs.declared.bytes.NoBytes.TheVariants as refusals
 use Rattle.bson_pairs.specs.declared.bytes.NoText.{NoText}
 use Rattle.bson_pairs.specs.declared.bytes.NoText.TheVariants.{NoDocument, FiniteDouble, OutOfMemory}
 
--- a request for memory was refused
+-- an allocation failed while bytes were converted to text
 abbrev pub IsWantOfMemory : NoText → Type 0
 IsWantOfMemory (NoDocument e) = e ≡ errors.OutOfMemory
 IsWantOfMemory FiniteDouble = ⊥
 IsWantOfMemory OutOfMemory = Unit {0}
 
--- the text means a value that is no document
+-- the text denotes a value that is not a document
 abbrev pub TextIsNotDocument : List ℕ → Type 0
 TextIsNotDocument text = (v : Value) × HasTextMeaning text v × ((ps : Pairs) → v ≡ document ps → ⊥)
 
--- why the text gives no bytes: it means nothing, or no document, or a document that fails; or memory ran out
+-- why the text has no bytes: it is invalid, its value is not a document, the document does not fit, or memory ran out
 abbrev pub GivesNoBytes : List ℕ → NoBytes → Type 0
 GivesNoBytes text (refusals.NoValue e) = IsTextFault text e
 GivesNoBytes text refusals.NoDocument = TextIsNotDocument text
 GivesNoBytes text (refusals.NoBytes e) = (ps : Pairs) × HasTextMeaning text (document ps) × IsRefusal e ps
 
--- a request for memory was refused
+-- an allocation failed while a text was converted to bytes
 abbrev pub IsWantOfBytes : NoBytes → Type 0
 IsWantOfBytes (refusals.NoValue e) = e ≡ text_errors.OutOfMemory
 IsWantOfBytes refusals.NoDocument = ⊥

@@ -17,18 +17,18 @@ use bson_convert::error::Error;
 use bson_run::encode::encode;
 use std::alloc::Global;
 
-/// Why there is no way and back.
+/// Why a conversion and its inverse fail.
 #[derive(Debug, Drop)]
 pub enum NotAgain {
-    /// The text gives no bytes.
+    /// The text has no bytes.
     NoBytes(Error),
-    /// The bytes are no document.
+    /// The bytes are not a document.
     NoDocument(de::Error),
-    /// The document gives no text.
+    /// The document has no text.
     NoText(WriteError),
 }
 
-// Doubles are read as bytes have them, and keys are as given.
+// Finite doubles are accepted, and keys are as given.
 fn options() -> Options
     ensures { result ≡ mongodb_options }
 {
@@ -37,10 +37,10 @@ fn options() -> Options
 
 /// Returns the text of the document that the bytes encode: canonical, its keys in their own order.
 pub fn decode_bytes(alloc: Global, bytes: &[u8], depth: usize) -> Result<String, NotAgain>
-    // It is that of the one document that they are in the grammar.
+    // It is the text of the one document that the bytes are in the grammar.
     ensures ok { (ps : Pairs) → IsRead depth bytes.now ps
         → IfOk result (λ text. IsTextInOrder Finite Canonical (document ps) (string_bytes text)) }
-    // Where they are a document, memory alone is wanting.
+    // If the bytes are a document, only an allocation can fail.
     ensures only { (ps : Pairs) → IsRead depth bytes.now ps → IfErr result (λ e. IsWant e) }
 {
     let document = match from_slice(alloc, bytes, depth) {
@@ -55,10 +55,10 @@ pub fn decode_bytes(alloc: Global, bytes: &[u8], depth: usize) -> Result<String,
 
 /// Converts a text to bytes, and those to a text.
 pub fn text_again(alloc: Global, text: &str, depth: usize) -> Result<String, NotAgain>
-    // The canonical text of a document, its keys in order, comes back.
+    // The canonical text of a document, with its keys as given, round-trips.
     ensures same { (ps : Pairs) → IsTextInOrder Finite Canonical (document ps) text.now → RoundTrips ps → NestsAtMost depth ps
         → IfOk result (λ again. string_bytes again ≡ text.now) }
-    // Where the document has bytes, memory alone is wanting.
+    // If the document has bytes, only an allocation can fail.
     ensures only { (ps : Pairs) → IsTextInOrder Finite Canonical (document ps) text.now → RoundTrips ps → NestsAtMost depth ps
         → FitsDocument ps → IfErr result (λ e. IsWant e) }
 {
@@ -71,10 +71,10 @@ pub fn text_again(alloc: Global, text: &str, depth: usize) -> Result<String, Not
 
 /// Converts bytes to a text, and that to bytes.
 pub fn bytes_again(alloc: Global, bytes: &[u8], depth: usize) -> Result<Vec<u8>, NotAgain>
-    // The bytes that a document is written as come back.
+    // The canonical bytes of a document round-trip.
     ensures same { (ps : Pairs) → IsCanonical depth bytes.now ps → RoundTrips ps
         → IfOk result (λ again. again.items ≡ bytes.now) }
-    // Memory alone is wanting for it.
+    // Only an allocation can fail.
     ensures only { (ps : Pairs) → IsCanonical depth bytes.now ps → RoundTrips ps → IfErr result (λ e. IsWant e) }
 {
     let text = decode_bytes(alloc, bytes, depth)?;

@@ -16,23 +16,23 @@ use bson::extjson::de::TextError;
 use bson_codec::{de, from_slice, ser, to_vec};
 use std::alloc::Global;
 
-/// Why bytes give no text.
+/// Why bytes have no text.
 #[derive(Debug, Drop)]
 pub enum NoText {
-    /// They are no document.
+    /// The bytes are not a document.
     NoDocument(de::Error),
-    /// The document has a finite double other than zero, and so no text.
+    /// The document has a finite double other than zero, so it has no text.
     FiniteDouble,
-    /// A request for memory was refused.
+    /// An allocation failed.
     OutOfMemory,
 }
 
 /// Returns the canonical text of the document that the bytes encode.
 pub fn text_of_bytes(alloc: Global, bytes: &[u8], depth: usize) -> Result<String, NoText>
-    // It is the text of the one document that they are in the grammar.
+    // It is the text of the one document that the bytes are in the grammar.
     ensures ok { IfOk result (λ text. (ps : Pairs) × IsRead depth bytes.now ps
         × IsTextIn Canonical (document ps) (string_bytes text)) }
-    // Where they are a document with no finite double but zeros, memory alone is wanting.
+    // If they are a document without finite doubles except zeros, only an allocation can fail.
     ensures only { (ps : Pairs) → IsRead depth bytes.now ps → writable (document ps) ≡ true
         → IfErr result (λ e. IsWantOfMemory e) }
 {
@@ -47,12 +47,12 @@ pub fn text_of_bytes(alloc: Global, bytes: &[u8], depth: usize) -> Result<String
     }
 }
 
-/// Why a text gives no bytes.
+/// Why a text has no bytes.
 #[derive(Debug, Drop)]
 pub enum NoBytes {
-    /// It means no value.
+    /// The text is not valid Extended JSON.
     NoValue(TextError),
-    /// It means a value that is no document.
+    /// The value of the text is not a document.
     NoDocument,
     /// The document has no bytes.
     NoBytes(ser::Error),
@@ -64,10 +64,10 @@ pub fn bytes_of_text(alloc: Global, text: &[u8]) -> Result<Vec<u8>, NoBytes>
     ensures ok { IfOk result (λ out. (ps : Pairs) × HasTextMeaning text.now (document ps)
         × (out.items ≡ document_bytes ps)
         × ((d : ℕ) → NestsPairs ps d → IsRead (suc d) out.items (as_written ps))) }
-    // Why there are none: the first fault of the text, a value that is no document, or the cause
-    // of the document's first part that does not fit.
+    // Why there are none: the first error of the text, a value that is not a document, or the first
+    // part of the document that does not fit.
     ensures refused { IfErr result (λ e. GivesNoBytes text.now e) }
-    // Where the text means a document each part of which fits, memory alone is wanting.
+    // If the text denotes a document each part of which fits, only an allocation can fail.
     ensures only { (ps : Pairs) → HasTextMeaning text.now (document ps) → FitsDocument ps
         → IfErr result (λ e. IsWantOfBytes e) }
 {

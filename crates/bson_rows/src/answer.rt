@@ -1,13 +1,13 @@
-//! What is written for a row.
+//! The output line of a row.
 use crate::stop::{Refusal, Stop};
 use bson::spec::BinarySubtype;
 use std::alloc::AllocError;
 use std::fmt::{Debug, Display};
 
-/// How what a call answers is written.
+/// How the result of a call is written.
 #[derive(Clone, Copy)]
 pub enum Style {
-    /// A value by Display, a refusal by Debug.
+    /// A value by Display, an error by Debug.
     Plain,
     /// `{}`.
     Display,
@@ -17,7 +17,7 @@ pub enum Style {
     Pretty,
 }
 
-/// The answer of a row, as far as it is written.
+/// The output line of a row, as far as it is written.
 #[derive(Drop)]
 pub struct Answer {
     text: String,
@@ -26,7 +26,7 @@ pub struct Answer {
 }
 
 impl Answer {
-    /// No answer yet. What is written stands in the text's room as long as that suffices.
+    /// Returns an empty output. Output that fits the capacity of the string allocates no memory.
     pub(crate) fn new(text: String) -> Answer {
         Answer {
             text,
@@ -35,19 +35,19 @@ impl Answer {
         }
     }
 
-    /// Begins the answer of the next row.
+    /// Clears the output, for the next row.
     pub(crate) fn begin(&mut self, style: Style) {
         self.text.clear();
         self.style = style;
         self.stop = None;
     }
 
-    /// Leaves the row without an answer of its own.
+    /// Sets the error that is written instead of a result.
     pub(crate) fn stop(&mut self, stop: Stop) {
         self.stop = Some(stop);
     }
 
-    /// What is written for the row.
+    /// Returns the output line of the row.
     pub(crate) fn line(&self) -> &str {
         match self.stop {
             Some(stop) => stop.line(),
@@ -55,7 +55,7 @@ impl Answer {
         }
     }
 
-    /// The style that refusals are written in, which is plain where the row names none.
+    /// Returns the style of errors, which is plain if the row names none.
     pub(crate) fn style(&self) -> Style {
         self.style
     }
@@ -66,19 +66,19 @@ impl Answer {
         }
     }
 
-    /// Puts a text as it is.
+    /// Writes a string as it is.
     pub(crate) fn text(&mut self, text: &str) {
         let written = self.text.push_str(text);
         self.note(written);
     }
 
-    /// Puts a part by Display, whatever the style.
+    /// Writes a part by Display, whatever the style.
     pub(crate) fn put<T: Display>(&mut self, part: &T) {
         let written = write!(self.text, "{part}");
         self.note(written);
     }
 
-    /// Puts a part by Debug, whatever the style.
+    /// Writes a part by Debug, whatever the style.
     pub(crate) fn debug<T: Debug>(&mut self, part: &T) {
         let written = write!(self.text, "{part:?}");
         self.note(written);
@@ -89,7 +89,7 @@ impl Answer {
         self.note(written);
     }
 
-    /// Puts the two hexadecimal digits of each byte.
+    /// Writes the two hexadecimal digits of each byte.
     pub(crate) fn hex(&mut self, bytes: &[u8]) {
         for byte in bytes {
             let written = write!(self.text, "{byte:02x}");
@@ -97,32 +97,32 @@ impl Answer {
         }
     }
 
-    /// Puts `{:x}` of the subtype behind a blank.
+    /// Writes a space, and `{:x}` of the subtype.
     pub(crate) fn lower_hex(&mut self, subtype: BinarySubtype) {
         let written = write!(self.text, " {subtype:x}");
         self.note(written);
     }
 
-    /// Puts a blank, unless the answer begins here.
+    /// Writes a space, unless the output is empty.
     pub(crate) fn gap(&mut self) {
         if !self.text.is_empty() {
             self.text(" ");
         }
     }
 
-    /// Puts a text behind a blank.
+    /// Writes a space, and a string.
     pub(crate) fn word(&mut self, word: &str) {
         self.gap();
         self.text(word);
     }
 
-    /// Puts a part by Display behind a blank.
+    /// Writes a space, and a part by Display.
     pub(crate) fn item<T: Display>(&mut self, part: &T) {
         self.gap();
         self.put(part);
     }
 
-    /// Puts the value in the row's style, by Display where it names none.
+    /// Writes the value in the row's style, or by Display if the row names none.
     pub(crate) fn show<T: Display + Debug>(&mut self, value: &T) {
         match self.style {
             Style::Plain | Style::Display => self.put(value),
@@ -131,7 +131,7 @@ impl Answer {
         }
     }
 
-    /// Puts a value that has no Display.
+    /// Writes a value that has no Display.
     pub(crate) fn show_debug<T: Debug>(&mut self, value: &T) {
         match self.style {
             Style::Pretty => self.debug_pretty(value),
@@ -139,7 +139,7 @@ impl Answer {
         }
     }
 
-    /// Puts why a call gave no value, in the row's style, by Debug where it names none.
+    /// Writes the error of a call in the row's style, or by Debug if the row names none.
     pub(crate) fn refuse<E: Refusal>(&mut self, error: &E) {
         if error.is_out_of_memory() {
             self.stop = Some(Stop::OutOfMemory);
@@ -152,7 +152,7 @@ impl Answer {
         }
     }
 
-    /// Puts what a call answered.
+    /// Writes the result of a call.
     pub(crate) fn result<T: Display + Debug + Drop, E: Refusal>(&mut self, answer: Result<T, E>) {
         match answer {
             Ok(value) => self.show(&value),
@@ -160,7 +160,7 @@ impl Answer {
         }
     }
 
-    /// Puts what a call answered whose value has no Display.
+    /// Writes the result of a call, whose value has no Display.
     pub(crate) fn result_debug<T: Debug + Drop, E: Refusal>(&mut self, answer: Result<T, E>) {
         match answer {
             Ok(value) => self.show_debug(&value),
@@ -168,7 +168,7 @@ impl Answer {
         }
     }
 
-    /// Puts a copy of the value, and before it whether it is another one.
+    /// Writes a copy of the value, and before it `another` if it is not equal.
     pub(crate) fn copy<T: Display + Debug + PartialEq + Drop, E: Refusal>(
         &mut self,
         value: &T,
@@ -179,7 +179,7 @@ impl Answer {
         }
     }
 
-    /// Puts a copy of a value that has no Display, and before it whether it is another one.
+    /// Writes a copy of a value that has no Display, and before it `another` if it is not equal.
     pub(crate) fn copy_debug<T: Debug + PartialEq + Drop, E: Refusal>(
         &mut self,
         value: &T,
@@ -190,7 +190,7 @@ impl Answer {
         }
     }
 
-    /// The copy, once it is told whether it is another value; or why there is none.
+    /// Writes `another` if the copy is not equal, and returns it; or writes why there is none.
     fn compared<T: PartialEq + Drop, E: Refusal>(
         &mut self,
         value: &T,
@@ -210,7 +210,7 @@ impl Answer {
         }
     }
 
-    /// Puts what is there behind a blank, or `None`.
+    /// Writes a space, and the value or `None`.
     pub(crate) fn reply<T: Display + Drop>(&mut self, reply: Option<T>) {
         match reply {
             Some(value) => self.item(&value),
@@ -218,12 +218,12 @@ impl Answer {
         }
     }
 
-    /// Puts how the two compare.
+    /// Writes how the two compare.
     pub(crate) fn order<T: Ord + Drop>(&mut self, one: T, other: T) {
         self.debug(&one.cmp(&other));
     }
 
-    /// Puts ` NAME=` and what is there, if anything is.
+    /// Writes ` NAME=` and the value, if there is one.
     pub(crate) fn named<T: Debug + Drop>(&mut self, name: &str, found: Option<T>) {
         if let Some(value) = found {
             self.word(name);

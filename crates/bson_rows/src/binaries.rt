@@ -45,7 +45,7 @@ pub(crate) fn order_of(word: &str) -> Result<UuidRepresentation, Stop> {
     }
 }
 
-/// The subtype and the bytes of the binary. `plain` stands for `from_uuid`.
+/// Writes the subtype and the bytes of the binary. `plain` calls `from_uuid`.
 fn to_order(alloc: Global, text: &str, out: &mut Answer) -> Outcome {
     let (word, bytes) = cut(text);
     let id = Uuid::from_bytes(sixteen(bytes)?);
@@ -70,7 +70,7 @@ pub(crate) fn put_binary<E: Refusal>(made: Result<Binary, E>, out: &mut Answer) 
     }
 }
 
-/// The UUID of a binary of the subtype's byte and these bytes. `plain` stands for `to_uuid`.
+/// Writes the UUID of a binary with the subtype's byte and these bytes. `plain` calls `to_uuid`.
 fn from_order(alloc: Global, text: &str, out: &mut Answer) -> Outcome {
     let (word, rest) = cut(text);
     let binary = binary_of(alloc, rest)?;

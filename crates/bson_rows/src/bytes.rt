@@ -62,7 +62,7 @@ fn nested(alloc: Global, name: &str, text: &str, out: &mut Answer) -> Outcome {
     Ok(())
 }
 
-/// No key may stand twice.
+/// Returns options that reject duplicate keys.
 fn once() -> ReadOptions {
     ReadOptions {
         duplicate_keys: DuplicateKeys::Refuse,
@@ -96,7 +96,7 @@ fn put_checked(checked: Read<()>, out: &mut Answer) {
     }
 }
 
-/// The document that a reader of the bytes gives, and behind a `+` the bytes that it has left.
+/// Writes the document that is read from a reader of the bytes, and after a `+` the bytes that remain.
 fn from(alloc: Global, bytes: &[u8], out: &mut Answer) {
     let mut reader = bytes;
     out.result(from_reader(alloc, &mut reader, DEPTH));
@@ -149,7 +149,7 @@ fn dump(alloc: Global, text: &str, out: &mut Answer) -> Outcome {
     run(alloc, run_of_it, bytes.as_slice(), out)
 }
 
-/// What a run over the documents wrote and told, and how it ended.
+/// Writes the output and the diagnostics of a run over the documents, and how it ended.
 fn run(alloc: Global, run: Run, bytes: &[u8], out: &mut Answer) -> Outcome {
     let mut reader = bytes;
     let mut written = Vec::with_capacity(alloc, ROOM)?;
@@ -168,7 +168,7 @@ fn run(alloc: Global, run: Run, bytes: &[u8], out: &mut Answer) -> Outcome {
     Ok(())
 }
 
-/// Puts the document, and behind a `+` the bytes behind it.
+/// Writes the document, and after a `+` the bytes that follow it.
 fn put_front(read: Read<(Document, &[u8])>, out: &mut Answer) {
     match read {
         Ok((document, rest)) => {

@@ -99,7 +99,7 @@ fn duration(text: &str) -> Result<Duration, Stop> {
     }
 }
 
-/// The checked difference, and the saturating one behind it.
+/// Writes the checked difference, and then the saturating one.
 fn put_since(at: DateTime, earlier: DateTime, out: &mut Answer) {
     match at.checked_duration_since(earlier) {
         Some(difference) => put_millis(difference, out),

@@ -61,7 +61,7 @@ fn run(alloc: Global, document: &mut Document, command: &str, out: &mut Answer) 
     Ok(())
 }
 
-/// The commands with a number.
+/// Runs a command that has a number.
 fn convert_stream(
     alloc: Global,
     document: &mut Document,

@@ -1,5 +1,5 @@
 //! Trees that are read, and values that are written: `canonical`, `relaxed`, `show`, `map` and
-//! `pretty`. A text that is refused is read by both readers.
+//! `pretty`. A rejected text is read by both readers.
 use crate::answer::{Answer, Style};
 use crate::held::{tree, value};
 use crate::steps;
@@ -11,7 +11,7 @@ use bson::{Bson, Document};
 use serde_json::Value;
 use std::alloc::{AllocError, Global};
 
-/// `FORM VALUE`: the value is read or made, and written. A refusal tells which one.
+/// `FORM VALUE`: the value is read or made, and written. An error shows which step failed.
 pub(crate) fn call(alloc: Global, form: &str, rest: &str, out: &mut Answer) -> Outcome {
     match rest.strip_prefix("made ") {
         Some(made) => put_value(alloc, form, steps::make_value(alloc, made)?, out),
@@ -22,7 +22,7 @@ pub(crate) fn call(alloc: Global, form: &str, rest: &str, out: &mut Answer) -> O
     }
 }
 
-/// Puts why the text's tree means nothing. The reader of texts must say so in the same words.
+/// Writes why the text's tree is not valid Extended JSON. The reader of texts must return the same message.
 fn put_refused(alloc: Global, text: &str, error: Error, out: &mut Answer) -> Outcome {
     let words = format!(in alloc; "{error}")?;
     put_fault(error, out)?;
@@ -63,7 +63,7 @@ fn put_read(alloc: Global, form: &str, read: Read<Bson>, out: &mut Answer) -> Ou
     }
 }
 
-/// Puts which refusal it is. What was expected of a tree is told only where the row names a style.
+/// Writes the error. The expected shape of a tree is written only if the row names a style.
 fn put_fault(error: Error, out: &mut Answer) -> Outcome {
     match (&error, out.style()) {
         (Error::DeserializationError { .. }, Style::Plain) => out.text("DeserializationError"),
@@ -115,7 +115,7 @@ pub(crate) fn text_of(alloc: Global, tree: Result<Value, WriteError>) -> Result<
     }
 }
 
-/// Puts what the three calls wrote, which must be alike.
+/// Writes the output of the three calls, which must be equal.
 pub(crate) fn put_written(
     text: Written,
     lent: Written,

@@ -1,4 +1,4 @@
-//! The value that a row names: by a JSON text that is read, or `made` of steps.
+//! Parses the value that a row names: a JSON text that is read, or steps after `made`.
 use crate::steps;
 use crate::stop::Stop;
 use bson::extjson::de::Error;
@@ -6,7 +6,7 @@ use bson::{Bson, Document};
 use serde_json::Value;
 use std::alloc::Global;
 
-/// The tree that the text holds.
+/// Parses the text as a tree.
 pub(crate) fn tree(alloc: Global, text: &str) -> Result<Value, Stop> {
     match Value::from_str(alloc, text) {
         Ok(tree) => Ok(tree),
@@ -15,7 +15,7 @@ pub(crate) fn tree(alloc: Global, text: &str) -> Result<Value, Stop> {
     }
 }
 
-/// The value that the text names. What can't be read is no value of a row.
+/// Parses the value that the text names. If it can't be read, the row is invalid.
 pub(crate) fn value(alloc: Global, text: &str) -> Result<Bson, Stop> {
     if let Some(made) = text.strip_prefix("made ") {
         return steps::make_value(alloc, made);
@@ -27,7 +27,7 @@ pub(crate) fn value(alloc: Global, text: &str) -> Result<Bson, Stop> {
     }
 }
 
-/// The document that the text names.
+/// Parses the document that the text names.
 pub(crate) fn document(alloc: Global, text: &str) -> Result<Document, Stop> {
     match value(alloc, text)? {
         Bson::Document(document) => Ok(document),

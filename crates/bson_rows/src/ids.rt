@@ -65,7 +65,7 @@ fn order(text: &str, out: &mut Answer) -> Outcome {
     Ok(())
 }
 
-/// `NAMESPACE BYTES`: what a copy of the pointer tells, and its parts.
+/// `NAMESPACE BYTES`: a copy of the pointer, and its parts.
 fn pointer(alloc: Global, text: &str, out: &mut Answer) -> Outcome {
     let (namespace, id) = cut(text);
     let id = id_of(id)?;

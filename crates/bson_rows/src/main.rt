@@ -1,9 +1,9 @@
 //! The program `bson_rows`: for each line `CALL ARGS` of standard input it makes that call of the
-//! library, and writes a line with what the call answered. The rows of tests/rows are run by it.
+//! library, and writes a line with the result of the call. It runs the rows of tests/rows.
 //!
-//! In reading order: `row` (a line and its call), `answer` (what is written for it), `stop` (why a
-//! call gives no answer), `words` (the parts of a line), `held` (values that a line names); then
-//! the calls, a file a subject.
+//! In reading order: `row` (a line and its call), `answer` (the output line of a row), `stop` (why a
+//! row has no result), `words` (parses arguments), `held` (parses values); then the calls, one file
+//! for each subject.
 #![tactic(auto)]
 
 mod answer;
@@ -38,7 +38,7 @@ use answer::Answer;
 use row::put_answer;
 use std::io;
 
-/// The longest answer for which no memory is asked while it is written.
+/// The longest output line that is written without an allocation.
 const ROOM: usize = 1 << 20;
 
 fn main(rt: HostRuntime) -> io::Result<()> {
@@ -52,7 +52,7 @@ fn main(rt: HostRuntime) -> io::Result<()> {
     Ok(())
 }
 
-/// The answer in one line: the end of a line in it is written as `↵`.
+/// Writes the output as one line: a newline in it is written as `↵`.
 fn write_line(rt: &impl Print, answer: &str) -> io::Result<()> {
     for (at, part) in answer.split('\n').enumerate() {
         if at > 0 {

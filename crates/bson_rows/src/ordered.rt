@@ -32,7 +32,7 @@ fn special() -> Options {
     }
 }
 
-/// Puts what the two calls wrote, which must be alike.
+/// Writes the output of the two calls, which must be equal.
 fn write_value(
     alloc: Global,
     options: Options,

@@ -1,4 +1,4 @@
-//! One row: its call, and the answer in place.
+//! One row: dispatches its call by name.
 use crate::answer::{Answer, Style};
 use crate::stop::Outcome;
 use crate::words::cut;
@@ -8,9 +8,9 @@ use crate::{
 };
 use std::alloc::Global;
 
-/// Makes the call of the row, and puts what it answers in place of what was in `answer`.
+/// Makes the call of the row, and replaces the output with its result.
 ///
-/// `{}`, `{:?}` and `{:#?}` before a row say how its value or its refusal is written.
+/// `{}`, `{:?}` and `{:#?}` before a row say how its value or its error is written.
 pub(crate) fn put_answer(alloc: Global, row: &str, answer: &mut Answer) {
     let (word, rest) = cut(row);
     let (style, call) = match word {
@@ -25,7 +25,7 @@ pub(crate) fn put_answer(alloc: Global, row: &str, answer: &mut Answer) {
     }
 }
 
-/// The calls, by their name.
+/// Dispatches the call by its name.
 fn called(alloc: Global, row: &str, out: &mut Answer) -> Outcome {
     let (name, rest) = cut(row);
     match name {

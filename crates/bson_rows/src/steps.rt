@@ -1,5 +1,5 @@
-//! Values made step by step, for those that no tree means: a step puts a value on a pile, or takes
-//! from it.
+//! Makes values step by step, for those that no tree denotes: a step pushes a value on a stack, or
+//! pops from it.
 //!
 //! `doc` and `list` begin an empty one; `put:KEY` and `add` put the topmost value into the document
 //! or the list below it; `scope:CODE` makes code of the document on top; each other step is a value
@@ -11,7 +11,7 @@ use bson::spec::BinarySubtype;
 use bson::{Bson, DateTime, Decimal128, Document, JavaScriptCodeWithScope, Regex};
 use std::alloc::Global;
 
-/// The value that is left on the pile.
+/// Returns the value that remains on the stack.
 pub(crate) fn make_value(alloc: Global, steps: &str) -> Result<Bson, Stop> {
     let mut pile = Vec::new(alloc);
     for step in steps.split(' ') {
@@ -23,7 +23,7 @@ pub(crate) fn make_value(alloc: Global, steps: &str) -> Result<Bson, Stop> {
     pop(&mut pile)
 }
 
-/// The value that the step puts on the pile.
+/// Returns the value that the step pushes on the stack.
 fn make_by(alloc: Global, pile: &mut Vec<Bson>, step: &str) -> Result<Bson, Stop> {
     let (name, rest) = cut_at_colon(step);
     match name {
@@ -36,7 +36,7 @@ fn make_by(alloc: Global, pile: &mut Vec<Bson>, step: &str) -> Result<Bson, Stop
     }
 }
 
-/// The topmost value, which leaves the pile.
+/// Pops the topmost value of the stack.
 fn pop(pile: &mut Vec<Bson>) -> Result<Bson, Stop> {
     pile.pop().ok_or(Stop::NotUnderstood)
 }

@@ -1,4 +1,4 @@
-//! Why a call gives no answer of its own.
+//! Why a row has no result, and the errors of calls.
 use bson::document::Refused;
 use bson::extjson::WriteError;
 use bson::store::Stopped;
@@ -9,19 +9,19 @@ use bson_double::DoubleError;
 use std::alloc::{AllocError, AllocFailed};
 use std::fmt;
 
-/// What stands in place of an answer.
+/// The error that is written instead of a result.
 #[derive(Clone, Copy)]
 pub enum Stop {
-    /// The row names no call, or its arguments are none of it.
+    /// The row names no call, or has invalid arguments.
     NotUnderstood,
-    /// No memory was found for the arguments, or for writing the answer.
+    /// An allocation failed for the arguments, or for the output.
     NoRoom,
-    /// The call itself answered out of memory.
+    /// The call itself returned out of memory.
     OutOfMemory,
 }
 
 impl Stop {
-    /// What is written in place of an answer.
+    /// Returns the line that is written instead of a result.
     pub(crate) fn line(self) -> &'static str {
         match self {
             Stop::NotUnderstood => "this row is not understood",
@@ -43,10 +43,10 @@ impl<T: Drop> From<AllocFailed<T>> for Stop {
     }
 }
 
-/// Whether a row's call was made, and answered.
+/// Whether a row's call was made, and its result written.
 pub type Outcome = Result<(), Stop>;
 
-/// What a call may answer in place of a value.
+/// An error that a call can return.
 pub trait Refusal: fmt::Display + fmt::Debug + Drop {
     /// Whether it is out of memory, for which all rows have one line.
     fn is_out_of_memory(&self) -> bool {

@@ -1,8 +1,8 @@
-//! The parts of a row.
+//! Parses the arguments of a row.
 use crate::stop::Stop;
 use std::alloc::Global;
 
-/// The text up to the first blank, and what stands behind it.
+/// Returns the text up to the first space, and the rest after it.
 pub(crate) fn cut(text: &str) -> (&str, &str) {
     match text.split_once(' ') {
         Some(parts) => parts,
@@ -10,7 +10,7 @@ pub(crate) fn cut(text: &str) -> (&str, &str) {
     }
 }
 
-/// The text up to the first colon, and what stands behind it.
+/// Returns the text up to the first colon, and the rest after it.
 pub(crate) fn cut_at_colon(text: &str) -> (&str, &str) {
     match text.split_once(':') {
         Some(parts) => parts,
@@ -18,7 +18,7 @@ pub(crate) fn cut_at_colon(text: &str) -> (&str, &str) {
     }
 }
 
-/// The bytes of hexadecimal digits.
+/// Parses bytes from hexadecimal digits.
 pub(crate) fn bytes_of(alloc: Global, text: &str) -> Result<Vec<u8>, Stop> {
     match hex::decode(alloc, text) {
         Ok(bytes) => Ok(bytes),
@@ -27,7 +27,7 @@ pub(crate) fn bytes_of(alloc: Global, text: &str) -> Result<Vec<u8>, Stop> {
     }
 }
 
-/// So many bytes of hexadecimal digits.
+/// Parses 16 bytes from hexadecimal digits.
 pub(crate) fn sixteen(text: &str) -> Result<[u8; 16], Stop> {
     use hex::FromHex;
     match <[u8; 16] as FromHex>::from_hex(text) {
@@ -36,7 +36,7 @@ pub(crate) fn sixteen(text: &str) -> Result<[u8; 16], Stop> {
     }
 }
 
-/// The pattern of 64 bits that sixteen hexadecimal digits name.
+/// Parses 16 hexadecimal digits as the 64 bits of a double.
 pub(crate) fn pattern_of(text: &str) -> Result<u64, Stop> {
     use hex::FromHex;
     match <[u8; 8] as FromHex>::from_hex(text) {
@@ -45,7 +45,7 @@ pub(crate) fn pattern_of(text: &str) -> Result<u64, Stop> {
     }
 }
 
-/// The byte that two hexadecimal digits name.
+/// Parses a byte from two hexadecimal digits.
 pub(crate) fn byte_of(text: &str) -> Result<u8, Stop> {
     use hex::FromHex;
     match <[u8; 1] as FromHex>::from_hex(text) {
@@ -54,7 +54,7 @@ pub(crate) fn byte_of(text: &str) -> Result<u8, Stop> {
     }
 }
 
-/// An integer.
+/// Parses an integer.
 pub(crate) fn number<N: std::str::FromStr>(text: &str) -> Result<N, Stop>
 where
     N::Err: Drop,

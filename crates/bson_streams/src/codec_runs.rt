@@ -9,8 +9,8 @@ use bson_codec::to_vec;
 use bson_run::order::OnRefusal;
 use std::alloc::{AllocError, Global};
 
-/// The answer of `from_reader`: `done` and how many bytes the reader has left, or its error. The
-/// document's bytes stand where a writer would have taken them.
+/// Returns the result of `from_reader`: `done` and how many bytes the reader has left, or its error.
+/// The document's bytes become the bytes of the writer.
 pub(crate) fn read(alloc: Global, ends: &mut Ends<'_>) -> Result<String, AllocError> {
     match from_reader(alloc, &mut ends.reader, DEPTH) {
         Ok(document) => {
@@ -24,7 +24,7 @@ pub(crate) fn read(alloc: Global, ends: &mut Ends<'_>) -> Result<String, AllocEr
     }
 }
 
-/// The answer of `to_writer` for the document of the text: `done`, or its error.
+/// Returns the result of `to_writer` for the document of the text: `done`, or its error.
 pub(crate) fn write_document(
     alloc: Global,
     text: &[u8],
@@ -46,8 +46,8 @@ fn document_of(alloc: Global, text: &[u8]) -> Option<Document> {
     }
 }
 
-/// The answer of `run_documents`, with finite doubles: `DOCUMENTS REFUSED`, or the document where it
-/// ended and the words for its fault.
+/// Returns the result of `run_documents`, with finite doubles: `DOCUMENTS REFUSED`, or the document
+/// at which the run ended and the message of its fault.
 pub(crate) fn documents(
     alloc: Global,
     line: Line,

@@ -1,16 +1,16 @@
-//! A reader that gives its bytes in pieces, and a writer that takes one byte a call. Both fail in
-//! the end.
+//! A reader that delivers its bytes in chunks, and a writer that accepts one byte a call. Both fail
+//! in the end.
 ghost use Rattle.std.specs.Prelude.{◌≡◌, IfOk};
 
 use std::io;
 use std::io::{ErrorKind, Read, Write};
 
-/// What a reader or a writer does once it goes no further.
+/// What a reader or a writer does after its last successful call.
 #[derive(Clone, Copy, PartialEq, Eq, Debug)]
 pub(crate) enum End {
-    /// It answers an error of this kind.
+    /// It returns an error of this kind.
     Fails(ErrorKind),
-    /// It gives, or takes, no byte.
+    /// It reads or writes no byte.
     NoByte,
 }
 
@@ -25,7 +25,7 @@ impl End {
     }
 }
 
-/// Gives at most `span` bytes a read, until `reads` reads were done.
+/// Reads at most `span` bytes a call, for `reads` calls.
 #[derive(Drop)]
 pub(crate) struct MemberSpans<'a> {
     pub rest: &'a [u8],
@@ -45,7 +45,7 @@ impl Read for MemberSpans<'_> {
     }
 }
 
-/// Takes one byte a call, until `calls` calls were done.
+/// Writes one byte a call, for `calls` calls.
 #[derive(Drop)]
 pub(crate) struct Drip {
     pub taken: Vec<u8>,

@@ -1,10 +1,10 @@
 //! The program `bson_streams`: runs of the libraries `bson_run` and `bson_codec` over readers that
-//! give their bytes in pieces and writers that take one byte a call, and that fail. tests/streams has
-//! the runs and what each must give.
+//! deliver their bytes in chunks and writers that accept one byte a call, and that fail. tests/streams
+//! has the runs and their expected results.
 //!
-//! Standard input has an order a line, then an empty line, and then the input of each run. For each
-//! order it writes a line `WRITTEN REPORTED ANSWER`, the bytes that the writer took and those that
-//! the report took, and a newline: the first two words are the numbers of these bytes.
+//! Standard input has one request on each line, then an empty line, and then the input of each run. For
+//! each request the program writes a line `WRITTEN REPORTED ANSWER`, the bytes that the writer and the
+//! report accepted, and a newline. The first two words are the numbers of these bytes.
 #![tactic(auto)]
 
 mod codec_runs;
@@ -32,7 +32,7 @@ fn main(rt: HostRuntime) -> io::Result<()> {
     Ok(())
 }
 
-/// What stands before the first empty line, and what stands behind it.
+/// Returns the bytes before the first empty line, and those after it.
 fn cut_at_empty_line(given: &[u8]) -> (&[u8], &[u8]) {
     for at in 0..given.len() {
         if given[at..].starts_with(b"\n\n") {

@@ -1,4 +1,4 @@
-//! What a line orders.
+//! Parses the request of a line: which call is made, and how its reader and writers fail.
 use crate::failing::End;
 use bson::extjson::{Form, KeyOrder};
 use bson_codec::documents::Line;
@@ -7,7 +7,7 @@ use bson_run::order::{OnRefusal, Task};
 use std::io::ErrorKind;
 use std::str;
 
-/// The call of an order.
+/// The call of a request.
 #[derive(Clone, Copy, PartialEq, Eq, Debug)]
 pub(crate) enum Call {
     Run(Mode),
@@ -19,23 +19,23 @@ pub(crate) enum Call {
     RunDocuments(Line, KeyOrder, OnRefusal),
 }
 
-/// A line `CALL PIECE READS WRITES REPORTS END`.
+/// A request: a line `CALL PIECE READS WRITES REPORTS END`.
 #[derive(Clone, Copy, PartialEq, Eq, Debug)]
 pub(crate) struct Order {
     pub call: Call,
-    /// The reader gives so many bytes a read at most.
+    /// The largest number of bytes of a read.
     pub span: usize,
-    /// The reader gives so many reads.
+    /// The number of reads before the reader fails.
     pub reads: u64,
-    /// The writer takes so many bytes.
+    /// The number of bytes that the writer accepts.
     pub writes: u64,
-    /// The report takes so many bytes.
+    /// The number of bytes that the report accepts.
     pub reports: u64,
-    /// What each of them then does.
+    /// What each of them does after that.
     pub end: End,
 }
 
-/// The order of the line.
+/// Parses the request of a line.
 pub(crate) fn order_of(line: &[u8]) -> Option<Order> {
     let mut words = str::from_utf8(line).ok()?.split(' ');
     Some(Order {

@@ -1,4 +1,4 @@
-//! A run, and what is told of it.
+//! Makes a run, and writes its result.
 use crate::codec_runs;
 use crate::failing::{Drip, MemberSpans};
 use crate::order::{Call, Order};
@@ -12,7 +12,7 @@ use bson_run::lines::LineRun;
 use bson_run::order::{OnRefusal, Task};
 use std::alloc::{AllocError, Global};
 
-/// The longest output for which no memory is asked while it is written.
+/// The longest output that is written without an allocation.
 const ROOM: usize = 4096;
 
 /// The reader and the writers of a run.
@@ -46,7 +46,7 @@ impl<'a> Ends<'a> {
     }
 }
 
-/// Makes the run that is ordered, and tells what it answered and what its writers took.
+/// Makes the run of the request. Returns its result, and the bytes that its writers accepted.
 pub(crate) fn ran(alloc: Global, order: Order, input: &[u8]) -> Result<Vec<u8>, AllocError> {
     let mut ends = Ends::of(alloc, order, input)?;
     let answer = match order.call {
@@ -75,7 +75,7 @@ pub(crate) fn ran(alloc: Global, order: Order, input: &[u8]) -> Result<Vec<u8>, 
     )
 }
 
-/// The answer of `run`: `done`, or the line of its fault.
+/// Returns the result of `run`: `done`, or the line of its fault.
 fn whole(alloc: Global, mode: Mode, ends: &mut Ends<'_>) -> Result<String, AllocError> {
     match run(alloc, mode, &mut ends.reader, &mut ends.writer) {
         Ok(()) => String::from_str(alloc, "done"),
@@ -83,8 +83,8 @@ fn whole(alloc: Global, mode: Mode, ends: &mut Ends<'_>) -> Result<String, Alloc
     }
 }
 
-/// The answer of `convert` or `convert_text`, as that of `run`. What it gave stands where a
-/// writer would have taken it.
+/// Returns the result of `convert` or `convert_text`, in the form of that of `run`. The output
+/// becomes the bytes of the writer.
 fn converted(
     alloc: Global,
     answer: Result<Vec<u8>, Error>,
@@ -107,8 +107,8 @@ fn line_of(error: &Error) -> &'static str {
     }
 }
 
-/// The answer of a run over lines: `LINES REFUSED`, or the line where it stopped and the words for its
-/// fault.
+/// Returns the result of a run over lines: `LINES REFUSED`, or the line at which it stopped and the
+/// message of its fault.
 fn by_lines(
     alloc: Global,
     task: Task,

@@ -1,5 +1,5 @@
-//! Values that are written in their place: what a closure makes of them, and that a call which
-//! finds nothing to write leaves the whole document as it was.
+//! Values that are changed in place by a closure. A call that finds no value to change leaves the
+//! whole document as it was.
 use crate::given::{filled, put};
 use bson::document::ValueAccessError;
 use bson::{Bson, Document};
@@ -7,7 +7,7 @@ use std::alloc::{AllocError, Global};
 use std::process::Abort;
 use std::test::Fail;
 
-/// Each key of one letter in the text, with 1, 2 and so on.
+/// Returns a document with each letter of the text as a key, with the values 1, 2 and so on.
 fn lettered(alloc: Global, keys: &str) -> Result<Document, AllocError> {
     let mut document = Document::new(alloc);
     let mut number = 0i32;
@@ -20,7 +20,7 @@ fn lettered(alloc: Global, keys: &str) -> Result<Document, AllocError> {
     Ok(document)
 }
 
-/// `b` with 1, `inner` with the lettered document of `keys`, and `a` with 3.
+/// Returns a document of `b` with 1, `inner` with the document of the letters, and `a` with 3.
 fn nested(alloc: Global, keys: &str) -> Result<Document, AllocError> {
     let mut document = filled(alloc, &[("b", 1)])?;
     let inner = Bson::Document(lettered(alloc, keys)?);
@@ -29,8 +29,8 @@ fn nested(alloc: Global, keys: &str) -> Result<Document, AllocError> {
     Ok(document)
 }
 
-/// Whether the two documents have the same pairs in the same order, and the first finds each of its
-/// keys.
+/// Returns whether the two documents have the same pairs in the same order, and the first finds each
+/// of its keys.
 fn is_as(document: &Document, before: &Document) -> bool {
     let mut left = before.iter();
     for (key, value) in document {
@@ -46,7 +46,7 @@ fn is_as(document: &Document, before: &Document) -> bool {
     left.next().is_none()
 }
 
-/// Where there is no such place, nothing is called and the document is as it was, with few pairs
+/// If no pair has the index, the closure is not called and the document is unchanged, with few pairs
 /// and with many.
 #[test]
 fn refused_nowhere_behind_the_last_place(rt: HostRuntime) -> Result<(), Fail> {
@@ -72,8 +72,8 @@ fn refused_nowhere_behind_the_last_place(rt: HostRuntime) -> Result<(), Fail> {
     Ok(())
 }
 
-/// What the closure leaves is the value at the place, its answer comes back, and the other pairs
-/// stay.
+/// The value at the index is what the closure leaves, its result is returned, and the other pairs
+/// are unchanged.
 #[test]
 fn refused_nowhere_at_a_place(rt: HostRuntime) -> Result<(), Fail> {
     let alloc = rt.alloc();
@@ -103,8 +103,8 @@ fn refused_nowhere_at_a_place(rt: HostRuntime) -> Result<(), Fail> {
     Ok(())
 }
 
-/// Where the key is absent, or has no document, nothing is called and the whole document is as it
-/// was.
+/// If the key is absent, or its value is not a document, the closure is not called and the whole
+/// document is unchanged.
 #[test]
 fn refused_nowhere_at_no_document(rt: HostRuntime) -> Result<(), Fail> {
     let alloc = rt.alloc();
@@ -131,8 +131,8 @@ fn refused_nowhere_at_no_document(rt: HostRuntime) -> Result<(), Fail> {
     Ok(())
 }
 
-/// What the closure leaves is the document at the key, its answer comes back, and the other pairs
-/// stay.
+/// The document at the key is what the closure leaves, its result is returned, and the other pairs
+/// are unchanged.
 #[test]
 fn refused_nowhere_in_a_document_within(rt: HostRuntime) -> Result<(), Fail> {
     let alloc = rt.alloc();

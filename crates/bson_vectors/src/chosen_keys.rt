@@ -1,7 +1,7 @@
-//! Keys that were chosen to have one hash under the hasher of std's maps, and the order in which an
-//! index gives its keys.
+//! Keys that collide under the hasher of std's maps, and the order in which an index iterates over
+//! its keys.
 //!
-//! tests/rows/many_keys.py makes the same keys, and puts 100,000 of them into a document.
+//! tests/rows/many_keys.py makes the same keys, and inserts 100,000 of them into a document.
 use bson::Bson;
 use bson::store::{PairStore, SmallPairs};
 use std::hash::{FoldHasher, Hash, Hasher};

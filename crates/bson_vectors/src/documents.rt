@@ -1,4 +1,4 @@
-//! Documents from call to call, and what a refused request for memory leaves of them.
+//! Documents over several calls, and their state after a failed allocation.
 ghost use Rattle.std.specs.Prelude.{◌<◌, length, IfSome};
 
 use crate::given::{filled, put};
@@ -20,7 +20,7 @@ fn has(document: &Document, key: &str, value: i32) -> bool {
     document.get_i32(key) == Ok(value)
 }
 
-/// Whether the document has exactly these pairs in this order, and finds each key.
+/// Returns whether the document has exactly these pairs in this order, and finds each key.
 fn holds(document: &Document, pairs: &[(&str, i32)]) -> bool {
     let mut left = document.iter();
     for &(key, value) in pairs {
@@ -46,7 +46,7 @@ fn follows(document: &Document, value: i32, others: &[(String, i32)]) -> bool {
     left.next().is_none() && document.len() == others.len() + 1
 }
 
-/// k1 to k40 with their numbers.
+/// Returns k1 to k40 with their numbers.
 fn numbered(alloc: Global) -> Result<Vec<(String, i32)>, AllocError> {
     let mut all = Vec::new(alloc);
     for number in 1..41 {
@@ -55,7 +55,7 @@ fn numbered(alloc: Global) -> Result<Vec<(String, i32)>, AllocError> {
     Ok(all)
 }
 
-/// a with 9, then the others.
+/// Returns a with 9, then the others.
 fn items(alloc: Global, others: &[(String, i32)]) -> Result<Vec<(String, Bson)>, AllocError> {
     let mut all = Vec::new(alloc);
     all.push((String::from_str(alloc, "a")?, Bson::Int32(9)))?;
@@ -65,7 +65,7 @@ fn items(alloc: Global, others: &[(String, i32)]) -> Result<Vec<(String, Bson)>,
     Ok(all)
 }
 
-/// The place of the key among the pairs.
+/// Returns the index of the key in the pairs.
 fn place_of(pairs: &[(String, i32)], key: &str) -> Option<usize>
     ensures { IfSome result (λ at. at < length pairs.now) }
 {
@@ -77,8 +77,7 @@ fn place_of(pairs: &[(String, i32)], key: &str) -> Option<usize>
     None
 }
 
-/// Whether inserting the key and number, refused, gave both back and left the document with `a` 1
-/// and the others.
+/// Returns whether inserting the key and number failed and returned both.
 fn is_refused(answer: &Result<Option<Bson>, Refused>, key: &str, value: i32) -> bool {
     match answer {
         Err(refused) => refused.key.as_str() == key && refused.value.as_i32() == Some(value),
@@ -86,7 +85,7 @@ fn is_refused(answer: &Result<Option<Bson>, Refused>, key: &str, value: i32) -> 
     }
 }
 
-/// Whether a known key takes its new value, and gives its old one back, without memory.
+/// Returns whether inserting an existing key replaces its value, and returns the old one.
 fn replaces(document: &mut Document, key: String, value: i32, old: i32) -> bool {
     match document.insert(key, Bson::Int32(value)) {
         Ok(Some(number)) => number.as_i32() == Some(old),
@@ -94,8 +93,8 @@ fn replaces(document: &mut Document, key: String, value: i32, old: i32) -> bool 
     }
 }
 
-/// k1 to k40 are inserted behind `a`: a refusal hands the pair back and leaves the document as it
-/// was, and a known key then still takes a value.
+/// k1 to k40 are inserted after `a`. A failed insertion returns the pair and leaves the document
+/// unchanged, and the value of an existing key can then still be replaced.
 #[test]
 fn refused_insert(rt: HostRuntime) -> Result<(), Fail> {
     let alloc = rt.alloc();
@@ -120,7 +119,7 @@ fn refused_insert(rt: HostRuntime) -> Result<(), Fail> {
     ends(done == others.len())
 }
 
-/// A test's end where a call under test did all, or met a refusal.
+/// Ends a test: `Ok` if the call under test succeeded, and out of memory if an allocation failed.
 fn ends(did_all: bool) -> Result<(), Fail> {
     if did_all {
         Ok(())
@@ -129,7 +128,7 @@ fn ends(did_all: bool) -> Result<(), Fail> {
     }
 }
 
-/// Whether the items that are left are exactly these.
+/// Returns whether the items that remain are exactly these.
 fn leaves(rest: &mut IntoIter<(String, Bson)>, others: &[(String, i32)]) -> bool {
     for (key, number) in others {
         if !is_owned_pair(rest.next(), key.as_str(), *number) {
@@ -139,7 +138,7 @@ fn leaves(rest: &mut IntoIter<(String, Bson)>, others: &[(String, i32)]) -> bool
     rest.next().is_none()
 }
 
-/// Whether the refused pair is `a` 9 or one of the others, and those behind it are left.
+/// Returns whether the refused pair is `a` 9 or one of the others, and those after it remain.
 fn hands_back(
     refused: &Refused,
     rest: &mut IntoIter<(String, Bson)>,
@@ -160,8 +159,7 @@ fn stops_at(document: &Document, refused: &Refused, others: &[(String, i32)]) ->
     }
 }
 
-/// The refused item is handed back, exactly those before it are put in, and those behind it are
-/// left.
+/// The refused item is returned, exactly those before it are inserted, and those after it remain.
 #[test]
 fn refused_extend(rt: HostRuntime) -> Result<(), Fail> {
     let alloc = rt.alloc();
@@ -181,7 +179,7 @@ fn refused_extend(rt: HostRuntime) -> Result<(), Fail> {
     }
 }
 
-/// The refused item is handed back, and those behind it are left.
+/// The refused item is returned, and those after it remain.
 #[test]
 fn refused_from_pairs(rt: HostRuntime) -> Result<(), Fail> {
     let alloc = rt.alloc();

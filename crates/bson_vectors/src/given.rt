@@ -2,7 +2,7 @@
 use bson::{Bson, Document};
 use std::alloc::{AllocError, Global};
 
-/// Puts the value, and lets the pair go where there is no memory for it.
+/// Inserts the pair, and drops it if an allocation fails.
 pub(crate) fn put(document: &mut Document, key: String, value: Bson) -> Result<(), AllocError> {
     match document.insert(key, value) {
         Ok(_) => Ok(()),
@@ -10,7 +10,7 @@ pub(crate) fn put(document: &mut Document, key: String, value: Bson) -> Result<(
     }
 }
 
-/// The pairs in their order.
+/// Returns a document of the pairs, in their order.
 pub(crate) fn filled(alloc: Global, pairs: &[(&str, i32)]) -> Result<Document, AllocError> {
     let mut document = Document::new(alloc);
     for &(key, value) in pairs {

@@ -1,10 +1,9 @@
-//! What rows can't tell of the library: documents and stores from call to call, what is lent,
-//! iterators, hashing by a real hasher, and what a refused request for memory leaves. The rows are
-//! in tests/rows, and the runs over readers and writers that fail in tests/streams.
+//! Unit tests of the library for what the rows can't check: documents and stores over several calls,
+//! references into them, iterators, hashing by a real hasher, and the state after a failed allocation.
+//! The rows are in tests/rows, and the runs over readers and writers that fail in tests/streams.
 //!
-//! A test whose name begins with `refused_` is also run with each request for memory refused in
-//! turn: it must pass, or end by `?` with out of memory. What it asserts of a call, that call must
-//! then keep.
+//! A test whose name begins with `refused_` is also run once for each of its allocations, which then
+//! fails. It must pass, or return out of memory by `?`. Its assertions about a call must hold then.
 #![tactic(auto)]
 
 #[cfg(test)]

@@ -1,4 +1,4 @@
-//! What a refused request for memory leaves of a store. Each test runs on both stores.
+//! The state of a store after a failed allocation. Each test runs on both stores.
 use bson::store::{Command, IndexedPairs, Pair, PairStore, SmallPairs, Stopped, replay};
 use bson_store::by_key::{put, take};
 use std::alloc::{AllocError, Global};
@@ -28,7 +28,7 @@ const PAIRS: [(&str, u32); 20] = [
     ("k20", 20),
 ];
 
-/// Whether the store holds exactly these pairs in this order, and finds each key at its place.
+/// Returns whether the store has exactly these pairs in this order, and finds each key at its index.
 fn holds<S: PairStore<u32>>(store: &S, pairs: &[(&str, u32)]) -> bool {
     let mut same = store.len() == pairs.len();
     for i in 0..store.len().min(pairs.len()) {
@@ -52,8 +52,7 @@ fn fill<S: PairStore<u32>>(
     Ok(())
 }
 
-/// A refused put hands the pair back and leaves the store as it was; the same pair is then pushed
-/// again.
+/// A failed push returns the pair and leaves the store unchanged; the same pair is then pushed again.
 fn pushes<S: PairStore<u32>>(rt: &impl Abort, alloc: Global, store: &mut S) -> Result<(), Fail> {
     let mut was_refused = false;
     for i in 0..PAIRS.len() {
@@ -100,8 +99,8 @@ fn entries(alloc: Global) -> Result<Vec<Pair<u32>>, AllocError> {
     Ok(all)
 }
 
-/// Entries whose keys don't ascend are found by their sorted places. A refused put hands the pair
-/// back and leaves them; two keys are then taken out, which takes no memory.
+/// Entries whose keys don't ascend are found by their sorted indexes. A failed put returns the pair
+/// and leaves them unchanged; two keys are then removed, which allocates no memory.
 #[test]
 fn refused_from_entries(rt: HostRuntime) -> Result<(), Fail> {
     let alloc = rt.alloc();
@@ -121,7 +120,7 @@ fn refused_from_entries(rt: HostRuntime) -> Result<(), Fail> {
     Ok(())
 }
 
-/// Nine keys are taken out one by one, the rest is cleared, and none of it takes memory.
+/// Nine keys are removed one by one, the rest is cleared, and none of it allocates memory.
 fn takes_out<S: PairStore<u32>>(rt: &impl Abort, alloc: Global, store: &mut S) -> Result<(), Fail> {
     fill(alloc, store, &PAIRS)?;
     for i in 0..9 {
@@ -179,7 +178,7 @@ const REPLIES: [Option<u32>; 21] = [
 ];
 
 /// A stopped replay leaves the store as it is after the first `done` commands. From the
-/// eighteenth on none takes memory.
+/// eighteenth on, no command allocates memory.
 fn replays<S: PairStore<u32>>(rt: &impl Abort, alloc: Global, store: &mut S) -> Result<(), Fail> {
     match replay(alloc, store, commands(alloc)?) {
         Ok(replies) => {

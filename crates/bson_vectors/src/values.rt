@@ -13,7 +13,7 @@ fn hashed(value: &Bson) -> u64 {
     state.finish()
 }
 
-/// {x: 1, y: 2}, or with its keys turned.
+/// Returns {x: 1, y: 2}, or with its keys in reverse order.
 fn numbers(alloc: Global, turned: bool) -> Result<Document, AllocError> {
     if turned {
         filled(alloc, &[("y", 2), ("x", 1)])
@@ -22,7 +22,7 @@ fn numbers(alloc: Global, turned: bool) -> Result<Document, AllocError> {
     }
 }
 
-/// [{x: 1, y: 2}], or with its keys turned.
+/// Returns [{x: 1, y: 2}], or with its keys in reverse order.
 fn listed(alloc: Global, turned: bool) -> Result<Bson, AllocError> {
     let mut list = Vec::new(alloc);
     list.push(Bson::Document(numbers(alloc, turned)?))?;

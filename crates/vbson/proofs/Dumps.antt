@@ -17,7 +17,7 @@ use Rattle.vbson.specs.declared.text.Text.{Text}
 wrote : (had holds output : List ℕ) → holds ≡ had ++ output → had ≡ [] → output ≡ holds
 wrote had holds output is none = sym (is ∙ ap (λ x. x ++ output) none)
 
--- it ended at a document, for a fault of its bytes, which the verdict behind the others names
+-- the run ended at a document, for a fault of its bytes, which the last diagnostic names
 pub cut_block : (run : Run) (block had output held diagnostics all : List ℕ) (after : Option (List ℕ)) (fault : RunFault)
     (number refused start : ℕ)
     → EndsAt run (Some block) after (Some had) (Some output) (Some held) (Some diagnostics) fault number refused start

@@ -72,7 +72,7 @@ is_ended start a m b starts counts s is rest size len =
       size = size ∙ s.size;
     }
 
--- what is built before the end is the front and the list
+-- the bytes before the end are the first bytes and the list
 pub ended : (front list : List ℕ) (start : ℕ) (a b : Builder) → start ≡ length front → built a ≡ front ++ (no_length ++ list)
     → IsFramed start a b → built b ≡ front ++ framed list
 ended front list start a b is h s =

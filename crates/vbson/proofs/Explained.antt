@@ -1,4 +1,4 @@
--- The struct that tells why a text is refused, under the options.
+-- The struct that explains why a text is rejected, under the options.
 use Rattle.std.proofs.Common.{◌≡◌, ◌≢◌, inl, inr, ℕ, List, Option, None, Some, refl, subst, arith}
 use Rattle.json.specs.Json.{Json}
 use Rattle.json.specs.Strict.{HasUniqueKeys}

@@ -20,7 +20,7 @@ same_then : (r : Put) (f g : List ℕ → Put) → ((a : List ℕ) → f a ≡ g
 same_then (Ok out) f g h = h out
 same_then (Err c) f g h = refl
 
--- pairs behind others are put behind them
+-- pairs that follow others are written after them
 pub put_with : (ps qs : Pairs) (out : List ℕ) → put_elements (with_pairs ps qs) out ≡ then (put_elements ps out) (put_elements qs)
 unfolding put_elements
 put_with no_pairs qs out = refl

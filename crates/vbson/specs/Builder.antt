@@ -1,4 +1,4 @@
--- Documents that are built in the caller's memory.
+-- Documents that a builder writes in the caller's memory.
 use Rattle.std.specs.Prelude.{◌≡◌, ◌≢◌, ◌≤◌, ◌<◌, ◌+◌, ◌-◌, ◌^◌, ◌++◌, ℕ, Bool, List, [], ◌∷◌, length, take, drop, min, nat_lt}
 use Rattle.bson_bytes.specs.Grammar.{IsName, IsSize, NoZero, framed}
 use Rattle.bson_bytes.specs.Writing.{name_bytes, items_bytes, list_bytes, scalar_bytes}
@@ -9,16 +9,16 @@ use Rattle.bson_types.specs.declared.spec.ElementType.{ElementType}
 use Rattle.vbson.specs.declared.builder.Builder.{Builder}
 use Rattle.vbson.specs.declared.builder.Element.{Element}
 
--- the bytes that are built
+-- the bytes that the builder has written
 abbrev pub built : Builder → List ℕ
 built b = take b.len b.bytes.now
 
--- the builder has the same memory, in which as many bytes are built
+-- the builder has the same memory, and as many bytes of it are written
 pub record HasSameBytes (before after : Builder) : Type 0 where
   pub bytes : after.bytes.now ≡ before.bytes.now
   pub len : after.len ≡ before.len
 
--- the bytes are built after those before, and what follows is as before
+-- the bytes are appended to those of the builder, and the rest of its memory is unchanged
 pub record IsAppended (bytes : List ℕ) (before after : Builder) : Type 0 where
   pub fits : before.len + length bytes ≤ length before.bytes.now
   pub built : built after ≡ built before ++ bytes
@@ -40,7 +40,7 @@ pub record Appends (type : ElementType) (key bytes : List ℕ) (status : ℕ) (b
   pub needed : status ≢ 8 → after.needed ≡ before.needed
   pub memory : after.bytes.ghost_name ≡ before.bytes.ghost_name
 
--- the same of an element with this scalar
+-- an element with this scalar is appended
 abbrev pub AppendsScalar : List ℕ → Scalar → ℕ → Builder → Builder → Type 0
 AppendsScalar key x status before after = Appends (scalar_type x) key (scalar_bytes x) status before after
 
@@ -48,7 +48,7 @@ AppendsScalar key x status before after = Appends (scalar_type x) key (scalar_by
 abbrev pub is_true : ℕ → Bool
 is_true n = nat_lt 0 n
 
--- the bytes of a length that is not known yet
+-- the four bytes that are reserved for a length
 abbrev pub no_length : List ℕ
 no_length = 0 ∷ 0 ∷ 0 ∷ 0 ∷ []
 
@@ -62,13 +62,13 @@ pub record IsFramed (start : ℕ) (before after : Builder) : Type 0 where
   pub rest : drop after.len after.bytes.now ≡ drop after.len before.bytes.now
   pub size : length after.bytes.now ≡ length before.bytes.now
 
--- ---- what is built between the beginning of a document and its end
+-- ---- the elements between the beginning of a document and its end
 
--- after the front a document is begun, and these are its pairs so far
+-- after these first bytes a document begins, and these are its pairs so far
 abbrev pub IsOpenDocument : List ℕ → Pairs → Builder → Type 0
 IsOpenDocument front ps b = built b ≡ front ++ (no_length ++ list_bytes ps)
 
--- after the front an array is begun, and these are its values so far
+-- after these first bytes an array begins, and these are its values so far
 abbrev pub IsOpenArray : List ℕ → Values → Builder → Type 0
 IsOpenArray front vs b = built b ≡ front ++ (no_length ++ items_bytes 0 vs)
 
@@ -82,7 +82,7 @@ abbrev pub and_value : Values → Value → Values
 and_value no_values w = value w no_values
 and_value (value v vs) w = value v (and_value vs w)
 
--- these bytes are built after those before
+-- the builder has these bytes after those from before
 abbrev pub IsBuilt : List ℕ → Builder → Builder → Type 0
 IsBuilt bytes before after = built after ≡ built before ++ bytes
 

@@ -1,4 +1,4 @@
--- What a conversion leaves, which number stands for which mode, and which options are in the struct of a call.
+-- What a conversion writes, which integer selects which mode, and which options are in the struct of a call.
 use Rattle.std.specs.Prelude.{◌≡◌, ◌==◌, ℕ, List, ◌++◌, IsUtf8, Option, Some, None, if◌then◌else◌}
 use Rattle.serde_json.specs.Data.{Data}
 use Rattle.bson_tree.specs.Faults.{Fault as TreeFault, wrong_shape, wrong_id}
@@ -37,8 +37,8 @@ options_of_flags options = record {
   key_order = order_of options;
 }
 
--- the line that the input is converted to in the mode of the number, with a NUL in place of its newline: it is UTF-8, and
--- in a form it is accepted again, with itself as its output
+-- the output is the line that the input is converted to in the mode that was selected, with a NUL in place of its
+-- newline. It is UTF-8. In a form, a second conversion changes nothing
 pub record IsConvertedBy (o : Options) (number : ℕ) (input : List ℕ) (out : Text) : Type 0 where
   pub mode : Mode
   pub named : mode_at number ≡ Some mode
@@ -48,15 +48,15 @@ pub record IsConvertedBy (o : Options) (number : ℕ) (input : List ℕ) (out : 
   pub again : IsKeptBy o.key_order o mode (text ++ newline)
   pub is_text : IsOwnedText text out
 
--- the text of an object id alone is wrong
+-- the fault is an invalid object id
 abbrev pub IsBadId : TreeFault → Type 0
 IsBadId it = (id : List ℕ) × (it ≡ wrong_id id)
 
--- anything else is
+-- the fault is any other
 abbrev pub IsBad : TreeFault → Type 0
 IsBad it = it ≡ wrong_shape
 
--- the bytes are the text of a tree that means nothing, for a reason
+-- the bytes are JSON that is not valid Extended JSON, for a reason
 pub record HasNoMeaningIn (o : Options) (why : TreeFault → Type 0) (bytes : List ℕ) : Type 0 where
   pub tree : Data
   pub text : IsTextOf bytes tree
@@ -65,7 +65,7 @@ pub record HasNoMeaningIn (o : Options) (why : TreeFault → Type 0) (bytes : Li
 
 -- ---- for private clauses
 
--- what a status says of the bytes
+-- the cause of each status that rejects the bytes as text
 pub record IsCauseIn (o : Options) (status : ℕ) (bytes : List ℕ) : Type 0 where
   pub not_json : status ≡ 2 → IsNoText bytes
   pub bad_object_id : status ≡ 3 → HasNoMeaningIn o IsBadId bytes

@@ -1,4 +1,4 @@
--- Why bytes are rejected as a document that has a text, and where, as a struct.
+-- Why bytes are rejected as a document that has a text, and where, as an error struct.
 use Rattle.std.specs.Prelude.{◌≡◌, ℕ, List, [], ◌++◌, IsUtf8, codes, false, true}
 use Rattle.std.specs.Fmt.{decimal}
 use Rattle.bson.specs.declared.extjson.options.Options.{Options}
@@ -24,13 +24,13 @@ use Rattle.vbson.specs.declared.options.CallOptions.{CallOptions}
 
 -- ---- what is wrong
 
--- under the options the bytes are a document, and it has a text in the two forms
+-- under the options the bytes are a document that has a text in the two forms
 pub record HasDocumentText (options : CallOptions) (bytes : List ℕ) : Type 0 where
   pub pairs : Pairs
   pub read : IsReadIn (duplicate_keys_of options) depth bytes pairs
   pub writable : writable_in (options_of_flags options).doubles (document pairs) ≡ true
 
--- they are a document, and it has none
+-- under the options the bytes are a document that has no text in the two forms
 pub record HasNoDocumentText (options : CallOptions) (bytes : List ℕ) : Type 0 where
   pub pairs : Pairs
   pub read : IsReadIn (duplicate_keys_of options) depth bytes pairs
@@ -41,15 +41,15 @@ IsFinding options bytes Nothing = HasDocumentText options bytes
 IsFinding options bytes (Malformed k n) = IsPlacedFault k n bytes (reads_bytes_in (duplicate_keys_of options) depth bytes)
 IsFinding options bytes FiniteDouble = HasNoDocumentText options bytes
 
--- ---- what the struct has of it
+-- ---- the fields of the error struct for a finding
 
--- the status, or 0 for none
+-- the status, or 0 if nothing is wrong
 abbrev pub code_for : Finding → ℕ
 code_for Nothing = 0
 code_for (Malformed k n) = 10
 code_for FiniteDouble = 7
 
--- the number of bytes before the first fault of bytes that are not a document; else 0
+-- the offset of the first fault of bytes that are not a document; otherwise 0
 abbrev pub offset_for : Finding → ℕ
 offset_for Nothing = 0
 offset_for (Malformed k n) = n
@@ -60,11 +60,11 @@ reason_for Nothing = []
 reason_for (Malformed k n) = fault_kind_message k
 reason_for FiniteDouble = codes "a finite double"
 
--- the number of bytes before the place of a fault, and words for what is wrong there
+-- the message for a fault at an offset, with its reason
 abbrev pub document_error_message : ℕ → List ℕ → List ℕ
 document_error_message n words = codes "not a document at byte " ++ decimal n ++ codes " (" ++ words ++ codes ")"
 
--- words for why a document has no text
+-- the message for a document that has no text, with its reason
 abbrev pub unwritten : List ℕ → List ℕ
 unwritten words = codes "not representable (" ++ words ++ codes ")"
 
@@ -73,7 +73,7 @@ message_for Nothing = []
 message_for (Malformed k n) = document_error_message n (fault_kind_message k)
 message_for FiniteDouble = unwritten (codes "a finite double")
 
--- the struct has this of what is wrong; the path has no segment
+-- the error struct has the fields of the finding; its path has no segment
 pub record SaysOf (it : Finding) (out : Rejection) : Type 0 where
   pub code : out.code ≡ code_for it
   pub line : out.line ≡ 0
@@ -92,7 +92,7 @@ pub record ExplainsDocument (options : CallOptions) (bytes : List ℕ) (out : Re
 
 -- ---- for private clauses
 
--- the same of a document
+-- the finding for bytes that are this document
 abbrev pub IsOfDocument : Options → Pairs → Finding → Type 0
 IsOfDocument o ps Nothing = writable_in o.doubles (document ps) ≡ true
 IsOfDocument o ps (Malformed k n) = ⊥

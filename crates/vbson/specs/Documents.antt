@@ -21,7 +21,7 @@ use Rattle.bson.specs.declared.extjson.key_order.KeyOrder.{KeyOrder}
 use Rattle.bson.specs.declared.extjson.key_order.KeyOrder.TheVariants.{Ascending, AsGiven}
 use Rattle.vbson.specs.declared.text.Text.{Text}
 
--- how deep documents, arrays and scopes may stand in each other
+-- how deep documents, arrays and scopes may nest
 abbrev pub depth : ℕ
 depth = 100
 
@@ -49,7 +49,7 @@ pub record Decodes (o : Options) (mode : Mode) (bytes text : List ℕ) : Type 0 
   pub read : IsRead depth bytes pairs
   pub written : IsTextOfDocument o mode pairs text
 
--- the text that is left is that of the document in the mode of the number, which is UTF-8
+-- the bytes are a document, and the output is its UTF-8 text in the mode that was selected
 pub record IsDecoded (o : Options) (number : ℕ) (bytes : List ℕ) (out : Text) : Type 0 where
   pub mode : Mode
   pub named : mode_at number ≡ Some mode
@@ -58,7 +58,7 @@ pub record IsDecoded (o : Options) (number : ℕ) (bytes : List ℕ) (out : Text
   pub utf8 : IsUtf8 text
   pub is_text : IsOwnedText text out
 
--- the bytes are a document that has no text in the mode of the number
+-- the bytes are a document that has no text in the mode that was selected
 pub record HasNoText (o : Options) (number : ℕ) (bytes : List ℕ) : Type 0 where
   pub mode : Mode
   pub named : mode_at number ≡ Some mode
@@ -68,15 +68,15 @@ pub record HasNoText (o : Options) (number : ℕ) (bytes : List ℕ) : Type 0 wh
 
 -- ---- from a text to bytes
 
--- what is left are those bytes
+-- the output is the bytes of the document that the text denotes
 abbrev pub IsEncoded : Options → List ℕ → Text → Type 0
 IsEncoded o text out = (bytes : List ℕ) × Encodes o.key_order o text bytes × IsOwnedText bytes out
 
--- the text means a value that is no document
+-- the text denotes a value that is not a document
 abbrev pub TextIsNotDocumentBy : Options → List ℕ → Type 0
 TextIsNotDocumentBy o text = IsNoDocument (HasTextMeaningBy o.key_order o.doubles text)
 
--- the text means a document that has no bytes, for this cause
+-- the text denotes a document that has no BSON bytes, for this cause
 abbrev pub HasNoBytes : Options → Cause → List ℕ → Type 0
 HasNoBytes o cause text = FailsFor (HasTextMeaningBy o.key_order o.doubles text) cause
 
@@ -99,14 +99,14 @@ direct_form_by AsGiven doubles mode = form_under doubles mode
 abbrev pub direct_form : Options → Mode → Option Form
 direct_form o mode = direct_form_by o.key_order o.doubles mode
 
--- what a status says of bytes that gave no text
+-- the cause of each status of a failed decoding
 pub record IsUndecoded (o : Options) (mode : Mode) (status : ℕ) (bytes : List ℕ) : Type 0 where
   pub no_document : status ≡ 10 → IsOneDocument bytes → ⊥
   pub no_text : status ≡ 7 → (ps : Pairs) × IsRead depth bytes ps × HasNoTextIn o mode ps
   pub accepts : (ps : Pairs) → IsRead depth bytes ps → writable_in o.doubles (document ps) ≡ true → status ≡ 5
   pub listed : (status ≡ 5) ⊎ ((status ≡ 7) ⊎ (status ≡ 10))
 
--- what a status says of a text that gave no bytes
+-- the cause of each status of a failed encoding
 pub record IsUnencoded (o : Options) (status : ℕ) (text : List ℕ) : Type 0 where
   pub cause : IsCauseIn o status text
   pub no_document : status ≡ 10 → TextIsNotDocumentBy o text

@@ -1,4 +1,4 @@
--- A block of documents, one behind the other.
+-- A block of concatenated documents.
 use Rattle.std.specs.Prelude.{◌≡◌, ◌⊎◌, ℕ, IsUtf8, List, ◌++◌, Some, length, true}
 use Rattle.bson.specs.declared.extjson.options.Options.{Options}
 use Rattle.bson_codec.specs.Documents.{Dump, EndsInside, IsOfBytes}
@@ -16,24 +16,24 @@ use Rattle.vbson.specs.Documents.{depth}
 use Rattle.vbson.specs.Text.{IsOwnedText}
 use Rattle.vbson.specs.declared.dump.Documents as given
 
--- what is written of each document; what is shown has its own order in any case
+-- the kind of line that is written for each document; the mode Show always uses the document's own order
 abbrev pub dump_line : Mode → Line
 dump_line Canonical = Text form.Canonical
 dump_line Relaxed = Text form.Relaxed
 dump_line Show = Shown
 
--- a document that is refused is reported and passed over
+-- a rejected document adds a diagnostic, and the run continues
 abbrev pub run_of : Options → Mode → Run
 run_of o mode = record { depth = depth; options = o; line = dump_line mode; keep_going = true }
 
--- the block is so many documents, which give this output and these verdicts
+-- the whole block consists of so many documents, with this output and these diagnostics
 pub record AreAll (run : Run) (block output verdicts : List ℕ) (count consumed : ℕ) : Type 0 where
   pub refused : ℕ
   pub documents : Dump run block output verdicts count refused
   pub whole : consumed ≡ length block
 
--- the documents before the last give this output; the block ends early at the last, for a fault of its bytes, which the
--- verdict behind theirs names
+-- the documents before the last have this output. The block ends inside the last one, and the last diagnostic names the
+-- fault of its bytes
 pub record AreCut (run : Run) (block output verdicts : List ℕ) (count consumed : ℕ) : Type 0 where
   pub diagnostics : List ℕ
   pub refused : ℕ
@@ -45,7 +45,7 @@ abbrev pub GivesDocuments : Run → (block output verdicts : List ℕ) → (coun
 GivesDocuments run block output verdicts count consumed =
     AreAll run block output verdicts count consumed ⊎ AreCut run block output verdicts count consumed
 
--- what is left is the output and the verdicts of the documents in the mode of the number, which are UTF-8, and these
+-- the struct has the output and the diagnostics of the documents in the mode that was selected, both UTF-8, and their
 -- counts
 pub record AreDecoded (o : Options) (number : ℕ) (block : List ℕ) (out : given.Documents) : Type 0 where
   pub mode : Mode
@@ -60,6 +60,6 @@ pub record AreDecoded (o : Options) (number : ℕ) (block : List ℕ) (out : giv
 
 -- ---- for private clauses
 
--- the verdicts, and that on the last document
+-- the diagnostics, followed by that of the last document
 abbrev pub EndsAs : RunEnd → (diagnostics all : List ℕ) → Type 0
 EndsAs end diagnostics all = IsOfBytes end.fault × (all ≡ diagnostics ++ diagnostic_of end.number end.start end.fault)

@@ -1,4 +1,4 @@
--- Why a text is refused, and where, as a struct.
+-- Why a text is rejected, and where, as an error struct.
 use Rattle.std.specs.Prelude.{◌≡◌, ◌≢◌, ◌⊎◌, ◌-◌, ℕ, IsUtf8, List, [], ◌++◌, length, min, take, string_bytes}
 use Rattle.bson.specs.TextMeaning.{HasTextMeaningIn}
 use Rattle.bson.specs.Value.{Value}
@@ -24,16 +24,16 @@ use Rattle.vbson.specs.declared.explain.Parts.{Parts}
 use Rattle.vbson.specs.declared.explain.Rejection.{Rejection}
 use Rattle.vbson.specs.declared.options.CallOptions.{CallOptions}
 
--- ---- what an explanation is in the struct
+-- ---- the fields of the error struct for an explanation
 
--- the status of the error, or 0 for none
+-- the status of the error, or 0 if there is none
 abbrev pub code_in : Explanation → ℕ
 code_in (Syntax stop) = 2
 code_in (explained.Value place reason) = status_for place.now.reason
 code_in (Difference column) = 16
 code_in Other = 0
 
--- where a text stops to be JSON, or to be canonical: the line and the column, from 1, and the bytes before it; else 0
+-- where a text stops to be JSON, or to be canonical: the line and the column, from 1, and the offset; otherwise 0
 abbrev pub line_in : List ℕ → Explanation → ℕ
 line_in text (Syntax stop) = line_at stop.offset text
 line_in text (explained.Value place reason) = 0
@@ -65,7 +65,7 @@ reason_in (explained.Value place reason) = string_bytes reason
 reason_in (Difference column) = []
 reason_in Other = []
 
--- the struct has this of an explanation of an error of the text, and these words as its message
+-- the error struct has the fields of this explanation of an error of the text, and this message
 pub record Says (text : List ℕ) (it : Explanation) (words : List ℕ) (out : Rejection) : Type 0 where
   pub code : out.code ≡ code_in it
   pub line : out.line ≡ line_in text it
@@ -75,7 +75,7 @@ pub record Says (text : List ℕ) (it : Explanation) (words : List ℕ) (out : R
   pub reason : IsOwnedText (reason_in it) out.reason
   pub message : IsOwnedText words out.message
 
--- the struct explains the error of the text, with the words for the error and behind them those for its place
+-- the error struct explains the error of the text; its message is that of the error, followed by its path
 pub record IsError (text : List ℕ) (fault : Error) (out : Rejection) : Type 0 where
   pub explanation : Explanation
   pub lies : IsExplanation text fault explanation
@@ -91,7 +91,7 @@ IsRejectedFor options text read fault =
     (IsReadAs (preprocessing_of options) text read × IsRefusedIn (options_of_flags options) fault read)
     ⊎ ((read ≡ text) × IsPreprocessingFault (preprocessing_of options) fault text)
 
--- it is rejected, and the struct explains why
+-- the text is rejected, and the error struct explains why
 pub record ExplainsRejection (options : CallOptions) (text : List ℕ) (out : Rejection) : Type 0 where
   pub fault : Error
   pub read : List ℕ
@@ -99,12 +99,12 @@ pub record ExplainsRejection (options : CallOptions) (text : List ℕ) (out : Re
   pub reported : fault ≢ OutOfMemory
   pub error : IsError read fault out
 
--- the text means a value, and the struct has the code 0 and no words; or it is rejected
+-- the text denotes a value, and the error struct has the code 0 and an empty message; or the text is rejected
 abbrev pub Explains : CallOptions → List ℕ → Rejection → Type 0
 Explains options text out =
     (((value : Value) × MeansUnder options text value) × Says [] Other [] out) ⊎ ExplainsRejection options text out
 
--- the path to the error is too long for BSON
+-- the path to the error exceeds the limits of BSON
 abbrev pub IsLongPath : Error → Type 0
 IsLongPath (NotExtendedJson place) = FitsDocument (path_pairs (path_of place)) → ⊥
 IsLongPath other = ⊥
@@ -117,20 +117,20 @@ pub record IsTooLong (options : CallOptions) (text : List ℕ) : Type 0 where
 
 -- ---- for private clauses
 
--- the same of a text, with no preprocessing
+-- the error struct explains a text without preprocessing
 abbrev pub ExplainsRead : Options → List ℕ → Rejection → Type 0
 ExplainsRead o text out =
     (((value : Value) × HasTextMeaningIn o.doubles text value) × Says [] Other [] out)
     ⊎ ((fault : Error) × IsRefusedIn o fault text × (fault ≢ OutOfMemory) × IsError text fault out)
 
--- memory ran out, or the path to such an error is too long
+-- memory ran out, or the path to an error that rejects the text exceeds the limits of BSON
 abbrev pub IsUnexplained : PathError → (Error → Type 0) → Type 0
 IsUnexplained e refused = e ≢ sizes.OutOfMemory → (fault : Error) × refused fault × IsLongPath fault
 
 abbrev pub PathIsTooLong : Explanation → Type 0
 PathIsTooLong it = FitsDocument (path_pairs (path_in it)) → ⊥
 
--- the parts are those of an explanation of an error of the text
+-- the fields are those of an explanation of an error of the text
 pub record ArePartsOf (text : List ℕ) (it : Explanation) (parts : Parts) : Type 0 where
   pub code : parts.code ≡ code_in it
   pub line : parts.line ≡ line_in text it
@@ -140,7 +140,7 @@ pub record ArePartsOf (text : List ℕ) (it : Explanation) (parts : Parts) : Typ
   pub reason : parts.reason.items ≡ reason_in it ++ newline
   pub utf8 : IsUtf8 (reason_in it)
 
--- the line without its end
+-- the line without its newline
 abbrev pub front : List ℕ → List ℕ
 front line = take (length line - 1) line
 

@@ -12,13 +12,13 @@ use Rattle.vbson.specs.Convert.{mode_at}
 use Rattle.vbson.specs.Text.{IsOwnedText}
 use Rattle.vbson.specs.declared.lines.Lines.{Lines}
 
--- the lines of the block give this output by the task, the verdicts tell of those that are refused, and so many lines
--- there are, of which so many are refused; texts and verdicts are UTF-8
+-- the task writes this output and these diagnostics for the lines of the block; these are the numbers of lines and of
+-- rejected lines
 pub record GivesLines (o : Options) (task : Task) (block output verdicts : List ℕ) (count refused : ℕ) : Type 0 where
   pub outcomes : GivesIn o task KeepGoing (lines_of block) output verdicts refused
   pub counted : count ≡ length (lines_of block)
 
--- what is left is the output and the verdicts of the lines by the task, and these counts
+-- the struct has the output, the diagnostics and the counts of the task for the lines
 pub record AreReturned (o : Options) (task : Task) (block : List ℕ) (out : Lines) : Type 0 where
   pub text : List ℕ
   pub diagnostics : List ℕ
@@ -26,19 +26,19 @@ pub record AreReturned (o : Options) (task : Task) (block : List ℕ) (out : Lin
   pub is_text : IsOwnedText text out.text
   pub are_diagnostics : IsOwnedText diagnostics out.diagnostics
 
--- the same where each line is converted in the mode of the number
+-- the struct has the result of converting each line in the mode that was selected
 pub record AreConverted (o : Options) (number : ℕ) (block : List ℕ) (out : Lines) : Type 0 where
   pub mode : Mode
   pub named : mode_at number ≡ Some mode
   pub given : AreReturned o (Write mode) block out
 
--- and where each becomes the bytes of its document
+-- the struct has the result of encoding each line as the bytes of its document
 abbrev pub AreEncoded : Options → (block : List ℕ) → Lines → Type 0
 AreEncoded o block out = AreReturned o Encode block out
 
 -- ---- the first line that is rejected
 
--- the task accepts each of the lines that is not blank: a run that stops at a rejected line does them all
+-- the task accepts each line that is not blank: a run that stops at a rejected line reads all lines
 pub record AreAccepted (o : Options) (task : Task) (all : List (List ℕ)) : Type 0 where
   pub output : List ℕ
   pub verdicts : List ℕ
@@ -49,7 +49,7 @@ pub record AreAccepted (o : Options) (task : Task) (all : List (List ℕ)) : Typ
 abbrev pub EachLineIsAccepted : Options → Task → (block : List ℕ) → Type 0
 EachLineIsAccepted o task block = AreAccepted o task (lines_of block)
 
--- the task rejects the line of the number, from 1, and accepts the lines before it
+-- the task rejects the line with the number, from 1, and accepts the lines before it
 pub record IsFirstRejected (o : Options) (task : Task) (block : List ℕ) (number : ℕ) : Type 0 where
   pub before : List (List ℕ)
   pub line : List ℕ

@@ -5,7 +5,7 @@ use Rattle.bson_scalar.specs.Scalar.{int64, text}
 use Rattle.bson_model.specs.Value.{Value, scalar, Pairs, no_pairs, pair}
 use Rattle.bson_tree.specs.Place.{PathSegment, key, element}
 
--- pairs, and behind them others
+-- pairs, followed by others
 abbrev pub with_pairs : Pairs → Pairs → Pairs
 with_pairs no_pairs qs = qs
 with_pairs (pair k v ps) qs = pair k v (with_pairs ps qs)

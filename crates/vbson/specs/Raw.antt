@@ -1,4 +1,4 @@
--- Values of documents that remain bytes. The number is how deep documents, arrays and scopes may nest in a value.
+-- Values of documents that remain bytes. The depth says how deep documents, arrays and scopes may nest in a value.
 use Rattle.std.specs.Prelude.{◌≡◌, ◌≤◌, ℕ, Bool, true, false, List, Option, None, Some, Ok, length, drop}
 use Rattle.bson_bytes.specs.Reading.{value_with, document_in}
 use Rattle.bson_bytes.specs.declared.keys.DuplicateKeys.TheVariants.{Replace}
@@ -20,12 +20,12 @@ pub record IsValueAt (d : ℕ) (v : Value) (out : RawValue) : Type 0 where
   pub read : value_with Replace (document_in Replace d) type out.bytes.now ≡ Ok (v, drop out.len out.bytes.now)
   pub within : out.len ≤ length out.bytes.now
 
--- no key is found, or the value of the key
+-- the status of a lookup: the document has no such key, or the output is the value of the key
 abbrev pub IsGot : ℕ → Option Value → ℕ → RawValue → Type 0
 IsGot d None status out = status ≡ 14
 IsGot d (Some v) status out = (status ≡ 0) × IsValueAt d v out
 
--- no element is left, or the key and the value of the first, and the others are left
+-- no element is left; or the outputs are the key and the value of the first, and the others are left
 abbrev pub IsNextElement : ℕ → Pairs → ℕ → Slice → Slice → RawValue → Type 0
 IsNextElement d no_pairs status cursor key value = status ≡ 14
 IsNextElement d (pair k v ps) status cursor key value =

@@ -24,7 +24,7 @@ preprocessing_of options =
     then (if options.v1 == 1 then Some DistinctLegacy else Some Distinct)
     else (if options.v1 == 1 then Some Legacy else None)
 
--- preprocessing accepts the text, and these bytes are read in its place
+-- preprocessing accepts the text, and these bytes are read instead of it
 abbrev pub IsReadAs : Option Preprocessing → (text read : List ℕ) → Type 0
 IsReadAs None text read = read ≡ text
 IsReadAs (Some preprocessing) text read = IsPreprocessedAs preprocessing text read
@@ -34,13 +34,13 @@ abbrev pub HasRejectedKey : Option Preprocessing → List ℕ → Type 0
 HasRejectedKey None text = ⊥
 HasRejectedKey (Some preprocessing) text = (place : Place) × IsRejectedBefore preprocessing place text
 
--- under the options the text means the value
+-- under the options the text denotes the value
 pub record MeansUnder (options : CallOptions) (text : List ℕ) (value : Value) : Type 0 where
   pub read : List ℕ
   pub read_as : IsReadAs (preprocessing_of options) text read
   pub meaning : HasTextMeaningIn (options_of_flags options).doubles read value
 
--- what is read in the place of the text is rejected for the cause
+-- the text that is read instead of this one is rejected for the cause
 pub record IsReadAndRejected (options : CallOptions) (cause : List ℕ → Type 0) (text : List ℕ) : Type 0 where
   pub read : List ℕ
   pub read_as : IsReadAs (preprocessing_of options) text read
@@ -74,18 +74,18 @@ IsNoDocumentUnder options bytes = (value : Value) → IsDocumentUnder options by
 
 -- ---- for private clauses
 
--- what a fault says of a text that preprocessing does not accept
+-- the cause of a fault of a text that preprocessing does not accept
 abbrev pub IsPreprocessingFault : Option Preprocessing → Error → List ℕ → Type 0
 IsPreprocessingFault None fault text = ⊥
 IsPreprocessingFault (Some preprocessing) fault text = IsNotPreprocessed preprocessing fault text
 
--- what a status says of bytes that mean nothing, with no preprocessing
+-- the cause of each status that rejects bytes, without preprocessing
 pub record IsRejectedWith (o : Options) (status : ℕ) (bytes : List ℕ) : Type 0 where
   pub cause : IsCauseIn o status bytes
   pub accepts : (value : Value) → HasTextMeaningIn o.doubles bytes value → status ≡ 5
   pub listed : (2 ≤ status) × (status ≤ 5)
 
--- what a status says of a text that has no value under the options
+-- the cause of each status that rejects a text under the options
 pub record IsWithoutValue (options : CallOptions) (status : ℕ) (text : List ℕ) : Type 0 where
   pub not_json : status ≡ 2 → IsNoTextUnder options text
   pub bad_object_id : status ≡ 3 → HasBadIdUnder options text
@@ -93,7 +93,7 @@ pub record IsWithoutValue (options : CallOptions) (status : ℕ) (text : List �
   pub accepts : (value : Value) → MeansUnder options text value → status ≡ 5
   pub listed : (2 ≤ status) × (status ≤ 5)
 
--- what a status says of bytes that are not a document under the options
+-- the cause of each status that rejects bytes as a document under the options
 pub record IsWithoutDocument (options : CallOptions) (status : ℕ) (bytes : List ℕ) : Type 0 where
   pub no_document : status ≡ 10 → IsNoDocumentUnder options bytes
   pub accepts : (value : Value) → IsDocumentUnder options bytes value → status ≡ 5

@@ -1,4 +1,4 @@
--- Texts that the caller has.
+-- Output text that the caller owns.
 use Rattle.std.specs.Prelude.{◌≡◌, ℕ, List, [], ◌∷◌, ◌++◌, length}
 use Rattle.vbson.specs.declared.text.Text.{Text}
 

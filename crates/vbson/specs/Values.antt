@@ -23,7 +23,7 @@ abbrev pub verdict : Bool → ℕ
 verdict true = 0
 verdict false = 9
 
--- the value's words in SipHash-1-3 with both keys 0
+-- the hash of the value's hasher input by SipHash-1-3 with both keys 0
 abbrev pub hash_of : Value → ℕ
 hash_of value = sip.finish (fold sip.write sip.initial (feed value))
 

@@ -130,7 +130,7 @@ pub extern "C" fn vbson_append_int64(builder: &mut Builder<'_>, key: &[u8], valu
     )
 }
 
-/// Appends a double, as its bit pattern.
+/// Appends a double, given by its 64 bits.
 #[unsafe(no_mangle)]
 pub extern "C" fn vbson_append_double(builder: &mut Builder<'_>, key: &[u8], value: u64) -> u32
     ensures appended { AppendsScalar key.now (scalar.double value) result builder.old builder.new }

@@ -1,4 +1,4 @@
-//! Documents that are built in the caller's memory.
+//! Documents that a builder writes in the caller's memory.
 ghost use Rattle.std.specs.Prelude.{◌≡◌, ◌≢◌, ◌≤◌, ◌<◌, ◌+◌, ◌-◌, ◌^◌, ◌++◌, ◌⊎◌, IsTrue, ℕ, List, drop, length, min, take};
 ghost use Rattle.std.specs.Prelude.{decimal, false};
 ghost use Rattle.std.specs.Int.{w32};
@@ -15,8 +15,8 @@ use bson_bytes::parts::is_free;
 use bson_types::spec::ElementType;
 use std::str;
 
-/// Documents in the caller's memory: the memory, how many bytes are built, and the size that a call
-/// needed.
+/// Documents in the caller's memory: the memory, how many bytes of it are written, and the size that
+/// a call needed.
 #[repr(C)]
 pub struct Builder<'a> {
     pub bytes: &'a mut [u8],

@@ -1,4 +1,4 @@
-//! One text to another.
+//! Converts one text of Extended JSON to another.
 ghost use Rattle.std.specs.Prelude.{◌≡◌, ◌↔◌, ◌⊎◌, ◌<◌, ◌≤◌, ◌++◌, List, ℕ, Some};
 ghost use Rattle.serde_json.specs.Data.{Data};
 ghost use Rattle.bson.specs.declared.extjson.options.Options.{Options};
@@ -24,11 +24,11 @@ use bson_run::convert::convert_text;
 use bson_tree::place::Reason;
 use std::alloc::Global;
 
-/// Reads the text as one text of Extended JSON, and leaves the text of its value in a mode: 0 the
-/// canonical form, 1 the relaxed form, 2 the text of Display. The options say whether finite doubles
-/// are read and written, in place of rejected, and whether the keys of each document are ascending
-/// or in the order of the text. In the latter a duplicate key has its last value at its first place.
-/// The block of the new text is the caller's, who frees it by `free`.
+/// Converts one text of Extended JSON to the text of its value in a mode: 0 is the canonical form, 1
+/// the relaxed form, 2 the text of Display. The options say whether finite doubles are accepted, and
+/// whether the keys of each document ascend or have the order of the text. In the order of the text,
+/// a duplicate key has its last value at its first position. The caller frees the block of the
+/// output with `free`.
 #[unsafe(no_mangle)]
 pub extern "C" fn vbson_convert_nonnull(
     alloc: Global,
@@ -65,7 +65,7 @@ pub extern "C" fn vbson_convert_nonnull(
     status::OK
 }
 
-/// The mode of a number.
+/// Returns the mode that a number selects.
 pub(crate) fn mode_of(number: u32) -> Option<Mode>
     ensures { result ≡ mode_at number }
 {

@@ -1,4 +1,4 @@
-//! The text of a document's bytes.
+//! Decodes the BSON bytes of a document to text.
 ghost use Rattle.std.specs.Prelude.{◌≡◌, ◌⊎◌, ◌↔◌, ◌<◌, ◌≤◌, ◌++◌, List, ℕ, IfOk, IfErr, IsUtf8, string_bytes, true};
 ghost use Rattle.bson.specs.View.{document_view};
 ghost use Rattle.bson_codec.specs.Laws.{IsRead};
@@ -23,8 +23,8 @@ use bson_codec::de::{DEPTH, Error, from_slice};
 use bson_convert::mode::Mode;
 use std::alloc::Global;
 
-/// Reads the bytes as one document, and leaves its text in a mode, with the modes and the options of
-/// `vbson_convert_nonnull`. The block of the text is the caller's, who frees it by `free`.
+/// Decodes the bytes of one document to its text in a mode, with the modes and the options of
+/// `vbson_convert_nonnull`. The caller frees the block of the text with `free`.
 #[unsafe(no_mangle)]
 pub extern "C" fn vbson_decode_nonnull(
     alloc: Global,

@@ -1,4 +1,4 @@
-//! The text of a document's bytes, written while they are read.
+//! Decodes the BSON bytes of a document to text that is written while they are read.
 ghost use Rattle.std.specs.Prelude.{◌≡◌, ◌⊎◌, ◌++◌, List, ℕ, IfOk, IfErr, IsUtf8};
 ghost use Rattle.bson_codec.specs.Texts.{IsDocumentTextOf};
 ghost use Rattle.bson_convert.specs.Convert.{newline};

@@ -21,21 +21,22 @@ use std::alloc::{AllocError, Global};
 /// What is wrong with bytes, as a document that has a text.
 #[derive(Clone, Copy)]
 pub enum Finding {
-    /// The bytes are a document, and it has a text.
+    /// The bytes are a document that has a text.
     Nothing,
     /// The bytes are not a document.
     Malformed {
         /// What is wrong.
         kind: FaultKind,
-        /// The number of bytes before its place.
+        /// The offset of the fault in the bytes.
         offset: usize,
     },
     /// The document has a finite double, which the options do not accept.
     FiniteDouble,
 }
 
-/// Leaves why bytes are not a document that has a text in the two forms, and where; the code 0, and
-/// no words, if they are one. All options are accepted; the order of keys and `v1` change nothing here.
+/// Explains why bytes are not a document that has a text in the two forms, and where. The code is 0,
+/// and the message is empty, if they are one. All options are accepted; the order of keys and `v1`
+/// change nothing here.
 #[unsafe(no_mangle)]
 pub extern "C" fn vbson_explain_document_nonnull(
     alloc: Global,
@@ -58,7 +59,7 @@ pub extern "C" fn vbson_explain_document_nonnull(
     }
     match explained(alloc, *options, bytes) {
         Ok(rejection) => *out = rejection,
-        // (the path has no segment, so it is not too long)
+        // (a path without segments is not too long)
         Err(_) => return status::OUT_OF_MEMORY,
     }
     status::OK
@@ -104,7 +105,7 @@ fn find_double(alloc: Global, options: Options, document: Document) -> Result<Fi
     }
 }
 
-// The struct for what is wrong.
+// Returns the error struct for the finding.
 fn rejection_of(alloc: Global, finding: Finding) -> Result<Rejection<'static>, PathError>
     ensures said { IfOk result (λ out. SaysOf finding out) }
 {
@@ -113,7 +114,7 @@ fn rejection_of(alloc: Global, finding: Finding) -> Result<Rejection<'static>, P
     Ok(filled(parts, message))
 }
 
-// The parts for what is wrong.
+// Returns the fields of the error struct for the finding.
 fn parts_of(alloc: Global, finding: Finding) -> Result<Parts, PathError>
     ensures said { IfOk result (λ parts. ArePartsFor finding parts) }
 {
@@ -129,7 +130,7 @@ fn parts_of(alloc: Global, finding: Finding) -> Result<Parts, PathError>
     })
 }
 
-// The status.
+// Returns the status of the finding.
 fn code_of(finding: Finding) -> u32
     ensures { result ≡ code_for finding }
 {
@@ -140,7 +141,7 @@ fn code_of(finding: Finding) -> u32
     }
 }
 
-// The number of bytes before the place, or 0.
+// Returns the offset of the fault, or 0.
 fn offset_of(finding: Finding) -> usize
     ensures { result ≡ offset_for finding }
 {
@@ -150,7 +151,7 @@ fn offset_of(finding: Finding) -> usize
     }
 }
 
-// What is wrong, in words for people.
+// Returns what is wrong, as a message for people.
 fn reason_of(finding: Finding) -> &'static str
     ensures { result.now ≡ reason_for finding }
 {
@@ -161,7 +162,7 @@ fn reason_of(finding: Finding) -> &'static str
     }
 }
 
-// The message, and a newline.
+// Returns the message of the finding, and a newline.
 fn message_of(alloc: Global, finding: Finding) -> Result<Vec<u8>, AllocError>
     ensures { IfOk result (λ line. IsUtf8 (message_for finding) × (line.items ≡ message_for finding ++ newline)) }
 {
@@ -173,7 +174,7 @@ fn message_of(alloc: Global, finding: Finding) -> Result<Vec<u8>, AllocError>
     }
 }
 
-// The words for a fault after so many bytes, and a newline.
+// Returns the message for a fault at the offset, and a newline.
 fn line_at(alloc: Global, offset: usize, words: &str) -> Result<Vec<u8>, AllocError>
     ensures { IfOk result (λ line. IsUtf8 (document_error_message offset words.now)
         × (line.items ≡ document_error_message offset words.now ++ newline)) }
@@ -182,7 +183,7 @@ fn line_at(alloc: Global, offset: usize, words: &str) -> Result<Vec<u8>, AllocEr
     Ok(line.into_bytes())
 }
 
-// The words for a document that has no text, and a newline.
+// Returns the message for a document that has no text, and a newline.
 fn unwritten_line(alloc: Global, words: &str) -> Result<Vec<u8>, AllocError>
     ensures { IfOk result (λ line. IsUtf8 (unwritten words.now) × (line.items ≡ unwritten words.now ++ newline)) }
 {

@@ -1,12 +1,12 @@
-//! Whether bytes are a document (BSON 1.1, bsonspec.org).
+//! Checks whether bytes are a document (BSON 1.1, bsonspec.org).
 ghost use Rattle.std.specs.Prelude.{◌≡◌, ◌⊎◌, ◌↔◌};
 ghost use Rattle.vbson.specs.Documents.{IsOneDocument};
 
 use crate::status;
 use bson_codec::de::{DEPTH, is_document};
 
-/// Whether the bytes are one document, all of them, in which documents, arrays and scopes stand at
-/// most 100 in each other. It takes no memory.
+/// Checks whether all the bytes are one document, in which documents, arrays and scopes nest at most
+/// 100 deep. It allocates no memory.
 #[unsafe(no_mangle)]
 pub extern "C" fn vbson_is_document(bytes: &[u8]) -> u32
     ensures done { result ≡ 0 ↔ IsOneDocument bytes.now }

@@ -1,4 +1,4 @@
-//! A block of documents, one behind the other, as dumps have them.
+//! A block of concatenated documents, as a dump has them.
 ghost use Rattle.std.specs.Prelude.{◌≡◌, ◌⊎◌, ◌↔◌, ◌<◌, ◌++◌, List, ℕ, IfSome};
 ghost use Rattle.bson_codec.specs.Documents.{Dump};
 ghost use Rattle.bson_codec.specs.declared.documents.Run.{Run};
@@ -18,8 +18,9 @@ use bson_codec::run_end::{RunEnd, RunFault};
 use bson_convert::mode::Mode;
 use std::alloc::Global;
 
-/// What a block of documents gives: the text of each, the diagnostics of those that are refused, how
-/// many there are, and how many bytes stand before the one at which the block ends early, or all.
+/// The result for a block of documents: the output of each, the diagnostics of the rejected ones,
+/// the number of documents, and the number of bytes before the document that the block cuts off, or
+/// of all bytes.
 #[repr(C)]
 #[derive(Drop)]
 pub struct Documents<'a> {
@@ -29,10 +30,10 @@ pub struct Documents<'a> {
     pub consumed: u64,
 }
 
-/// Reads the block as documents one behind the other, and leaves the text of each in a mode, a line
-/// each, in their order, and a line on each that is refused, with its number and place. One of which
-/// there are not as many bytes as it begins with is the last. The blocks of both texts are the
-/// caller's, who frees them by `free`.
+/// Decodes the concatenated documents of the block. Writes the text of each in a mode, in their
+/// order, each on one line, and a diagnostic for each rejected document, with its number and offset.
+/// A document with fewer bytes than its length is the last one. The caller frees the blocks of both
+/// texts with `free`.
 #[unsafe(no_mangle)]
 pub extern "C" fn vbson_decode_documents_nonnull(
     alloc: Global,
@@ -67,7 +68,7 @@ pub extern "C" fn vbson_decode_documents_nonnull(
     status::OK
 }
 
-// What is asked of each document.
+// Returns the options of the run over the documents.
 fn run_of(options: Options, mode: Mode) -> Run
     ensures { result ≡ run_of options mode }
 {
@@ -79,7 +80,7 @@ fn run_of(options: Options, mode: Mode) -> Run
     }
 }
 
-// What is written of each document.
+// Returns the kind of line that is written for each document.
 fn line_of(mode: Mode) -> Line
     ensures { result ≡ dump_line mode }
 {
@@ -90,7 +91,7 @@ fn line_of(mode: Mode) -> Line
     }
 }
 
-// What a block of documents gives, with a newline more behind each text.
+// The result for a block of documents, with one more newline at the end of each text.
 #[derive(Drop)]
 struct Given {
     text: Vec<u8>,
@@ -99,7 +100,7 @@ struct Given {
     consumed: u64,
 }
 
-// What the documents of the block give; none when out of memory.
+// Decodes the documents of the block. Returns `None` if memory runs out.
 fn decode_block(alloc: Global, run: Run, block: &[u8]) -> Option<Given>
     ensures { IfSome result (λ given. (text : List ℕ) × (diagnostics : List ℕ)
         × GivesDocuments run block.now text diagnostics given.documents given.consumed
@@ -118,7 +119,7 @@ fn decode_block(alloc: Global, run: Run, block: &[u8]) -> Option<Given>
     }
 }
 
-// The texts, with a newline more behind each; none when out of memory.
+// Appends one more newline to each text. Returns `None` if memory runs out.
 fn with_newlines(
     text: Vec<u8>,
     diagnostics: Vec<u8>,
@@ -139,8 +140,8 @@ fn with_newlines(
     })
 }
 
-// The verdicts, and that on the document at which the run ended; none where memory, a reader or a
-// writer was wanting.
+// Appends the diagnostic of the document at which the run ended. Returns `None` if memory, a reader
+// or a writer failed.
 fn add_line(alloc: Global, end: RunEnd, mut diagnostics: Vec<u8>) -> Option<Vec<u8>>
     ensures { IfSome result (λ all. EndsAs end diagnostics.items all.items) }
 {

@@ -1,4 +1,4 @@
-//! The bytes of a text's document.
+//! Encodes the document that a text denotes as BSON bytes.
 ghost use Rattle.std.specs.Prelude.{◌≡◌, ◌⊎◌, ◌↔◌, ◌<◌, ◌≤◌, ◌++◌, List, ℕ, IfOk, IfErr};
 ghost use Rattle.bson.specs.TextMeaning.{IsNoText, MeansBy};
 ghost use Rattle.bson_codec.specs.Canonical.{FitsDocument, too_long, zero_in_key, zero_in_regex};
@@ -18,9 +18,9 @@ use bson::extjson::Options;
 use bson_run::encode::encode;
 use std::alloc::Global;
 
-/// Leaves the canonical bytes of the document that a text of Extended JSON means, with the options of
-/// `vbson_convert_nonnull`. The block of the bytes, which has a NUL behind them, is the caller's, who
-/// frees it by `free`.
+/// Encodes the document that a text of Extended JSON denotes as canonical bytes, with the options of
+/// `vbson_convert_nonnull`. The bytes are followed by a NUL. The caller frees their block with
+/// `free`.
 #[unsafe(no_mangle)]
 pub extern "C" fn vbson_encode_nonnull(
     alloc: Global,

@@ -1,4 +1,4 @@
-//! Why a text is refused, and where.
+//! Explains why a text is rejected, and where.
 ghost use Rattle.std.specs.Prelude.{◌≡◌, ◌≢◌, ◌⊎◌, ◌↔◌, ◌<◌, ◌++◌, ℕ, List, [], length, map, IfOk, IfErr, IsUtf8};
 ghost use Rattle.bson.specs.Value.{Value};
 ghost use Rattle.bson_convert.specs.Convert.{IsRefusedIn, newline};
@@ -44,13 +44,13 @@ pub struct Rejection<'a> {
     pub path: Text<'a>,
     /// What is wrong.
     pub reason: Text<'a>,
-    /// The words for all of this, on one line.
+    /// The message, on one line.
     pub message: Text<'a>,
 }
 
-/// Leaves why a text is refused, and where; the code 0, and no words, if it is accepted. All options
-/// are accepted. This explains the status of `vbson_convert_nonnull` and `vbson_same_nonnull`; the
-/// order of keys changes nothing here.
+/// Explains why a text is rejected, and where. The code is 0, and the message is empty, if the text
+/// is accepted. All options are accepted. This explains the status of `vbson_convert_nonnull` and
+/// `vbson_same_nonnull`; the order of keys changes nothing here.
 #[unsafe(no_mangle)]
 pub extern "C" fn vbson_explain_nonnull(
     alloc: Global,
@@ -117,7 +117,7 @@ fn explained_read(
     }
 }
 
-// The struct of a text that is accepted.
+// Returns the error struct of an accepted text.
 fn accepted(alloc: Global) -> Result<Rejection<'static>, PathError>
     ensures said { IfOk result (λ out. Says [] explained.Other [] out) }
     ensures memory { IfErr result (λ e. e ≡ sizes.OutOfMemory) }
@@ -127,7 +127,7 @@ fn accepted(alloc: Global) -> Result<Rejection<'static>, PathError>
     Ok(filled(parts, message))
 }
 
-// The struct for an error of the text.
+// Returns the error struct for an error of the text.
 fn rejected(alloc: Global, fault: &Error, text: &[u8]) -> Result<Rejection<'static>, PathError>
     ensures said { IfOk result (λ out. IsError text.now fault.now out) }
     ensures long { IfErr result (λ e. e ≢ sizes.OutOfMemory → IsLongPath fault.now) }
@@ -139,7 +139,7 @@ fn rejected(alloc: Global, fault: &Error, text: &[u8]) -> Result<Rejection<'stat
     Ok(filled(parts, message))
 }
 
-// The words for a fault and its place, and a newline.
+// Returns the message of a fault and its path, and a newline.
 fn line_at(alloc: Global, fault: &Error, place: &str) -> Result<Vec<u8>, AllocError>
     ensures { IfOk result (λ line. IsUtf8 (words_of fault.now ++ place.now)
         × (line.items ≡ (words_of fault.now ++ place.now) ++ newline)) }
@@ -149,7 +149,7 @@ fn line_at(alloc: Global, fault: &Error, place: &str) -> Result<Vec<u8>, AllocEr
     Ok(line.into_bytes())
 }
 
-// What a struct is made of, without its message. The bytes end in a newline.
+// The fields of the error struct, without its message. The bytes end in a newline.
 #[derive(Drop)]
 pub(crate) struct Parts {
     pub(crate) code: u32,
@@ -160,7 +160,7 @@ pub(crate) struct Parts {
     pub(crate) reason: Vec<u8>,
 }
 
-// The struct of these parts.
+// Returns the error struct of these fields.
 pub(crate) fn filled(parts: Parts, message: Vec<u8>) -> Rejection<'static>
     requires { (0 < length parts.path.items) × (0 < length parts.reason.items) × (0 < length message.items) }
     ensures { IsMadeOf parts message.items result }
@@ -176,7 +176,7 @@ pub(crate) fn filled(parts: Parts, message: Vec<u8>) -> Rejection<'static>
     }
 }
 
-// The parts for an explanation of an error of the text.
+// Returns the fields of the error struct for an explanation of an error of the text.
 fn parts_of(alloc: Global, found: &Explanation<'_>, text: &[u8]) -> Result<Parts, PathError>
     ensures said { IfOk result (λ parts. ArePartsOf text.now found.now parts) }
     ensures long { IfErr result (λ e. e ≢ sizes.OutOfMemory → PathIsTooLong found.now) }
@@ -193,7 +193,7 @@ fn parts_of(alloc: Global, found: &Explanation<'_>, text: &[u8]) -> Result<Parts
     })
 }
 
-// The words, and a newline.
+// Returns the string, and a newline.
 pub(crate) fn line_of(alloc: Global, words: &str) -> Result<Vec<u8>, AllocError>
     ensures { IfOk result (λ line. IsUtf8 words.now × (line.items ≡ words.now ++ newline)) }
 {
@@ -201,7 +201,7 @@ pub(crate) fn line_of(alloc: Global, words: &str) -> Result<Vec<u8>, AllocError>
     Ok(line.into_bytes())
 }
 
-// The status of an explained error, or 0 for none.
+// Returns the status of an explained error, or 0 if there is no error.
 fn code_of(found: &Explanation<'_>) -> u32
     ensures { result ≡ code_in found.now }
 {
@@ -216,7 +216,7 @@ fn code_of(found: &Explanation<'_>) -> u32
     }
 }
 
-// The line on which the text stops to be JSON, or 0.
+// Returns the line on which the text stops to be JSON, or 0.
 fn line_in(found: &Explanation<'_>, text: &[u8]) -> usize
     ensures { result ≡ line_in text.now found.now }
 {
@@ -227,7 +227,7 @@ fn line_in(found: &Explanation<'_>, text: &[u8]) -> usize
     }
 }
 
-// The byte of the line there, or 0.
+// Returns the column at which the text stops to be JSON, or 0.
 fn column_in(found: &Explanation<'_>, text: &[u8]) -> usize
     ensures { result ≡ column_in text.now found.now }
 {
@@ -238,7 +238,7 @@ fn column_in(found: &Explanation<'_>, text: &[u8]) -> usize
     }
 }
 
-// How many bytes are before that byte, or 0.
+// Returns the offset at which the text stops to be JSON, or 0.
 fn offset_in(found: &Explanation<'_>, text: &[u8]) -> usize
     ensures { result ≡ offset_in text.now found.now }
 {
@@ -249,7 +249,7 @@ fn offset_in(found: &Explanation<'_>, text: &[u8]) -> usize
     }
 }
 
-// The segments that lead to the invalid value, from the value outward.
+// Returns the path segments that lead to the invalid value, from the value outward.
 fn segments_of<'a>(found: &'a Explanation<'_>) -> &'a [Segment]
     ensures { map segment_of result.now ≡ path_in found.now }
 {
@@ -259,7 +259,7 @@ fn segments_of<'a>(found: &'a Explanation<'_>) -> &'a [Segment]
     }
 }
 
-// What is wrong.
+// Returns what is wrong.
 fn reason_of<'a>(found: &'a Explanation<'_>) -> &'a str
     ensures { result.now ≡ reason_in found.now }
 {

@@ -1,16 +1,17 @@
 //! Extended JSON and the small values of BSON for callers in C, and in every language that calls C.
 //! `languages/c/vbson.h` is the header, with what a caller owes.
 //!
-//! Every call reads what it is handed for its own time only, keeps nothing between calls, requires
-//! nothing beyond its types, and answers a number of `status`: 0 where it did what it is for. On
-//! any other number an out parameter is as it was, except where its call says more. In reading
-//! order: `status`, `options`, `text` (a text that the caller has and frees) with `convert` (one text
-//! to another), `canonical` (whether a text is canonical), `explain` (why a text is refused, and where) with `path` (the bytes of a path) and `lines` (a block of lines), `values` (two texts by what they
-//! mean), `documents` (whether bytes are a document of BSON) with `document_error` (why not), `decode`
-//! (their text) with `direct` (what needs no document in memory), `encode`
-//! (the bytes of a text) and `dump` (a block of documents), `raw` (values of documents that remain bytes), `builder` (documents in the
-//! caller's memory) with `append` (their elements), and `buffer` (a buffer of the caller's) with
-//! `scalars` (decimals, object ids, moments).
+//! A call reads its arguments only until it returns, keeps nothing between calls, requires nothing
+//! beyond its types, and returns a number of `status`, which is 0 on success. On any other status an
+//! out parameter is unchanged, unless the call says more. In reading order: `status`, `options`,
+//! `text` (a text that the caller owns and frees) with `convert` (one text to another), `canonical`
+//! (whether a text is canonical), `explain` (why a text is rejected, and where) with `path` (the bytes
+//! of a path) and `lines` (a block of lines), `values` (comparing and hashing the values of texts),
+//! `documents` (whether bytes are a BSON document) with `document_error` (why not), `decode` (their
+//! text) with `direct` (decoding without a document in memory), `encode` (the bytes of a text) and
+//! `dump` (a block of documents), `raw` (values of documents that remain bytes), `builder` (documents
+//! in the caller's memory) with `append` (their elements), and `buffer` (a buffer of the caller's)
+//! with `scalars` (decimals, object ids, date-times).
 #![tactic(auto)]
 
 mod append;

@@ -19,8 +19,8 @@ use bson_run::order::{OnRefusal, Task};
 use std::alloc::Global;
 use std::io::sink;
 
-/// What a block of lines gives: what each is converted to, the diagnostics of those that are refused,
-/// how many lines there are, and how many are refused.
+/// The result for a block of lines: the output of each line, the diagnostics of the rejected ones,
+/// the number of lines, and the number of rejected lines.
 #[repr(C)]
 #[derive(Drop)]
 pub struct Lines<'a> {
@@ -30,9 +30,9 @@ pub struct Lines<'a> {
     pub refused: u64,
 }
 
-/// Reads each line of the block as one text of Extended JSON, and leaves what it is converted to, a
-/// line each, in their order, and a line on each that is refused, with its number and place. The
-/// blocks of both texts are the caller's, who frees them by `free`.
+/// Converts each line of the block, which is one text of Extended JSON. Writes the outputs in their
+/// order, each on one line, and a diagnostic for each rejected line, with its number and path. The
+/// caller frees the blocks of both texts with `free`.
 #[unsafe(no_mangle)]
 pub extern "C" fn vbson_convert_lines_nonnull(
     alloc: Global,
@@ -61,10 +61,10 @@ pub extern "C" fn vbson_convert_lines_nonnull(
     status::OK
 }
 
-/// Reads each line of the block as one text of Extended JSON, and leaves the bytes of the document
-/// that each means, one behind the other, in their order, and a line on each that is refused, with
-/// its number and place. The block of the bytes, which has a NUL behind them, and that of the text
-/// are the caller's, who frees them by `free`.
+/// Encodes each line of the block, which is one text of Extended JSON. Writes the bytes of their
+/// documents, concatenated in the order of the lines, and a diagnostic for each rejected line, with
+/// its number and path. The bytes are followed by a NUL. The caller frees the blocks of the bytes
+/// and of the diagnostics with `free`.
 #[unsafe(no_mangle)]
 pub extern "C" fn vbson_encode_lines_nonnull(
     alloc: Global,
@@ -89,8 +89,8 @@ pub extern "C" fn vbson_encode_lines_nonnull(
     status::OK
 }
 
-/// Leaves the number, from 1, of the first line of the block that `vbson_convert_lines` rejects, or
-/// `NOT_FOUND` if it accepts each.
+/// Finds the first line of the block that `vbson_convert_lines` rejects, and sets its number, from 1.
+/// Returns `NOT_FOUND` if that call accepts each line.
 #[unsafe(no_mangle)]
 pub extern "C" fn vbson_first_rejected_line_nonnull(
     alloc: Global,
@@ -124,8 +124,8 @@ pub extern "C" fn vbson_first_rejected_line_nonnull(
     )
 }
 
-/// Leaves the number, from 1, of the first line of the block that `vbson_encode_lines` rejects, or
-/// `NOT_FOUND` if it accepts each.
+/// Finds the first line of the block that `vbson_encode_lines` rejects, and sets its number, from 1.
+/// Returns `NOT_FOUND` if that call accepts each line.
 #[unsafe(no_mangle)]
 pub extern "C" fn vbson_first_unencoded_line_nonnull(
     alloc: Global,
@@ -147,7 +147,7 @@ pub extern "C" fn vbson_first_unencoded_line_nonnull(
     first_rejected(alloc, options_of(*options), Task::Encode, block, number)
 }
 
-// What the lines of the block give; none when out of memory.
+// Returns the result for the lines of the block, or `None` if memory runs out.
 fn lines_of(alloc: Global, options: Options, task: Task, block: &[u8]) -> Option<Lines<'static>>
     ensures { IfSome result (λ lines. AreReturned options task block.now lines) }
 {
@@ -160,7 +160,7 @@ fn lines_of(alloc: Global, options: Options, task: Task, block: &[u8]) -> Option
     })
 }
 
-// What a block of lines gives, with a newline more behind each text.
+// The result for a block of lines, with one more newline at the end of each text.
 #[derive(Drop)]
 struct Given {
     text: Vec<u8>,
@@ -169,7 +169,7 @@ struct Given {
     refused: u64,
 }
 
-// The same with a newline more behind each text.
+// Returns the result for the lines, with one more newline at the end of each text.
 fn run_block(alloc: Global, options: Options, task: Task, block: &[u8]) -> Option<Given>
     ensures { IfSome result (λ given. (text : List ℕ) × (diagnostics : List ℕ)
         × GivesLines options task block.now text diagnostics given.lines given.refused
@@ -193,7 +193,7 @@ fn run_block(alloc: Global, options: Options, task: Task, block: &[u8]) -> Optio
     })
 }
 
-// Leaves the number of the first line that the task rejects.
+// Sets the number of the first line that the task rejects.
 fn first_rejected(
     alloc: Global,
     options: Options,
@@ -219,7 +219,7 @@ fn first_rejected(
     status::OK
 }
 
-// Whether the fault is that of a rejected line.
+// Returns whether the fault is that of a rejected line.
 fn is_rejection(fault: &Error) -> bool
     ensures { result ≡ is_rejection fault.now }
 {

@@ -130,7 +130,7 @@ pub extern "C" fn vbson_raw_int64(value: &RawValue<'_>, out: &mut i64) -> u32
     }
 }
 
-/// Reads the bit pattern of a double.
+/// Reads the 64 bits of a double.
 #[unsafe(no_mangle)]
 pub extern "C" fn vbson_raw_double(value: &RawValue<'_>, out: &mut u64) -> u32
     ensures typed { (d : ℕ) (v : Value) → IsValueAt d v value.now → IsTypedResult (double_value v) result out.new }

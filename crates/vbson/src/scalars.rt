@@ -1,4 +1,4 @@
-//! Decimals, object ids and moments: from a text to plain bytes or a number, and back.
+//! Decimals, object ids and date-times: parsed from a text to bytes or an integer, and printed.
 ghost use Rattle.std.specs.Prelude.{◌≡◌, ◌≢◌, ◌⊎◌, ◌<◌, ◌≤◌, ℕ, ℤ, List, IsUtf8, length};
 ghost use Rattle.bson_decimal.specs.Text.{Parses};
 ghost use Rattle.bson_decimal.specs.Displayed.{decimal128_text as decimal_text};
@@ -17,7 +17,7 @@ use std::alloc::Global;
 use std::str;
 use std::str::FromStr;
 
-/// The 16 bytes, the lowest first, of the decimal that the text denotes. No value is rounded.
+/// Parses a decimal to its 16 bytes, the lowest first. No value is rounded.
 #[unsafe(no_mangle)]
 pub extern "C" fn vbson_decimal128_parse(text: &[u8], out: &mut [u8; 16]) -> u32
     ensures done { result ≡ 0 → Parses text.now out.new }
@@ -37,7 +37,7 @@ pub extern "C" fn vbson_decimal128_parse(text: &[u8], out: &mut [u8; 16]) -> u32
     }
 }
 
-/// The text of the decimal of 16 bytes, of at most 42 bytes. Every 16 bytes have one.
+/// Prints the decimal of 16 bytes as a text of at most 42 bytes. Every 16 bytes have one.
 #[unsafe(no_mangle)]
 pub extern "C" fn vbson_decimal128_print(
     alloc: Global,
@@ -57,7 +57,7 @@ pub extern "C" fn vbson_decimal128_print(
     }
 }
 
-/// The 12 bytes of the object id whose 24 hexadecimal digits, of either case, the text is.
+/// Parses an object id from 24 hexadecimal digits of either case to its 12 bytes.
 #[unsafe(no_mangle)]
 pub extern "C" fn vbson_object_id_parse(text: &[u8], out: &mut [u8; 12]) -> u32
     ensures done { result ≡ 0 → IsOidText text.now out.new }
@@ -74,7 +74,7 @@ pub extern "C" fn vbson_object_id_parse(text: &[u8], out: &mut [u8; 12]) -> u32
     }
 }
 
-/// The 24 lower-case hexadecimal digits of the 12 bytes.
+/// Prints the 12 bytes of an object id as 24 lower-case hexadecimal digits.
 #[unsafe(no_mangle)]
 pub extern "C" fn vbson_object_id_print(bytes: &[u8; 12], buffer: &mut [u8], len: &mut usize) -> u32
     ensures done { result ≡ 0 → IsPut (encode_lower bytes.now) buffer.old buffer.new len.new }
@@ -89,8 +89,7 @@ pub extern "C" fn vbson_object_id_print(bytes: &[u8; 12], buffer: &mut [u8], len
     }
 }
 
-/// The milliseconds since 1970-01-01T00:00:00Z of the moment whose text of RFC 3339 (section 5.6)
-/// this is.
+/// Parses a date-time of RFC 3339 (section 5.6) to milliseconds since 1970-01-01T00:00:00Z.
 #[unsafe(no_mangle)]
 pub extern "C" fn vbson_date_time_parse(text: &[u8], out: &mut i64) -> u32
     ensures done { result ≡ 0 → Names text.now out.new }
@@ -110,8 +109,8 @@ pub extern "C" fn vbson_date_time_parse(text: &[u8], out: &mut i64) -> u32
     }
 }
 
-/// The text of RFC 3339 of the moment so many milliseconds after 1970-01-01T00:00:00Z, of at most
-/// 24 bytes. Moments of the years 0000 to 9999 have one.
+/// Prints the date-time that is so many milliseconds after 1970-01-01T00:00:00Z as a text of RFC 3339
+/// with at most 24 bytes. Date-times of the years 0000 to 9999 have one.
 #[unsafe(no_mangle)]
 pub extern "C" fn vbson_date_time_print(
     alloc: Global,

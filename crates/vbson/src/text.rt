@@ -1,12 +1,12 @@
-//! A text that the caller has.
+//! Output text that the caller owns and frees.
 ghost use Rattle.std.specs.Prelude.{◌≡◌, ◌<◌, ◌-◌, ◌++◌, length, take, IfOk, IfErr};
 ghost use Rattle.bson_convert.specs.Convert.{newline};
 ghost use Rattle.vbson.specs.Text.{IsOwnedText};
 
 use crate::status;
 
-/// A text that the caller has: its bytes with a NUL behind them, in a block of their own which the
-/// caller frees by `free`, and its length without the NUL.
+/// A text that the caller owns: its bytes followed by a NUL, in a block of their own that the
+/// caller frees with `free`, and its length without the NUL.
 #[repr(C)]
 #[derive(Drop)]
 pub struct Text<'a> {

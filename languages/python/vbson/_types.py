@@ -33,7 +33,7 @@ class Types:
     """Types, of which a class below makes the values."""
 
     def only_value(self, flags: int, text: bytes) -> Optional[tuple]:
-        """Returns the value under the one key of the document of a text, in a tuple; None if there is no such value."""
+        """Returns the value under the one key of the document of a text, in a tuple; None if there is no value."""
         try:
             if _calls.extension is not None:
                 found = _calls.extension.value_by(_calls.ADDRESSES["encode"], _calls.OPTIONS_AT[flags], text, self._made)
