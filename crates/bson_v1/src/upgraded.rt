@@ -34,7 +34,7 @@ use std::alloc::Global;
 /// than they did.
 ///
 /// No tree is built: the text is written as it is read, first with each key once, and at most two
-/// members of an object are kept in memory. Memory is that of two texts.
+/// members of an object are kept in memory. Memory is twice that of the text.
 ///
 /// # Errors
 ///
