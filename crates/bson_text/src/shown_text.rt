@@ -86,7 +86,7 @@ impl ShownWriter {
         }
     }
 
-    // Ends a document, and sorts its members by key.
+    // Ends a document with its members in ascending key order.
     fn end_sorted(&mut self, mark: Mark, keys: &[&str]) -> Result<(), Stop>
         requires stands { (start : ShownWriter) × (mid : ShownWriter) × (ps : Pairs) × DisplayBegun start mark mid
             × PairsWritten (λ a k v b. DisplayValueAdded a v b) DisplayKeyAdded ps mid self.old
