@@ -29,17 +29,17 @@ member_key m = string_bytes m.key
 abbrev pub member_value : Member → Value
 member_value m = bson_view m.value
 
--- the pairs after each member in turn is put to them
+-- the pairs after each member is inserted
 abbrev pub put_members : List Member → Pairs → Pairs
 put_members ms ps = put_each member_key member_value ms ps
 
--- the key stands at the place, and is above all before it
+-- the key is at this position, and is greater than all before it
 abbrev pub StandsAt : List ℕ → List Member → ℕ → Type 0
 StandsAt k [] i = ⊥
 StandsAt k (m ∷ ms) zero = slice_cmp nat_cmp k (string_bytes m.key) ≡ Equal
 StandsAt k (m ∷ ms) (suc i) = (slice_cmp nat_cmp k (string_bytes m.key) ≡ Greater) × StandsAt k ms i
 
--- the key is above all before the place, and below the member there
+-- the key is greater than all before the position, and less than the key there
 abbrev pub FitsAt : List ℕ → List Member → ℕ → Type 0
 FitsAt k [] zero = Unit {0}
 FitsAt k [] (suc i) = ⊥

@@ -18,7 +18,7 @@ abbrev pub ordered : {X : Type 0} → KeyOrder → List (List ℕ × X) → List
 ordered Ascending ps = in_order ps
 ordered AsGiven ps = ps
 
--- where a member goes among those of the pairs behind it: here alone the orders differ
+-- where a member goes among those of the pairs after it: only here the orders differ
 abbrev pub put_in_order : KeyOrder → List ℕ → Data → Members → Members
 put_in_order Ascending k d ms = put k d ms
 put_in_order AsGiven k d ms = member k d ms

@@ -25,7 +25,7 @@ abbrev pub pairs_by : KeyOrder → Pairs → Pairs
 pairs_by Ascending ps = sorted_pairs ps
 pairs_by AsGiven ps = ps
 
--- the pairs after each in turn is put by ascending key
+-- the pairs after each is inserted in ascending key order
 abbrev pub put_turns : Pairs → Pairs → Pairs
 put_turns no_pairs found = found
 put_turns (pair k v ps) found = put_turns ps (put_pair k v found)

@@ -1,4 +1,4 @@
--- The error that tells why a tree was not read, for the reason at the place of its fault.
+-- The error that says why a tree was not read, for the reason at the place of its fault.
 use Rattle.std.specs.Prelude.{◌≡◌}
 use Rattle.bson_scalar.specs.declared.error.Error.{Error}
 use Rattle.bson_scalar.specs.declared.error.Error.TheVariants.{InvalidObjectId, DeserializationError}

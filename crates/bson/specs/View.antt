@@ -1,4 +1,4 @@
--- The value that a `Bson` stands for.
+-- The value of a `Bson`.
 use Rattle.std.specs.Prelude.{ℕ, List, [], ◌∷◌, map, string_bytes}
 use Rattle.bson_types.specs.DbPointer.{namespace_of, id_of}
 use Rattle.bson_scalar.specs.Scalar as kind

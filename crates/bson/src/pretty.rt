@@ -106,14 +106,14 @@ fn push_entry(key: &str, value: &Bson, indent: usize, out: &mut String) -> Resul
     push_value(value, inner_indent(indent), out)
 }
 
-// The indent of what lies inside: 2 more, up to the greatest usize.
+// Returns the indent of what is inside: 2 more, up to the greatest usize.
 fn inner_indent(indent: usize) -> usize
     ensures { result ≡ inner indent }
 {
     indent.saturating_add(2)
 }
 
-// What stands before the element at a place.
+// Writes the separator before the element at an index.
 fn push_separator(at: usize, separator: &str, out: &mut String) -> Result<(), AllocError>
     ensures { AppendsOnOk out.old result (cond (at == 0) [] separator.now) out.new }
 {

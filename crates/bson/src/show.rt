@@ -14,7 +14,7 @@ use std::fmt;
 /// The value on one line, as MongoDB's shell would show it: `{ "k": v, "l": w }`, `[a, b]`,
 /// `ObjectId("..")`.
 ///
-/// Documents stand in their own order. Keys and texts are written as they are, with nothing
+/// Documents keep their own order. Keys and texts are written as they are, with nothing
 /// escaped; a double is written as its pattern of bits, `Double(0x3ff8000000000000)`. It takes no
 /// memory.
 impl fmt::Display for Bson {
@@ -107,7 +107,7 @@ fn show_entry<W: fmt::Write>(key: &str, value: &Bson, f: &mut fmt::Formatter<W>)
     show(value, f)
 }
 
-// What stands before the element at a place.
+// Writes the separator before the element at an index.
 fn show_separator<W: fmt::Write>(at: usize, f: &mut fmt::Formatter<W>) -> fmt::Result
     ensures { WritesOnOk W.write_str_gives f.old result (cond (at == 0) [] (codes ", ")) f.new }
 {

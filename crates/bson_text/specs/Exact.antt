@@ -1,4 +1,4 @@
--- What a walk that stops denies of what was to be read: for private clauses.
+-- What an error of the traversal rules out about the input: for private clauses.
 use Rattle.std.specs.Prelude.{◌≡◌, ◌<◌, ◌-◌, ℕ, List, Bool, true, false, Option, None, Some, Ok, option_map, option_and_then, ⊤}
 use Rattle.json.specs.Json as json
 use Rattle.json.specs.Json.{read_key}
@@ -20,7 +20,7 @@ use Rattle.bson_text.specs.Refused.{Streams, ItemsStream, MembersStream}
 use Rattle.bson_text.specs.Stops.{Denied, Lacks}
 use Rattle.bson_text.specs.declared.stop.Stop.{Stop}
 
--- the members as they stand
+-- the trees of the members in input order
 abbrev pub as_they_stand : json.Members → Option Members
 as_they_stand json.no_members = Some no_members
 as_they_stand (json.member k j ms) = option_and_then (λ d. option_map (member k d) (as_they_stand ms)) (kept j)
@@ -32,7 +32,7 @@ EndsSome false ts = (end : List Token) × (read_key ts ≡ Some (None, end))
 abbrev pub EndDenied : Stop → Bool → List Token → Type 0
 EndDenied e needs_comma_after ts = Denied e ⊤ ⊤ (EndsSome needs_comma_after ts) → ⊥
 
--- neither the writer leaves it, nor the walk
+-- neither the writer nor the traversal gives up
 abbrev pub Stays : Type 0 → Type 0 → json.Json → Type 0
 Stays Leaves Sorts j = (Leaves → ⊥) × Streams Sorts j
 
@@ -43,7 +43,7 @@ abbrev pub MembersStay : Type 0 → Type 0 → json.Members → Type 0
 MembersStay Leaves Sorts ms = (Leaves → ⊥) × ((Sorts → KeysAscendAfter None (keys ms)) × MembersStream Sorts ms)
 
 module _ (D : Doubles) where
-  -- it means a value in its order
+  -- it denotes a value in its order
   abbrev pub IsMeaningful : json.Json → Type 0
   IsMeaningful j = CodeFirst j × (t : Data) × (v : Value) × (kept j ≡ Some t) × (reads_in_order D t ≡ Ok v)
 
@@ -51,12 +51,12 @@ module _ (D : Doubles) where
   ItemsMeanSome js = ItemsCodeFirst js × (ts : Items) × (vs : Values) × (kept_items js ≡ Some ts)
       × (items_in_order D ts ≡ Ok vs)
 
-  -- the members alone, whose keys are no wrapper's where they are a document's
+  -- the members alone, whose keys are not wrapper keys if they are a document's
   abbrev pub MembersMeanSome : Bool → json.Members → Type 0
   MembersMeanSome is_document ms = MembersCodeFirst ms × (ts : Members) × (ps : Pairs) × (as_they_stand ms ≡ Some ts)
       × (members_in_order D ts ≡ Ok ps) × (is_document ≡ true → has_wrapper ts ≡ false)
 
-  -- a scope, behind which the object ends
+  -- a scope, after which the object ends
   abbrev pub ScopeMeansSome : Bool → json.Json → List Token → Type 0
   ScopeMeansSome true j rest = ⊥
   ScopeMeansSome false j rest = CodeFirst j × (t : Data) × (scope : Option Pairs) × (kept j ≡ Some t)
@@ -66,7 +66,7 @@ module _ (D : Doubles) where
   NumberDenied e s = Denied e ⊤ ⊤ ((n : Num) × (x : Scalar) × (number_of s ≡ Some n) × (number_read_in D n ≡ Ok x)) → ⊥
 
 module _ (D : Doubles) (Leaves Sorts : Type 0) where
-  -- ---- what a stop denies of what was to be read
+  -- ---- what an error rules out about the input
 
   abbrev pub ValueClaim : Stop → json.Json → Type 0
   ValueClaim e j = Denied e (Stays Leaves Sorts j) (HasUniqueKeys j) (IsMeaningful D j)
@@ -98,6 +98,6 @@ module _ (D : Doubles) (Leaves Sorts : Type 0) where
   abbrev pub CodeDenied : Stop → Bool → Option (json.Json × List Token) → Type 0
   CodeDenied e needs_comma_after parsed = Lacks parsed (λ j r. CodeClaim e needs_comma_after j r)
 
-  -- the text is no JSON text nested so deep of which that is so
+  -- the text is not JSON within the depth that has what the error rules out
   abbrev pub TextDenied : Stop → List ℕ → Type 0
   TextDenied e text = (j : json.Json) → IsShallowJson text j → ValueClaim e j → ⊥

@@ -1,4 +1,4 @@
--- The texts of members, and the text of an object that they give. For private clauses.
+-- The members of an object in the output, and the object with sorted members. For private clauses.
 use Rattle.std.specs.Prelude.{◌≡◌, ◌<◌, ◌≤◌, ◌-◌, ℕ, Bool, true, false, if◌then◌else◌}
 use Rattle.std.specs.Prelude.{List, [], ◌∷◌, ◌++◌, length, map, slice_index_or, slice_range, Option, Some, None, Ok}
 use Rattle.std.specs.Borrow.{Bor}
@@ -23,12 +23,12 @@ span_key p = p.key.now
 abbrev pub span_text : List ℕ → MemberSpan → List ℕ
 span_text texts p = slice_range texts p.start p.end
 
--- where a text ends behind which others start: right before the comma in front of them
+-- where a member ends before the next one: right before the comma
 abbrev pub end_before : List ℕ → ℕ → ℕ
 end_before [] end = end
 end_before (s ∷ starts) end = s - 1
 
--- the members of these keys, whose texts start here and stand behind one another up to the end
+-- the members of these keys, one after another from these offsets up to the end
 abbrev pub spans_from : List (Bor (List ℕ)) → List ℕ → ℕ → List MemberSpan
 spans_from [] starts end = []
 spans_from (k ∷ ks) [] end = []
@@ -37,40 +37,40 @@ spans_from (k ∷ ks) (s ∷ starts) end =
 
 -- ---- keys
 
--- the same of the keys of pieces
+-- the keys of the members ascend
 abbrev pub Ascend : Option (List ℕ) → List MemberSpan → Type 0
 Ascend last [] = Unit {0}
 Ascend last (p ∷ ps) = Follows last (span_key p) × Ascend (Some (span_key p)) ps
 
--- ---- places
+-- ---- positions
 
 abbrev pub no_span : MemberSpan
 no_span = record { key = record { ref_ptr = (0, 0); now = [] }; start = 0; end = 0 }
 
--- the piece at a place, and the key
+-- the member at a position, and the key
 abbrev pub span_or : List MemberSpan → ℕ → MemberSpan
 span_or ps n = slice_index_or ps n no_span
 
 abbrev pub key_or : List (Bor (List ℕ)) → ℕ → List ℕ
 key_or ks n = slice_index_or (map (λ k. k.now) ks) n []
 
--- the pieces at the places
+-- the members at the positions
 abbrev pub picked : List MemberSpan → List ℕ → List MemberSpan
 picked ps places = map (span_or ps) places
 
--- the first of the places has the key
+-- the first position has the key
 abbrev pub has_first : List (Bor (List ℕ)) → List ℕ → List ℕ → Bool
 has_first ks k [] = false
 has_first ks k (n ∷ places) = bytes_eq (key_or ks n) k
 
--- all places of the keys, those of one key in their turns
+-- all positions of the keys, those of one key in input order
 abbrev pub ArePlacesByKey : List (Bor (List ℕ)) → List ℕ → Type 0
 ArePlacesByKey ks places = IsPermutation (range_with_len 0 (length ks)) places
     × IsStableByKey (key_or ks) (range_with_len 0 (length ks)) places
 
 -- ---- joined
 
--- the texts with commas between them
+-- the members with commas between them
 abbrev pub open_text : List ℕ → Bool → List MemberSpan → List ℕ
 open_text texts needs_comma [] = []
 open_text texts needs_comma (p ∷ ps) = comma_if needs_comma ++ (span_text texts p ++ open_text texts true ps)
@@ -87,35 +87,35 @@ object_text texts ps = 123 ∷ members_text texts false ps
 abbrev pub IsSpanWithin : List ℕ → MemberSpan → Type 0
 IsSpanWithin texts p = (p.start < p.end) × (p.end ≤ length texts)
 
--- the first piece has the key
+-- the first member has the key
 abbrev pub stands_again : List ℕ → List MemberSpan → Bool
 stands_again k [] = false
 stands_again k (p ∷ ps) = bytes_eq (span_key p) k
 
--- of those of one key that stand side by side the last
+-- the last of neighbours with the same key
 abbrev pub last_ones : List MemberSpan → List MemberSpan
 last_ones [] = []
 last_ones (p ∷ ps) = if stands_again (span_key p) ps then last_ones ps else p ∷ last_ones ps
 
--- the object's text was written, each key's last piece in its turn
+-- the object was written with the last member of each key
 abbrev pub IsJoinedText : List MemberSpan → List ℕ → List ℕ → Type 0
 IsJoinedText ps texts written = Ascend None (last_ones ps) × (written ≡ object_text texts (last_ones ps))
 
--- the object's text by ascending key, of each key the last piece
+-- the object sorted by key, with the last member of each key
 abbrev pub InOrder : List MemberSpan → List ℕ → List ℕ → Type 0
 InOrder spans texts written =
     (ps : List MemberSpan) × IsStableByKey span_key spans ps × IsPermutation spans ps × Ascend None (last_ones ps)
     × (written ≡ object_text texts (last_ones ps))
 
--- the texts of the pieces stand behind those of old as they came
+-- the members come after the old output in input order
 abbrev pub IsOpenObject : List ℕ → List ℕ → List MemberSpan → Type 0
 IsOpenObject old texts ps = texts ≡ old ++ 123 ∷ open_text texts false ps
 
--- in their place stands the object's text
+-- the finished object replaces the members
 abbrev pub IsObjectWritten : List MemberSpan → List ℕ → List ℕ → List ℕ → Type 0
 IsObjectWritten spans old texts new = (written : List ℕ) × InOrder spans texts written × (new ≡ old ++ written)
 
--- a brace ends the text, and what stands before it is UTF-8
+-- the text ends with a brace, and is UTF-8 before it
 abbrev pub IsBraced : List ℕ → Type 0
 IsBraced text = (front : List ℕ) × (is_utf8 front ≡ true) × (text ≡ front ++ 125 ∷ [])
 
@@ -125,13 +125,13 @@ IsBraced text = (front : List ℕ) × (is_utf8 front ≡ true) × (text ≡ fron
 abbrev pub IsMemberText : Doubles → Form → List ℕ → Value → List ℕ → Type 0
 IsMemberText D f k v s = (t : Data) × (writes_in D f v ≡ Ok t) × (s ≡ quoted k ++ 58 ∷ text_of t)
 
--- the values of pieces, by where their texts begin
+-- the values of the members, by the offsets at which they begin
 abbrev pub SpanValues : Type 0
 SpanValues = ℕ → Value
 
 abbrev pub value_at : SpanValues → MemberSpan → Value
 value_at values p = values p.start
 
--- the piece stands within the texts, with a text of its key and value
+-- the member is within the output, with a text of its key and value
 abbrev pub IsMemberSpan : (List ℕ → Value → List ℕ → Type 0) → List ℕ → SpanValues → MemberSpan → Type 0
 IsMemberSpan IsText texts values p = IsSpanWithin texts p × IsText (span_key p) (value_at values p) (span_text texts p)

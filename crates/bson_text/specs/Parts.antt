@@ -4,12 +4,12 @@ use Rattle.json.specs.Token.{Token}
 use Rattle.bson_text.specs.declared.parts.Scope.{Scope}
 use Rattle.bson_text.specs.declared.parts.Scope.TheVariants as scope
 
--- the token at which a scope starts
+-- the token at which a scope begins
 abbrev pub scope_token : Scope → Token
 scope_token scope.Null = Token.null
 scope_token scope.Object = Token.begin_object
 
--- no scope starts there
+-- no scope begins there
 abbrev pub IsNoScope : List Token → Type 0
 IsNoScope [] = ⊤
 IsNoScope (Token.begin_object ∷ ts) = ⊥

@@ -1,4 +1,4 @@
--- Where a walk found the first fault, and the tokens that are left.
+-- Where the traversal found the first error, and the remaining tokens.
 use Rattle.std.specs.Prelude.{◌≡◌, ◌<◌, ◌-◌, ℕ, List, [], ◌∷◌, ◌++◌, Bool, true, false, Option, None, Some, codes}
 use Rattle.std.specs.Prelude.{option_map, option_and_then, ⊤, ◌||◌, ◌&&◌, is_some, Result, Box}
 use Rattle.std.specs.Cmp.Lexicographic.{slice_cmp}
@@ -49,7 +49,7 @@ abbrev mutual
   MembersRise json.no_members = ⊤
   MembersRise (json.member k j ms) = IsUnder k ms × Rises j × MembersRise ms
 
--- the trees of the members as they stand
+-- the trees of the members in input order
 abbrev pub trees_of : json.Members → Option Members
 trees_of json.no_members = Some no_members
 trees_of (json.member k j ms) = option_and_then (λ d. option_map (member k d) (trees_of ms)) (of_json j)
@@ -64,9 +64,9 @@ abbrev pub FirstPlain : json.Members → Type 0
 FirstPlain json.no_members = ⊤
 FirstPlain (json.member k j ms) = wrapper_of k ≡ None
 
--- ---- what a fault tells
+-- ---- what a fault says
 
--- at a fault this holds of its place
+-- if the error is a fault, this holds for its place
 abbrev pub At : Stop → (Place → Type 0) → Type 0
 At stop.OutOfMemory P = ⊤
 At stop.DuplicateKey P = ⊤
@@ -82,7 +82,7 @@ IsOf v place = IsPlace (λ f path. v ≡ Some (f, path)) place
 abbrev pub IsShapeFault : Place → Type 0
 IsShapeFault place = (path_of place ≡ []) × IsReason wrong_shape place.reason
 
--- the same place, seen from one segment further out
+-- the same place, with one more segment
 abbrev pub IsPlaceWithin : PathSegment → Place → Place → Type 0
 IsPlaceWithin s old new = (path_of new ≡ path_of old ++ s ∷ []) × (new.reason ≡ old.reason)
 
@@ -198,7 +198,7 @@ module _ (D : Doubles) where
   TextPlaced e text = At e (λ place. (j : json.Json) (t : Data) → IsShallowJson text j → Rises j → of_json j ≡ Some t
       → IsFirstFaultIn D t place)
 
--- What is so of what was to be read if it stops: what the stop denies, and where the fault is.
+-- What an error says about the input: what it rules out, and where the error is.
 module _ (D : Doubles) (L S : Type 0) where
   abbrev pub ValueStops : Stop → Option (json.Json × List Token) → List Token → Type 0
   ValueStops e parsed rest = ValueDenied D L S e parsed × ValuePlaced D e parsed rest

@@ -28,21 +28,21 @@ value_shown a (document ps) = document (pairs_shown a ps)
 abbrev pub separator_if : Bool → List ℕ
 separator_if needs_comma = if needs_comma then codes ", " else []
 
--- the brace that ends a document, behind its members or none
+-- the brace that ends a document, after its members or none
 abbrev pub closing_brace : Bool → List ℕ
 closing_brace needs_comma = if needs_comma then codes " }" else codes "}"
 
--- the text so far, and the separator that comes before a value that stands next
+-- the text so far, and the separator before the next value
 abbrev pub next_display : ShownWriter → List ℕ
 next_display w = w.text.items ++ separator_if w.needs_comma
 
--- this text comes after the old one, behind which a value stands or not, and nothing else is another
+-- this text comes after the old text, a comma is needed after it or not, and nothing else changes
 abbrev pub DisplayAdded : ShownWriter → List ℕ → Bool → ShownWriter → Type 0
 DisplayAdded old s needs_comma new =
     (new.needs_comma ≡ needs_comma) × (new.arrangement ≡ old.arrangement) × (new.starts.items ≡ old.starts.items)
     × (new.text.items ≡ old.text.items ++ s)
 
--- the same with a separator where one is due
+-- the same with a separator if one is needed
 abbrev pub DisplayNext : ShownWriter → List ℕ → Bool → ShownWriter → Type 0
 DisplayNext old s needs_comma new = DisplayAdded old (separator_if old.needs_comma ++ s) needs_comma new
 
@@ -52,7 +52,7 @@ DisplayValueAdded old v new = DisplayNext old (display_text (value_shown old.arr
 abbrev pub DisplayPairsAdded : ShownWriter → Pairs → ShownWriter → Type 0
 DisplayPairsAdded old ps new = DisplayNext old (display_text (document (pairs_shown old.arrangement ps))) true new
 
--- a document was begun, whose text starts here and whose members' starts come behind those before it
+-- a document was begun: its text begins here, and its members' offsets come after those before it
 abbrev pub DisplayBegun : ShownWriter → Mark → ShownWriter → Type 0
 DisplayBegun old mark new = (mark.start ≡ length (next_display old)) × (mark.held ≡ length old.starts.items)
     × DisplayNext old (codes "{") false new
@@ -61,12 +61,12 @@ DisplayBegun old mark new = (mark.start ≡ length (next_display old)) × (mark.
 abbrev pub member_front : ShownWriter → List ℕ
 member_front w = w.text.items ++ comma_if w.needs_comma
 
--- a key was added, whose member starts here, with the blank in front of it
+-- a key was added: its member begins here, with the space before it
 abbrev pub DisplayKeyAdded : ShownWriter → List ℕ → ShownWriter → Type 0
 DisplayKeyAdded old k new = (new.needs_comma ≡ false) × (new.arrangement ≡ old.arrangement)
     × (new.starts.items ≡ old.starts.items ++ length (member_front old) ∷ [])
     × (new.text.items ≡ member_front old ++ (codes " \"" ++ (k ++ codes "\": ")))
 
--- code was added, and the text of its scope starts here
+-- code was added, and the text of its scope begins here
 abbrev pub IsCodeBegun : ShownWriter → List ℕ → Mark → ShownWriter → Type 0
 IsCodeBegun old s mark new = (mark.start ≡ length new.text.items) × DisplayNext old s false new

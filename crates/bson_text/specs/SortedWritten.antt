@@ -10,16 +10,16 @@ use Rattle.bson_model.specs.Writing.{writes_in, writes_pairs_in}
 use Rattle.bson_text.specs.declared.sorted_text.Mark.{Mark}
 use Rattle.bson_text.specs.declared.sorted_text.SortedWriter.{SortedWriter}
 
--- the text so far, and the comma that comes before a value that stands next
+-- the text so far, and the comma before the next value
 abbrev pub next_sorted : SortedWriter → List ℕ
 next_sorted w = w.text.items ++ comma_if w.needs_comma
 
--- this text comes after the old one, behind which a value stands or not, and nothing else is another
+-- this text comes after the old text, a comma is needed after it or not, and nothing else changes
 abbrev pub SortedAdded : SortedWriter → List ℕ → Bool → SortedWriter → Type 0
 SortedAdded old s needs_comma new = (new.doubles ≡ old.doubles) × (new.form ≡ old.form) × (new.needs_comma ≡ needs_comma)
     × (new.starts.items ≡ old.starts.items) × (new.text.items ≡ old.text.items ++ s)
 
--- the same with a comma where one is due
+-- the same with a comma if one is needed
 abbrev pub SortedNext : SortedWriter → List ℕ → Bool → SortedWriter → Type 0
 SortedNext old s needs_comma new = SortedAdded old (comma_if old.needs_comma ++ s) needs_comma new
 
@@ -30,12 +30,12 @@ abbrev pub SortedPairsAdded : SortedWriter → Pairs → SortedWriter → Type 0
 SortedPairsAdded old ps new = (ms : Members) × (writes_pairs_in old.doubles old.form (sorted_pairs ps) ≡ Ok ms)
     × SortedNext old (text_of (object ms)) true new
 
--- an object was begun, whose text starts here and whose members' starts come behind those before it
+-- an object was begun: its text begins here, and its members' offsets come after those before it
 abbrev pub SortedBegun : SortedWriter → Mark → SortedWriter → Type 0
 SortedBegun old mark new = (mark.start ≡ length (next_sorted old)) × (mark.held ≡ length old.starts.items)
     × SortedNext old (123 ∷ []) false new
 
--- a key was added, whose member starts here
+-- a key was added: its member begins here
 abbrev pub SortedKeyAdded : SortedWriter → List ℕ → SortedWriter → Type 0
 SortedKeyAdded old k new = (new.doubles ≡ old.doubles) × (new.form ≡ old.form) × (new.needs_comma ≡ false)
     × (new.starts.items ≡ old.starts.items ++ length (next_sorted old) ∷ [])

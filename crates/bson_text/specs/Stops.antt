@@ -1,4 +1,4 @@
--- Why a walk stops, and what is then not so of the text.
+-- Why a traversal fails, and what the error rules out about the text.
 use Rattle.std.specs.Prelude.{◌≡◌, ℕ, List, Option, None, Some, Result, true}
 use Rattle.json.specs.Strict.{AreDistinct}
 use Rattle.json.specs.Token.{Token}
@@ -28,7 +28,7 @@ abbrev pub write_stop : WriteError → Stop
 write_stop write_error.OutOfMemory = OutOfMemory
 write_stop write_error.FiniteDouble = GaveUp
 
--- A writer stops for want of memory, since keys are not unique, or since it gives up the text, of which this is so.
+-- A writer fails if an allocation fails, if keys are not unique, or if it gives up a text for which this holds.
 abbrev pub IsStopBy : Type 0 → Type 0 → Stop → Type 0
 IsStopBy Unique GivesUp OutOfMemory = Unit {0}
 IsStopBy Unique GivesUp DuplicateKey = Unique → ⊥
@@ -40,11 +40,11 @@ IsStopBy Unique GivesUp (Fault place) = ⊥
 abbrev pub MayStop : (Doubles → Type 0) → Stop → Type 0
 MayStop Leaves e = IsStopBy (Unit {0}) ((D : Doubles) → Leaves D) e
 
--- At a scalar it may do so also if the scalar is not one that has a text in the mode.
+-- For a scalar it may also do this if the scalar is not one that has a text in the mode.
 abbrev pub MayStopAt : (Doubles → Type 0) → Scalar → Stop → Type 0
 MayStopAt Leaves x e = IsStopBy (Unit {0}) ((D : Doubles) → writable_scalar_in D x ≡ true → Leaves D) e
 
--- At the end of a document of these keys it may report that two of them are equal. A writer that sorts may give up keys
+-- When a document of these keys ends, it may report that two of them are equal. A sorting writer may give up keys
 -- that do not ascend.
 abbrev pub MayStopAtEnd : (Doubles → Type 0) → Type 0 → List (List ℕ) → Stop → Type 0
 MayStopAtEnd Leaves Sorts keys e = IsStopBy (AreDistinct keys) ((Sorts → KeysAscendAfter None keys) → (D : Doubles) → Leaves D) e
@@ -57,7 +57,7 @@ IsStopAfter GaveUp e = e ≡ GaveUp
 IsStopAfter Syntax e = e ≡ GaveUp
 IsStopAfter (Fault place) e = e ≡ GaveUp
 
--- The stop is a fault of the text.
+-- The error says that the text is invalid.
 abbrev pub IsFault : Stop → Type 0
 IsFault OutOfMemory = ⊥
 IsFault DuplicateKey = ⊥
@@ -65,7 +65,7 @@ IsFault GaveUp = ⊥
 IsFault Syntax = Unit {0}
 IsFault (Fault place) = Unit {0}
 
--- A stop seen from further out is of the same kind, or memory was refused.
+-- The error is of the same kind as the inner error, or an allocation failed.
 abbrev pub Becomes : Stop → Stop → Type 0
 Becomes old OutOfMemory = Unit {0}
 Becomes old DuplicateKey = old ≡ DuplicateKey
@@ -73,12 +73,12 @@ Becomes old GaveUp = old ≡ GaveUp
 Becomes old Syntax = IsFault old
 Becomes old (Fault place) = IsFault old
 
--- The stop of a scalar's reading.
+-- The error of reading a scalar.
 abbrev pub IsOfReading : Result Scalar Wrong → Stop → Type 0
 IsOfReading r e = (cause : ReadError) × Fails cause r × Becomes (read_stop cause) e
 
--- what a stop denies: a text that is left, that it is one that stays; a key twice, that each key stands once; a fault,
--- that each does and that there is a meaning; want of memory nothing
+-- what an error rules out. `GaveUp`: that the text can be streamed. `DuplicateKey`: that keys are unique. A fault: that
+-- keys are unique and the text is valid. `OutOfMemory`: nothing
 abbrev pub Denied : Stop → Type 0 → Type 0 → Type 0 → Type 0
 Denied OutOfMemory Stays Once Means = ⊥
 Denied DuplicateKey Stays Once Means = Once

@@ -19,7 +19,7 @@ use std::alloc::{AllocError, Global};
 /// meaning in MongoDB Extended JSON v2.
 ///
 /// The place is the one that [`first_place`](bson_tree::walk::first_place) finds in the tree. No
-/// tree is made: the text is normalized by ascending keys, and one walk checks the normalized text.
+/// tree is made: the text is normalized by ascending keys, and one traversal checks the normalized text.
 ///
 /// # Errors
 ///
@@ -46,8 +46,8 @@ pub fn first_fault_in(alloc: Global, doubles: Doubles, text: &str) -> Result<Opt
 ///
 /// # Errors
 ///
-/// - `AllocError`: an allocation failed. Any other stop of the walk than a fault is impossible for an
-///   normalized text. It is reported so too.
+/// - `AllocError`: an allocation failed. Any other error of the traversal is impossible for a
+///   normalized text. It is reported as `AllocError` too.
 pub fn first_fault_of_normalized(
     alloc: Global,
     doubles: Doubles,

@@ -16,8 +16,8 @@ use bson_tokens::arrangement::Arrangement;
 use json::{Scratch, Writer};
 use std::alloc::Global;
 
-// The room of a part, which most values fit, and that of the starts of members: a short text needs
-// no more.
+// The capacity for a part, enough for almost every value, and for the offsets of members. A short
+// input needs no more.
 const FIRST_PART: usize = 64;
 
 const FIRST_STARTS: usize = 16;
@@ -151,8 +151,8 @@ fn show_by(
     Ok(written.text)
 }
 
-// As much as the text takes; none at first for a long one, so that the reader's scratch comes first
-// to the block that the one before it let go.
+// The length of the input. It is 0 for a long input, so that the reader's scratch gets the block that
+// the previous scratch freed.
 fn first_room(text: &str) -> usize {
     if text.len() < 1 << 20 { text.len() } else { 0 }
 }

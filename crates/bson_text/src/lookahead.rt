@@ -7,8 +7,8 @@ use json::{Reader, Scratch, Token};
 use std::alloc::{AllocError, Global};
 use std::collections::BTreeMap;
 
-/// The codes of a text that follow their scopes. The text is read once more for them, at the first
-/// object that begins with `$scope`.
+/// The codes of a text that follow their scopes. The text is read once more for them, when
+/// an object begins with `$scope`.
 #[derive(Drop)]
 pub(crate) struct Lookahead<'a> {
     alloc: Global,
@@ -26,7 +26,7 @@ impl<'a> Lookahead<'a> {
         }
     }
 
-    // Returns the code after its scope in an object with this first key, if the key is `$scope`. The
+    // Returns the code after its scope in an object that begins with this key, if it is `$scope`. The
     // value of the key begins at this offset of the text.
     pub(crate) fn code_after_scope(
         &mut self,
@@ -60,7 +60,7 @@ impl<'a> Lookahead<'a> {
 enum Open {
     // None.
     Brace,
-    // `$scope`, the first one: the scope begins at this place.
+    // `$scope`, at the beginning: the scope begins at this offset.
     Scope(usize),
     // `$code`, right after this scope.
     Code(usize),
@@ -68,7 +68,7 @@ enum Open {
     Other,
 }
 
-// Returns the code right after each scope that is first in its object, by the offset of the scope.
+// Returns the code right after each scope that begins its object, by the offset of the scope.
 fn codes_of(alloc: Global, text: &str) -> Result<BTreeMap<usize, String>, AllocError> {
     let mut scratch = Scratch::new(alloc);
     let mut reader = Reader::new(text, &mut scratch)?;

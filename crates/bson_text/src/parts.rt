@@ -30,14 +30,14 @@ use json::{Reader, Token};
 use serde_json::Value;
 use std::alloc::Global;
 
-// How the scope of code starts.
+// How the scope of code begins.
 #[derive(Clone, Copy, Debug, Drop)]
 pub(crate) enum Scope {
     Null,
     Object,
 }
 
-// Reads the token at which a scope starts. If no scope starts there, the rest of the object is
+// Reads the token at which a scope begins. If no scope begins there, the rest of the object is
 // skipped.
 pub(crate) fn read_scope(level: Level, reader: &mut Reader<'_>) -> Result<Scope, Stop>
     ensures ok { IfOk result (λ scope. reader.old ≡ scope_token scope ∷ reader.new) }
@@ -64,7 +64,7 @@ pub(crate) fn read_scope(level: Level, reader: &mut Reader<'_>) -> Result<Scope,
     }
 }
 
-// The text that a tree is, if it is one. The caller knows the place of the fault.
+// Returns the string of the tree, if it is a string. The caller knows the path of the error.
 pub(crate) fn text_of(tree: Value) -> Result<String, Stop>
     ensures ok { IfOk result (λ text. view tree ≡ string (string_bytes text)) }
     ensures textless { OnErr result (as_str (view tree) ≡ None) }
@@ -77,7 +77,7 @@ pub(crate) fn text_of(tree: Value) -> Result<String, Stop>
     }
 }
 
-// The number of a token.
+// Returns the number of a token.
 pub(crate) fn read_token(alloc: Global, doubles: Doubles, text: &str) -> Result<Scalar, Stop>
     ensures ok { IfOk result (λ x. (n : Num) × (number_of text.now ≡ Some n)
         × (number_read_in doubles n ≡ Ok (scalar_view x))) }
@@ -92,7 +92,7 @@ pub(crate) fn read_token(alloc: Global, doubles: Doubles, text: &str) -> Result<
     }
 }
 
-// The wrapper of the key, which a document does not have.
+// Returns the wrapper of the key, if it is a wrapper key in a document.
 pub(crate) fn misplaced(is_document: bool, key: &str) -> Option<Wrapper>
     ensures { is_some result ≡ (is_document && is_some (wrapper_of key.now)) }
 {
@@ -103,7 +103,7 @@ pub(crate) fn misplaced(is_document: bool, key: &str) -> Option<Wrapper>
     }
 }
 
-// Reads the end of the object of code and its scope. If the code follows its scope, it is there.
+// Reads the end of the object of code and its scope. Code after its scope is read here.
 pub(crate) fn end_object(
     level: Level,
     reader: &mut Reader<'_>,
@@ -125,7 +125,7 @@ pub(crate) fn end_object(
     }
 }
 
-// The key of code, and then this text.
+// Reads the key of code, and then this string.
 fn skip_code(reader: &mut Reader<'_>, code: &str) -> Result<(), Stop>
     ensures ok { OnOk result (read_key reader.old ≡ Some (Some (codes "$code"), token.string code.now ∷ reader.new)) }
     ensures kind { IfErr result (λ e. e ≡ Syntax) }

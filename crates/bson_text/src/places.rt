@@ -1,4 +1,4 @@
-//! The place of a fault, as the values around it see it. The rest of each of them is skipped.
+//! The path of an error, extended by each array and object around it. The rest of each is skipped.
 ghost use Rattle.std.specs.Prelude.{◌≡◌, ◌++◌, ◌∷◌, [], ◌||◌, is_some, IfOk, IfErr, OnOk, Ok, Result};
 ghost use Rattle.bson_scalar.specs.Faults.{Fails, Fault};
 ghost use Rattle.bson_scalar.specs.Reading.{single_in};
@@ -25,7 +25,7 @@ use json::{Invalid, Reader};
 use serde_json::Value;
 use std::alloc::{AllocError, Global};
 
-// The fault at the place, if there is memory to keep that.
+// Returns the fault at the place, or `OutOfMemory` if an allocation fails.
 fn fault_at(alloc: Global, place: Place) -> Stop
     ensures placed { At result (λ q. q ≡ place) }
     ensures kind { Becomes Syntax result }
@@ -36,7 +36,7 @@ fn fault_at(alloc: Global, place: Place) -> Stop
     }
 }
 
-// The value itself has the wrong shape.
+// Returns the fault that the value itself has the wrong shape.
 fn shape_here(alloc: Global, message: &'static str) -> Stop
     ensures placed { At result IsShapeFault }
     ensures kind { Becomes Syntax result }
@@ -50,7 +50,7 @@ fn shape_here(alloc: Global, message: &'static str) -> Stop
     )
 }
 
-// The place seen from one value further out.
+// Adds a segment to the path, for the array or object around the value.
 fn with_segment(mut place: Box<Place>, segment: Segment) -> Result<Box<Place>, AllocError>
     ensures path { IfOk result (λ p. path_of p.value ≡ path_of place.value ++ segment_of segment ∷ []) }
     ensures reason { IfOk result (λ p. p.value.reason ≡ place.value.reason) }
@@ -59,7 +59,7 @@ fn with_segment(mut place: Box<Place>, segment: Segment) -> Result<Box<Place>, A
     Ok(place)
 }
 
-// The fault of a scalar, at its own place.
+// Returns the fault of a scalar, with an empty path.
 pub(crate) fn fault_of(alloc: Global, cause: error::Error) -> Stop
     ensures placed { (r : Result Meaning Fault) → Fails cause r → IsScalarFault r result }
     ensures kind { Becomes (read_stop cause) result }
@@ -87,7 +87,7 @@ pub(crate) fn skip_items(reader: &mut Reader<'_>, depth: usize) -> Result<(), In
     Ok(())
 }
 
-// Skips the members of an object and its end, and returns the first wrapper whose key they have.
+// Skips the members of an object and its end, and returns the wrapper of their earliest wrapper key.
 pub(crate) fn skip_members(
     reader: &mut Reader<'_>,
     depth: usize,
@@ -111,7 +111,7 @@ fn or_wrapper(first: Option<Wrapper>, key: &str) -> Option<Wrapper>
     }
 }
 
-// The stop of an element, seen from its array.
+// Extends the path of an element's fault by its index in the array.
 pub(crate) fn in_element(reader: &mut Reader<'_>, depth: usize, at: usize, stop: Stop) -> Stop
     ensures placed { ElementStops depth at stop reader.old result reader.new }
     ensures kind { Becomes stop result }
@@ -133,8 +133,8 @@ pub(crate) fn in_element(reader: &mut Reader<'_>, depth: usize, at: usize, stop:
     }
 }
 
-// The stop of the value at a key, seen from its object. If a document has a wrapper key after it,
-// that is the fault.
+// Extends the path of a value's fault by its key in the object. If a document has a wrapper key
+// after it, that is the fault.
 pub(crate) fn in_member(
     level: Level,
     reader: &mut Reader<'_>,
@@ -174,7 +174,7 @@ fn at_key(alloc: Global, key: &str, place: Box<Place>) -> Result<Box<Place>, All
     with_segment(place, Segment::Key(String::from_str(alloc, key)?))
 }
 
-// The stop of the scalar at the only key of a wrapper, seen from that wrapper.
+// Extends the path of a scalar's fault by the only key of its wrapper.
 pub(crate) fn at_only_key(alloc: Global, key: &str, stop: Stop) -> Stop
     ensures placed { Keyed key.now stop result }
     ensures kind { Becomes stop result }
@@ -191,7 +191,7 @@ pub(crate) fn at_only_key(alloc: Global, key: &str, stop: Stop) -> Stop
     }
 }
 
-// The object has the wrong shape. The members after it are skipped.
+// Returns the fault that the object has the wrong shape, and skips its other members.
 pub(crate) fn shape_at_key(level: Level, reader: &mut Reader<'_>, message: &'static str) -> Stop
     ensures placed { IsEnded level.depth reader.old result reader.new }
     ensures kind { Becomes Syntax result }
@@ -202,7 +202,7 @@ pub(crate) fn shape_at_key(level: Level, reader: &mut Reader<'_>, message: &'sta
     shape_here(level.alloc, message)
 }
 
-// The same if the next value is skipped too.
+// Returns the fault that the object has the wrong shape, and skips a value and the other members.
 pub(crate) fn shape_at_value(level: Level, reader: &mut Reader<'_>, message: &'static str) -> Stop
     ensures placed { IsShapeFaultPassed level.depth reader.old result reader.new }
     ensures kind { Becomes Syntax result }
@@ -213,7 +213,7 @@ pub(crate) fn shape_at_value(level: Level, reader: &mut Reader<'_>, message: &'s
     shape_at_key(level, reader, message)
 }
 
-// The stop of a scope's members, seen from the object around the scope.
+// Extends the path of a fault in a scope by `$scope`.
 pub(crate) fn in_scope(level: Level, reader: &mut Reader<'_>, stop: Stop) -> Stop
     ensures placed { InScope level.depth stop reader.old result reader.new }
     ensures kind { Becomes stop result }
@@ -234,7 +234,7 @@ pub(crate) fn in_scope(level: Level, reader: &mut Reader<'_>, stop: Stop) -> Sto
     }
 }
 
-// If code was read ahead, a fault can be that code's, so the walk only gives up.
+// If code was read ahead, a fault can be that code's, so the traversal gives up.
 pub(crate) fn give_up(stop: Stop) -> Stop
     ensures placed { NoFault result }
     ensures kind { IsStopAfter stop result }

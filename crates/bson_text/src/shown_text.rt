@@ -22,21 +22,21 @@ use bson_tokens::arrangement::Arrangement;
 use itoa::Buffer;
 use std::alloc::{AllocError, Global};
 
-/// The text of values on one line, as people read it. The members of an open document stand in it
-/// as they came, each from its start on.
+/// The text of values on one line, as people read it. It has the members of an open
+/// document in input order, each from its offset on.
 #[derive(Drop)]
 pub(crate) struct ShownWriter {
     pub(crate) alloc: Global,
     // Where the keys of a document go.
     pub(crate) arrangement: Arrangement,
     pub(crate) text: Vec<u8>,
-    // Room for the text of a scalar.
+    // Memory for the text of a scalar.
     pub(crate) part: String,
-    // Those of the documents that are open, each document's behind those around it.
+    // The offsets of the members of all open documents, the outermost document before the others.
     pub(crate) starts: Vec<usize>,
-    // A value stands before what comes next.
+    // Whether a value precedes the next value.
     pub(crate) needs_comma: bool,
-    // So many bytes may be taken to put members in order.
+    // How many bytes may be allocated to sort members.
     pub(crate) most: usize,
     ghost utf8: { is_utf8 text.items ≡ true },
 }
@@ -55,7 +55,7 @@ impl ShownWriter {
         Ok(())
     }
 
-    // Adds the text, behind which a value stands or not.
+    // Adds the text, after which a comma is needed or not.
     fn add(&mut self, text: &str, needs_comma: bool) -> Result<(), AllocError>
         ensures { OnOk result (DisplayAdded self.old text.now needs_comma self.new) }
     {
@@ -86,7 +86,7 @@ impl ShownWriter {
         }
     }
 
-    // Ends a document, whose members are put by ascending key.
+    // Ends a document with its members in ascending key order.
     fn end_sorted(&mut self, mark: Mark, keys: &[&str]) -> Result<(), Stop>
         requires stands { (start : ShownWriter) × (mid : ShownWriter) × (ps : Pairs) × DisplayBegun start mark mid
             × PairsWritten (λ a k v b. DisplayValueAdded a v b) DisplayKeyAdded ps mid self.old
@@ -112,7 +112,7 @@ impl ShownWriter {
         Ok(())
     }
 
-    // Ends a document, whose members stay as they came. It is refused where a key came twice.
+    // Ends a document, and keeps its members in input order. Rejects a duplicate key.
     fn end_in_order(&mut self, mark: Mark, keys: &mut [&str]) -> Result<(), Stop>
         requires first_places { self.old.arrangement ≡ arrangement.FirstPlaces }
         ensures written { OnOk result ((start : ShownWriter) (mid : ShownWriter) (ps : Pairs) → DisplayBegun start mark mid
@@ -128,7 +128,7 @@ impl ShownWriter {
         Ok(self.add(brace, true)?)
     }
 
-    // The brace that ends a document, with a blank behind its members.
+    // Returns the brace that ends a document, with a space after members.
     fn closing_brace(needs_comma: bool) -> &'static str
         ensures { result.now ≡ closing_brace needs_comma }
     {
@@ -136,7 +136,7 @@ impl ShownWriter {
     }
 }
 
-// The members begin with a blank, so that a comma alone stands between them.
+// The members begin with a space, so that only a comma separates them.
 impl ValueWriter for ShownWriter {
     type Open = Mark;
 
@@ -222,7 +222,7 @@ impl ValueWriter for ShownWriter {
         }
     }
 
-    // What is begun is the scope, which is not shown.
+    // Begins the scope, which is not shown.
     fn begin_code(&mut self, _name: &str, code: &str) -> Result<Mark, Stop> {
         self.add_separator()?;
         self.add(code, false)?;
@@ -236,7 +236,7 @@ impl ValueWriter for ShownWriter {
     }
 }
 
-// Puts a blank in front of the brace that ends a document, if it has members.
+// Inserts a space before the brace that ends a document, if it has members.
 fn put_blank(is_empty: bool, text: &mut Vec<u8>) -> Result<(), AllocError>
     requires { IsBraced text.old.items }
     ensures text { OnOk result (text.new.items ≡ (if is_empty then text.old.items

@@ -16,26 +16,26 @@ use json::Writer;
 use std::alloc::{AllocError, Global};
 use std::mem::replace;
 
-/// The compact text of values in a form. The members of an open document stand in it as they came,
-/// each from its start on.
+/// The compact text of values in a form. It has the members of an open document in input order, each
+/// from its offset on.
 #[derive(Drop)]
 pub(crate) struct SortedWriter {
     pub(crate) alloc: Global,
     pub(crate) doubles: Doubles,
     pub(crate) form: Form,
     pub(crate) text: Vec<u8>,
-    // Room for the writer of a part, since one that stands in a long text takes much room ahead.
+    // Memory for the writer of a part: a writer of the long text would reserve much more.
     pub(crate) part: Vec<u8>,
-    // Those of the documents that are open, each document's behind those around it.
+    // The offsets of the members of all open documents, the outermost document before the others.
     pub(crate) starts: Vec<usize>,
-    // A value stands before what comes next.
+    // Whether a value precedes the next value.
     pub(crate) needs_comma: bool,
-    // So many bytes may be taken to put members in order.
+    // How many bytes may be allocated to sort members.
     pub(crate) most: usize,
     ghost utf8: { is_utf8 text.items ≡ true },
 }
 
-/// Where the text of what was begun starts, and how many starts there were.
+/// The offset at which an open array or object begins, and the number of open members before it.
 #[derive(Clone, Copy, Drop)]
 pub(crate) struct Mark {
     pub(crate) start: usize,
@@ -52,7 +52,7 @@ impl SortedWriter {
         put_comma(self.needs_comma, &mut self.text)
     }
 
-    // Adds a byte of ASCII, behind which a value stands or not.
+    // Adds a byte of ASCII, after which a comma is needed or not.
     fn add_byte(&mut self, byte: u8, needs_comma: bool) -> Result<(), AllocError>
         requires { byte < 128 }
         ensures { OnOk result (SortedAdded self.old (byte ∷ []) needs_comma self.new) }
@@ -62,7 +62,7 @@ impl SortedWriter {
         Ok(())
     }
 
-    // Adds the comma that is due, and begins what stands behind it.
+    // Adds the comma that is due, and begins the part after it.
     fn begin_part(&mut self) -> Result<Writer, AllocError>
         ensures empty { IfOk result (λ part. (part.before ≡ []) × (part.tokens ≡ [])) }
         ensures comma { OnOk result (SortedAdded self.old (comma_if self.old.needs_comma) self.old.needs_comma self.new) }
@@ -73,7 +73,7 @@ impl SortedWriter {
         Ok(Writer::new(part))
     }
 
-    // Adds what was begun, behind which a value stands or not.
+    // Adds the part that was begun, after which a comma is needed or not.
     fn add_part(&mut self, part: Writer, needs_comma: bool) -> Result<(), AllocError>
         requires { part.before ≡ [] }
         ensures { OnOk result (SortedAdded self.old (print part.tokens) needs_comma self.new) }

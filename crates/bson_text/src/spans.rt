@@ -1,4 +1,4 @@
-//! The texts of an object's members, put in order where their keys do not ascend.
+//! The members of an object in the output, sorted by key if their keys do not ascend.
 ghost use Rattle.std.specs.Prelude.{◌≡◌, ◌↔◌, ◌<◌, ◌++◌, drop, length, map, None, option_map, suc, take, true};
 ghost use Rattle.std.specs.Prelude.{IfOk, IfErr, IfSome, OnOk, ⊤};
 ghost use Rattle.std.specs.Str.{is_utf8};
@@ -18,17 +18,17 @@ use crate::stop::Stop;
 use std::alloc::{AllocError, Global};
 use std::cmp::Ordering;
 
-// So many members or fewer are sorted by their keys at once.
+// No more members than this are sorted by their whole keys at once.
 const FEW: usize = 20;
 
-// The bytes of memory for a member while texts are joined: its key, its start and its place.
+// The bytes of memory for a member while members are joined: its key, start and index.
 const JOINED: usize = 32;
 
-// The further bytes while members are sorted: the head of its key and its place, once more in the
-// sort's buffer.
+// The further bytes while members are sorted: eight bytes of the key and the index, also in the
+// memory of the sort.
 const SORTED: usize = 32;
 
-// The key of a member, and the place of its text, as in `"a":1`.
+// The key of a member, and the range of its bytes in the output, as in `"a":1`.
 #[derive(Clone, Copy, Drop)]
 pub(crate) struct MemberSpan<'a> {
     pub(crate) key: &'a str,
@@ -36,9 +36,9 @@ pub(crate) struct MemberSpan<'a> {
     pub(crate) end: usize,
 }
 
-// Ends the object that begins at the start, whose members have these keys and begin at the starts:
-// by ascending key, and of those of one key the last. It is left where that would take more bytes
-// than `most`.
+// Ends the object that begins at this offset. Its members have these keys and begin at these
+// offsets. They are sorted by key, and the last value of a key wins. Gives up if sorting needs more
+// bytes than are allowed.
 pub(crate) fn end_object(
     alloc: Global,
     keys: &[&str],
@@ -71,14 +71,14 @@ pub(crate) fn end_object(
     Ok(())
 }
 
-/// How many bytes may be taken to put the members of a text of this length in order: so many that
-/// with all else it keeps to twelve times the text.
+/// Returns how many bytes may be allocated to sort the members of an input of this length. With
+/// everything else this is at most twelve times the input.
 pub(crate) fn memory_allowed(length: usize) -> usize {
     length.saturating_mul(9).saturating_add(8 << 20)
 }
 
-// The most bytes of memory for so many members of a text of this length. Sorting needs room beside
-// one text, and joining needs a second text.
+// The bytes of memory that sorting needs for this number of members and length of the output.
+// Sorting needs memory in addition to one copy of the output, and joining needs a second copy.
 fn memory_for(members: usize, length: usize) -> usize {
     let beside = length.max(members.saturating_mul(SORTED));
     members
@@ -111,7 +111,7 @@ fn follows(last: Option<&str>, key: &str) -> bool
     }
 }
 
-// The text of the object, its members in order. None never comes.
+// Returns the text of the object with its members sorted. It is never `None`.
 fn in_order(
     alloc: Global,
     keys: &[&str],
@@ -131,7 +131,7 @@ fn in_order(
     }
 }
 
-// The heads of the keys differ for most of them.
+// Eight bytes of each key distinguish almost all of the keys.
 fn many_in_order(
     alloc: Global,
     keys: &[&str],
@@ -169,7 +169,7 @@ fn few_in_order(
     join_spans(alloc, keys, starts, &places, texts)
 }
 
-// The places from 0 on, so many.
+// Returns the numbers from 0 to the count, without the count.
 fn places_of(alloc: Global, count: usize) -> Result<Vec<usize>, AllocError>
     ensures { IfOk result (λ places. places.items ≡ range_with_len 0 count) }
 {
@@ -203,7 +203,7 @@ fn by_key(keys: &[&str], one: usize, other: usize) -> Ordering
     key_at(keys, one).cmp(key_at(keys, other))
 }
 
-// The key at the place, or the empty one after all of them.
+// Returns the key at the position, or the empty key after the last one.
 fn key_at<'a>(keys: &[&'a str], at: usize) -> &'a str
     ensures { result.now ≡ key_or keys.now at }
 {
@@ -213,7 +213,7 @@ fn key_at<'a>(keys: &[&'a str], at: usize) -> &'a str
     }
 }
 
-// So many bytes all keys have in common at their front.
+// Returns the number of bytes that all keys begin with.
 fn common_front(keys: &[&str]) -> usize {
     let first = key_at(keys, 0).as_bytes();
     let mut front = first.len();
@@ -223,7 +223,7 @@ fn common_front(keys: &[&str]) -> usize {
     front
 }
 
-// So many bytes both have in common at their front, of the first ones.
+// Returns the number of bytes that both keys begin with, up to a maximum.
 fn common_bytes(one: &[u8], other: &[u8], most: usize) -> usize {
     for at in 0..most {
         if one.get(at).copied() != other.get(at).copied() {
@@ -233,7 +233,7 @@ fn common_bytes(one: &[u8], other: &[u8], most: usize) -> usize {
     most
 }
 
-// Eight bytes of the key after its front as one number, with zeros for those that are missing.
+// Returns the eight bytes of the key after its prefix as one number. Missing bytes are zeros.
 fn head_of(key: &str, front: usize) -> u64
     ensures { result ≡ head key.now (head_start front key.now) 8 }
 {
@@ -247,8 +247,8 @@ fn head_of(key: &str, front: usize) -> u64
     head
 }
 
-// The texts of the pieces at the places, as an object. If neighbours have one key, it has the last
-// of them. There is no text if the keys do not ascend.
+// Joins the members, in the order of the indices, as an object. If neighbours have the same key, the
+// last one wins. Returns `None` if the keys do not ascend.
 fn join_spans(
     alloc: Global,
     keys: &[&str],
@@ -286,7 +286,7 @@ fn join_spans(
     Ok(Some(out))
 }
 
-// The place where the text of the first member begins, a byte after the start of the object.
+// Returns the offset at which the first member begins, a byte after the start of the object.
 fn first_start(starts: &[usize]) -> usize {
     starts.first().copied().unwrap_or(0)
 }
@@ -303,7 +303,7 @@ fn span_at<'a>(keys: &[&'a str], starts: &[usize], end: usize, at: usize) -> Mem
     }
 }
 
-// A member ends right before the comma in front of the next, the last one at the end of the text.
+// A member ends before the comma that precedes the next one, and the last one ends with the output.
 fn end_of(starts: &[usize], at: usize, end: usize) -> usize
     requires { at < length starts.now }
     ensures { result ≡ end_before (drop (suc at) starts.now) end }
@@ -314,7 +314,7 @@ fn end_of(starts: &[usize], at: usize, end: usize) -> usize
     }
 }
 
-// The member at the next of the places has the key too.
+// Returns whether the next member in the order of the indices has the same key.
 fn has_next(keys: &[&str], places: &Vec<usize>, at: usize, key: &str) -> bool
     requires { at < length places.now.items }
     ensures { result ≡ has_first keys.now key.now (drop (suc at) places.now.items) }
@@ -325,7 +325,7 @@ fn has_next(keys: &[&str], places: &Vec<usize>, at: usize, key: &str) -> bool
     }
 }
 
-// Adds a comma behind another part.
+// Adds a comma after another part.
 pub(crate) fn put_comma(needs_comma: bool, text: &mut Vec<u8>) -> Result<(), AllocError>
     ensures text { OnOk result (text.new.items ≡ text.old.items ++ comma_if needs_comma) }
     ensures utf8 { is_utf8 text.old.items ≡ true → is_utf8 text.new.items ≡ true }

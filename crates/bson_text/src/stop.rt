@@ -1,4 +1,4 @@
-//! Why the walk over the tokens of a text stops.
+//! Why the traversal of the tokens of a text fails.
 ghost use Rattle.std.specs.Prelude.{◌≡◌};
 ghost use Rattle.bson_text.specs.Stops.{write_stop};
 
@@ -10,7 +10,7 @@ use std::alloc::AllocError;
 /// Why a text was not written.
 #[derive(Debug, Drop)]
 pub enum Stop {
-    /// A request for memory was refused.
+    /// An allocation failed.
     OutOfMemory,
     /// An object has two equal keys.
     DuplicateKey,
@@ -60,7 +60,7 @@ impl From<Error> for Stop {
     }
 }
 
-// The stop for an error of a scalar's text.
+// Returns the error for an error of writing a scalar.
 pub(crate) fn write_error(error: WriteError) -> Stop
     ensures { result ≡ write_stop error }
 {

@@ -67,7 +67,7 @@ fn write_long<W: ValueWriter + Drop>(
     write_whole(alloc, doubles, text, &mut scratch, out)
 }
 
-// The same of a text of any length, with this scratch.
+// Writes the value of a text of any length, with this scratch.
 fn write_whole<W: ValueWriter + Drop>(
     alloc: Global,
     doubles: Doubles,
@@ -133,7 +133,7 @@ pub fn write_document_text<W: ValueWriter + Drop>(
 #[derive(Drop)]
 pub(crate) struct Traversal<'a, W> {
     reader: Reader<'a>,
-    // The keys of the open objects, those of the outermost first.
+    // The keys of the open objects, those of the outermost object before the others.
     keys: Vec<&'a str>,
     lookahead: Lookahead<'a>,
     out: W,
@@ -263,7 +263,7 @@ impl<'a, W: ValueWriter> Traversal<'a, W> {
         self.write_document(level, first, true)
     }
 
-    // Writes the document of an object from its first key on, which was read, or an empty document.
+    // Writes the document of an object after its opening key was read, or an empty document.
     // No key is a duplicate. A key of a document is not a wrapper key, and a key of a scope may be one.
     #[cycle(values)]
     fn write_document(

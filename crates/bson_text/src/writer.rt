@@ -1,4 +1,4 @@
-//! What the values of a text are written to as they are read.
+//! The writer to which the values of a text are written as they are read.
 ghost use Rattle.std.specs.Prelude.{◌≡◌, ℕ, List, map, OnOk, IfOk, IfErr};
 ghost use Rattle.bson_scalar.specs.Scalar as kind;
 ghost use Rattle.bson_scalar.specs.View.{scalar_view};
@@ -11,8 +11,8 @@ use crate::stop::Stop;
 use bson_scalar::scalar::Scalar;
 use itoa::Buffer;
 
-/// Where values are written to, each part as it comes. A value stands under a name: its key in a
-/// document, or the name of its place in an array.
+/// A writer of values, part by part. Each value has a name: its key in a document, or the name of its
+/// position in an array.
 pub trait ValueWriter {
     /// An array, a document or code that was begun.
     type Open: Drop;
@@ -23,7 +23,7 @@ pub trait ValueWriter {
     // Whether it may give up a document whose keys do not ascend.
     ghost sorts: { Type 0 };
 
-    // The name of the element at a place of an array.
+    // The name of the element at a position of an array.
     ghost name_of: { ℕ → List ℕ };
 
     // Between two states the value was written under the name.
@@ -64,7 +64,7 @@ pub trait ValueWriter {
         ensures written { OnOk result (wrote self.old name.now (scalar (scalar_view value)) self.new) }
         ensures stops { IfErr result (MayStopAt leaves (scalar_view value)) };
 
-    /// The name of the element at the place of an array.
+    /// Returns the name of the element at the position of an array.
     fn item_name<'b>(buffer: &'b mut Buffer, place: usize) -> &'b str
         ensures { result.now ≡ name_of place };
 
@@ -81,7 +81,7 @@ pub trait ValueWriter {
             → ItemsWritten wrote name_of 0 vs mid self.old → wrote start k (array vs) self.new) }
         ensures stops { IfErr result (MayStop leaves) };
 
-    /// Writes what stands before a document under a name.
+    /// Writes what precedes a document that has a name.
     fn embed(&mut self, name: &str) -> Result<(), Stop>
         ensures written { OnOk result ((ps : Pairs) (end : Self) → framed self.new ps end
             → wrote self.old name.now (document ps) end) }
@@ -98,7 +98,7 @@ pub trait ValueWriter {
         ensures stops { IfErr result (MayStop leaves) };
 
     /// Ends the document that was begun, with these keys in their order. If a key is duplicated, its
-    /// last value wins, at its first position. The keys may be put in another order. A writer may
+    /// last value wins, at its first position. The keys may be sorted. A writer may
     /// give up a document whose keys are not in order.
     fn end(&mut self, mark: Self::Open, keys: &mut [&str]) -> Result<(), Stop>
         requires { (start : Self) × (mid : Self) × (ps : Pairs) × opened start mark mid

@@ -132,7 +132,7 @@ impl Document {
     }
 }
 
-// The keys of a map stand in ascending order.
+// The keys of a map are in ascending order.
 fn ascending(map: &Map<String, Value>)
     ensures { Ascends (members_view map.now.entries) }
 {

@@ -69,7 +69,7 @@ pub(crate) fn read_members(
     }
 }
 
-// The error that tells the reason.
+// Returns the error for the reason.
 fn error_of(reason: Reason) -> Error
     ensures { IsErrorOf reason result }
 {

@@ -47,7 +47,7 @@ pub(crate) fn of_scalar(value: Scalar) -> Bson
     }
 }
 
-// These tell that numbers of the type u8 are below 256, and that an object id has twelve.
+// These show that numbers of the type u8 are below 256, and that an object id has twelve.
 fn are_bytes(bytes: &[u8])
     ensures { IsBytes bytes.now }
 {
@@ -60,7 +60,7 @@ fn has_byte(subtype: BinarySubtype)
     let _byte = u8::from(subtype);
 }
 
-// And this that a double has a text where finite ones are written, since its pattern has 64 bits.
+// And this shows that a double has a text where finite ones are written, since its pattern has 64 bits.
 pub(crate) fn can_be_written(value: &Scalar)
     ensures { writable_scalar_in Finite (scalar_view value.now) ≡ true }
 {

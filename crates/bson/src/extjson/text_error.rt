@@ -16,7 +16,7 @@ pub enum TextError {
     NotJson,
 
     /// The JSON text has no meaning in MongoDB Extended JSON v2, for the first fault of its tree,
-    /// which lies at this place.
+    /// at this place.
     #[error("{}", .0.reason)]
     NotExtendedJson(Place),
 

@@ -12,7 +12,7 @@ use bson_tokens::prefix::prefix_of;
 use std::alloc::{AllocError, Global};
 use std::cmp::Ordering;
 
-// The place of the key, or the place where it would be inserted. The search goes from the end, since
+// Returns the position of the key, or the position where it would be inserted. The search goes from the end, since
 // most keys ascend.
 fn place_of(found: &Vec<Pair<Bson>>, key: &str) -> Result<usize, usize>
     requires { KeysAscend (collected_pairs found.now.items) }
@@ -29,7 +29,7 @@ fn place_of(found: &Vec<Pair<Bson>>, key: &str) -> Result<usize, usize>
     Err(0)
 }
 
-// Puts the value at the key, whose place is this.
+// Inserts the value at the key, or replaces the value there.
 fn enter(
     members: &mut Vec<Pair<Bson>>,
     place: Result<usize, usize>,
@@ -79,7 +79,7 @@ fn of_few(alloc: Global, members: Vec<Pair<Bson>>) -> Result<Document, AllocErro
     Ok(of_ascending(found))
 }
 
-// The first bytes of the keys tell most of them apart.
+// The first bytes distinguish almost all of the keys.
 fn of_many(alloc: Global, mut members: Vec<Pair<Bson>>) -> Result<Document, AllocError>
     ensures { IfOk result (λ document. document_view document ≡ put_members members.items no_pairs) }
 {
@@ -90,7 +90,7 @@ fn of_many(alloc: Global, mut members: Vec<Pair<Bson>>) -> Result<Document, Allo
     }
 }
 
-// Of members whose first bytes are alike, or whose keys stand twice.
+// Members whose first bytes are equal, or whose keys are duplicated.
 fn of_unsorted(alloc: Global, mut members: Vec<Pair<Bson>>) -> Result<Document, AllocError>
     ensures { IfOk result (λ document. document_view document ≡ put_members members.items no_pairs) }
 {
@@ -112,7 +112,7 @@ fn sort_by_key(members: &mut Vec<Pair<Bson>>) -> Result<(), AllocError>
     Ok(())
 }
 
-// The last member of each key, by ascending key. It is quick where the keys do not descend.
+// The last member of each key, by ascending key. It is fast if the keys do not descend.
 fn last_of_each(alloc: Global, members: Vec<Pair<Bson>>) -> Result<Vec<Pair<Bson>>, AllocError>
     ensures { IfOk result (λ found. collected_pairs found.items ≡ put_members members.items no_pairs) }
 {
