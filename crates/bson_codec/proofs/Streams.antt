@@ -1,4 +1,4 @@
--- What is taken from a reader is the document at its front.
+-- The bytes that are read from a reader are the document at its front.
 use Rattle.std.proofs.Common.{◌≡◌, ◌⊎◌, inl, inr, ℕ, ◌+◌, ◌^◌, ◌<◌, ◌≤◌, List, [], ◌∷◌, ◌++◌, length, take, Option}
 use Rattle.std.proofs.Common.{None, Some, Result, Ok, Err, OnOk, Bool, true, false, cond, ltb, refl, sym, ap, subst, ◌∙◌, append_assoc, arith}
 use Rattle.std.specs.Int.{w32}
@@ -57,7 +57,7 @@ picked : (n k : ℕ) (b : Bool) → ltb k n ≡ b → n ≤ cond b n k
 picked n k true e = omega arith
 picked n k false e = ltb-false k n e
 
--- no fewer are promised than there are
+-- the length is no less than that of the bytes
 least : (n : ℕ) (r : Result (ℕ × List ℕ) Fault) → n ≤ most n r
 least n (Ok x) = picked n x.0 (ltb x.0 n) refl
 least n (Err f) = omega arith
