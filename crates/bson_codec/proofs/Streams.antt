@@ -45,7 +45,7 @@ left_of : (all bytes : List ℕ) (after : Option (List ℕ)) → Consumes (Some 
 left_of all bytes None h = absurd h
 left_of all bytes (Some rest) h = record { rest = rest; parts = h; none = λ e. e }
 
--- what is taken to a count, or to the end, is the front
+-- the bytes that are read up to a count, or to the end, are the front
 counted : (n : ℕ) (all bytes : List ℕ) (after : Option (List ℕ)) → Left all bytes after
     → (length bytes ≡ n) ⊎ IsAtEnd after → length bytes ≤ n → bytes ≡ take n all
 counted n all bytes after l (inl e) b = sym (ap (take n) l.parts ∙ take_at bytes l.rest n e)

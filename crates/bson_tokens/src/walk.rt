@@ -1,4 +1,4 @@
-//! Finds the first duplicate key.
+//! The search for the first duplicate key.
 ghost use Rattle.std.specs.Prelude.{◌<◌, [], length, IfOk, IfErr, OnOk};
 ghost use Rattle.json.specs.Json.{value, items, members};
 ghost use Rattle.bson_tokens.specs.Parts.{InvalidMeansNone};
