@@ -114,7 +114,7 @@ list_more keys doc d ps rest total t a k s b v c i lt e n k-is h w =
           ∙ ap (onto ps) (sym g.read) ∙ i.read;
     }
 
--- a sink to which pairs were given since it was begun
+-- a sink to which pairs were written since it was opened
 abbrev pub Given : {S O : Type 0} → (S → Pairs → O → S → Type 0) → Pairs → (first : O) → (begun : S) → O → S → Type 0
 Given {S} B ps first begun list now = (start : S) → B start no_pairs first begun → B start ps list now
 

@@ -1,9 +1,9 @@
--- Why bytes are no document, and what a function answers then.
+-- Why bytes are not a document, and what a function returns then.
 use Rattle.std.specs.Prelude.{◌≡◌, ℕ, List, length, Result, Ok, Err, Option, Some, None}
 use Rattle.bson_bytes.specs.declared.fault.FaultKind.{FaultKind}
 use Rattle.bson_bytes.specs.declared.fault.Fault.{Fault}
 
--- a fault of this kind where these bytes are left
+-- an error of this kind at the start of these bytes, the last of the input
 abbrev pub at : FaultKind → List ℕ → Fault
 at k bytes = record { kind = k; left = length bytes }
 
@@ -12,12 +12,12 @@ abbrev pub ◌>>=◌ : {A B : Type 0} → Result A Fault → (A → Result B Fau
 (Ok x) >>= f = f x
 (Err e) >>= f = Err e
 
--- the value, or a fault of the kind where these bytes are left
+-- the value, or an error of this kind at the start of these bytes
 abbrev pub or_fault : {A : Type 0} → Option A → FaultKind → List ℕ → Result A Fault
 or_fault (Some x) k bytes = Ok x
 or_fault None k bytes = Err (at k bytes)
 
--- what a function returned, seen by view, is what reading gives
+-- what a function returned, seen by view, is the result of reading
 abbrev pub ReturnsReading : {X Y : Type 0} → (X → Y) → Result X Fault → Result Y Fault → Type 0
 ReturnsReading view (Ok x) read = read ≡ Ok (view x)
 ReturnsReading view (Err f) read = read ≡ Err f

@@ -1,6 +1,6 @@
--- Which bytes are which document: BSON 1.1 (bsonspec.org), a production a line. The number is the most documents, arrays
--- and scopes that stand in each other. The keys of an array's elements are free, and dropped. Of a key that stands twice
--- in a document the last value counts, at the first place; or no key may stand twice, if the caller wants it so.
+-- Which bytes are which document: BSON 1.1 (bsonspec.org), one production per line. The number is the greatest depth to
+-- which documents, arrays and scopes nest. The keys of an array's elements are free, and dropped. If a key of
+-- a document is duplicated, its last value wins, at its first position; or the caller rejects duplicate keys.
 use Rattle.std.specs.Prelude.{◌≡◌, ◌≢◌, ℕ, suc, ◌+◌, ◌^◌, ◌<◌, List, [], ◌∷◌, ◌++◌, length, cond, true, false}
 use Rattle.std.specs.Int.{Width, w32, w64, to_le_bytes, cast_signed}
 use Rattle.std.specs.List.{AllByRecursion}
@@ -63,17 +63,17 @@ old_binary_bytes s = le w32 (length s + 4) ++ 2 ∷ (le w32 (length s) ++ s)
 
 -- ---- elements as pairs
 
--- a key that is there keeps its place and gets the value; a new one goes last
+-- a present key keeps its position and gets the value; a new key goes last
 abbrev pub insert_value : List ℕ → Value → Pairs → Pairs
 insert_value k v no_pairs = pair k v no_pairs
 insert_value k v (pair l w ps) = cond (bytes_eq k l) (pair l v ps) (pair l w (insert_value k v ps))
 
--- the pairs that are done, with those that follow put in turn
+-- the first pairs, with each of the others inserted
 abbrev pub settle : Pairs → Pairs → Pairs
 settle done no_pairs = done
 settle done (pair k v ps) = settle (insert_value k v done) ps
 
--- one pair a key: the last value, at the first place
+-- one pair for each key: its last value, at its first position
 abbrev pub one_each : Pairs → Pairs
 one_each ps = settle no_pairs ps
 
@@ -82,21 +82,21 @@ abbrev pub pair_values : Pairs → Values
 pair_values no_pairs = no_values
 pair_values (pair k v ps) = value v (pair_values ps)
 
--- ---- keys that stand twice
+-- ---- duplicate keys
 --
--- The grammar of bsonspec.org lets a key stand twice in a document, and gives it no meaning; MongoDB's manual
--- ("Documents", on field names) leaves it to each driver. So the reader says which it is.
+-- The grammar of bsonspec.org allows duplicate keys in a document and gives them no meaning. MongoDB's manual
+-- ("Documents", on field names) leaves it to each driver. So the caller chooses.
 
--- the key is none of these
+-- the key is not one of these
 abbrev pub IsNew : List (List ℕ) → List ℕ → Type 0
 IsNew before k = AllByRecursion (λ l. k ≢ l) before
 
--- no key is one of these, and none stands twice
+-- no key is one of these, and none is duplicated
 abbrev pub Once : List (List ℕ) → Pairs → Type 0
 Once before no_pairs = Unit {0}
 Once before (pair k v ps) = IsNew before k × Once (k ∷ before) ps
 
--- the keys may stand in a document: any, or each once
+-- the keys are allowed in a document: any keys, or each key once
 abbrev pub MayStand : DuplicateKeys → Pairs → Type 0
 MayStand Replace ps = Unit {0}
 MayStand Refuse ps = Once [] ps
@@ -116,7 +116,7 @@ mutual
         → IsValue keys d t bytes v → IsList keys d list ps
         → IsList keys d (tag_of t ∷ (k ++ 0 ∷ (bytes ++ list))) (pair k v ps)
 
-  -- what stands behind the tag and the name of an element
+  -- the bytes after the tag and the name of an element
   pub data IsValue (keys : DuplicateKeys) : ℕ → ElementType → List ℕ → Value → Type 0 where
     -- 0x01 e_name double
     is_double : (d p : ℕ) → p < 2 ^ 64 → IsValue keys d tag.Double (le w64 p) (scalar (kind.double p))

@@ -1,4 +1,4 @@
--- What bytes are read as.
+-- Which document bytes are read as.
 use Rattle.std.specs.Prelude.{◌≡◌, ℕ, List, ◌++◌}
 use Rattle.bson_model.specs.Value.{Pairs}
 use Rattle.bson_bytes.specs.Grammar.{IsDocument, MayStand, one_each}
@@ -6,18 +6,18 @@ use Rattle.bson_bytes.specs.Writing.{FitsDocument, document_bytes}
 use Rattle.bson_bytes.specs.declared.keys.DuplicateKeys.{DuplicateKeys}
 use Rattle.bson_bytes.specs.declared.keys.DuplicateKeys.TheVariants.{Replace}
 
--- the bytes are those of a document with these pairs, one a key; no key stands twice in a document where that is refused
+-- the bytes are those of a document with these pairs, each key once; it has no duplicate key if those are rejected
 pub record IsReadIn (keys : DuplicateKeys) (d : ℕ) (bytes : List ℕ) (ps : Pairs) : Type 0 where
   pub elements : Pairs
   pub grammar : IsDocument keys d bytes elements
   pub once : MayStand keys elements
   pub pairs : ps ≡ one_each elements
 
--- the same, where any key may stand twice
+-- the same, if duplicate keys are allowed
 abbrev pub IsRead : ℕ → List ℕ → Pairs → Type 0
 IsRead d bytes ps = IsReadIn Replace d bytes ps
 
--- the same of the front of bytes that others follow
+-- the bytes begin with such a document, and the rest follows
 pub record IsFrontIn (keys : DuplicateKeys) (d : ℕ) (bytes : List ℕ) (ps : Pairs) (rest : List ℕ) : Type 0 where
   pub front : List ℕ
   pub read : IsReadIn keys d front ps

@@ -1,4 +1,4 @@
--- Bytes put behind others, as a function that stops at the first cause: for the proofs. `Writing` has the bytes.
+-- How bytes are appended, as a function that stops at the first cause: for the proofs. `Writing` has the bytes.
 use Rattle.std.specs.Prelude.{ℕ, ◌+◌, ◌-◌, ◌^◌, List, [], ◌∷◌, ◌++◌, length, take, drop, Result, Ok, Err, Bool, cond}
 use Rattle.std.specs.Prelude.{◌≡◌, is_none, nat_lt, ◌&&◌, decimal}
 use Rattle.std.specs.Int.{w32}
@@ -21,7 +21,7 @@ abbrev pub then : Put → (List ℕ → Put) → Put
 then (Ok out) f = f out
 then (Err c) f = Err c
 
--- the bytes, where they have the length
+-- the bytes, if their length is allowed
 abbrev pub put_sized : ℕ → List ℕ → List ℕ → Put
 put_sized n bytes out = cond (nat_lt n (2 ^ 31)) (Ok (out ++ bytes)) (Err too_long)
 
@@ -58,13 +58,13 @@ put_name t k out = cond (is_free k) (Ok (out ++ name_bytes t k)) (Err zero_in_ke
 abbrev pub put_room : List ℕ → List ℕ
 put_room out = out ++ 0 ∷ 0 ∷ 0 ∷ 0 ∷ []
 
--- the length of what stands from the place on, its own four bytes too, into those
+-- the length of the bytes from this position on, written into the first four of them
 unfoldable pub put_length : ℕ → List ℕ → Put
 put_length start out =
     cond (nat_lt (length out - start) (2 ^ 31))
     (Ok (take start out ++ (le w32 (length out - start) ++ drop (start + 4) out))) (Err too_long)
 
--- the 0 behind a list of elements, and the length of the document
+-- the 0 after a list of elements, and the length of the document
 abbrev pub put_end : ℕ → List ℕ → Put
 put_end start out = put_length start (out ++ 0 ∷ [])
 
@@ -90,16 +90,16 @@ unfoldable mutual
 abbrev pub put_document : Pairs → List ℕ → Put
 put_document ps out = then (put_elements ps (put_room out)) (put_end (length out))
 
--- ---- what a function that puts returns
+-- ---- what a function that appends returns
 
--- putting stops for the cause that the error says, unless memory ran out
+-- appending stops for the cause that the error says, unless memory ran out
 abbrev pub StopsFor : Error → Put → Type 0
 StopsFor errors.OutOfMemory put = Unit {0}
 StopsFor errors.Key put = put ≡ Err zero_in_key
 StopsFor errors.Regex put = put ≡ Err zero_in_regex
 StopsFor errors.Size put = put ≡ Err too_long
 
--- these bytes are what is put, unless memory ran out
+-- these bytes are the result of appending, unless memory ran out
 abbrev pub PutsBytes : {X : Type 0} → Result X Error → List ℕ → Put → Type 0
 PutsBytes (Ok x) new put = put ≡ Ok new
 PutsBytes (Err e) new put = StopsFor e put

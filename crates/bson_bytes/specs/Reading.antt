@@ -1,7 +1,7 @@
--- What bytes are read as, as a function: for the order of faults, and for the proofs. `IsDocument` is the grammar. Each
--- part is a value and the bytes behind it; of the faults the first from the left counts, and of those at one place the
--- first that is tested here. Lengths are held to their parts once those are read, and a key to those before it once it
--- is read, where none may stand twice.
+-- How bytes are read, as a function: for the order of errors, and for the proofs. `IsDocument` is the grammar. Each
+-- part is a value and the bytes after it. The first error from the left is returned, and of errors at one position the
+-- first that is tested here. A length is compared with its part after the part is read. If duplicate keys are rejected,
+-- a key is compared with those before it after it is read.
 use Rattle.std.specs.Prelude.{ℕ, zero, suc, ◌+◌, ◌-◌, ◌^◌, List, [], ◌∷◌, length, take, drop, Result, Ok, Err, true}
 use Rattle.std.specs.Prelude.{false}
 use Rattle.std.specs.Prelude.{Option, Some, None, option_map, nat_lt, ◌==◌, if◌then◌else◌, Bool, cond}
@@ -47,12 +47,12 @@ zero_at (b ∷ bytes) = if b == 0 then Ok bytes else Err (at End (b ∷ bytes))
 abbrev pub with_byte_before : ℕ → List ℕ × List ℕ → List ℕ × List ℕ
 with_byte_before b p = (b ∷ p.0, p.1)
 
--- the bytes before the first 0, and those behind it
+-- the bytes before the first 0, and those after it
 abbrev pub split_zero : List ℕ → Option (List ℕ × List ℕ)
 split_zero [] = None
 split_zero (b ∷ bytes) = if b == 0 then Some ([], bytes) else option_map (with_byte_before b) (split_zero bytes)
 
--- UTF-8, which stood at the place
+-- the bytes if they are UTF-8, or the error at this position
 abbrev pub utf8_at : List ℕ → List ℕ → Result (List ℕ) Fault
 utf8_at s bytes = if is_utf8 s then Ok s else Err (at Utf8 bytes)
 
@@ -62,7 +62,7 @@ name_at bytes = do
   s ← utf8_at p.0 bytes
   Ok (s, p.1)
 
--- the keys that stood before in a document where none may stand twice; None where any may
+-- the earlier keys of a document, if duplicate keys are rejected; None if they are allowed
 abbrev pub Before : Type 0
 Before = Option (List (List ℕ))
 
@@ -74,12 +74,12 @@ abbrev pub noted : List ℕ → Before → Before
 noted k None = None
 noted k (Some ks) = Some (k ∷ ks)
 
--- whether the key is none of those
+-- whether the key is not one of these
 abbrev pub is_new : List ℕ → List (List ℕ) → Bool
 is_new k [] = true
 is_new k (l ∷ ks) = cond (bytes_eq k l) false (is_new k ks)
 
--- a name that may stand behind those
+-- a name that is allowed after these
 abbrev pub key_at : Before → List ℕ → Result (List ℕ × List ℕ) Fault
 key_at None bytes = name_at bytes
 key_at (Some ks) bytes = name_at bytes >>= λ s. if is_new s.0 ks then Ok s else Err (at DuplicateKey bytes)
@@ -137,15 +137,15 @@ timestamp_at bytes = do
 abbrev pub mapped : {A : Type 0} → (Pairs → A) → Result (Pairs × List ℕ) Fault → Result (A × List ℕ) Fault
 mapped f read = read >>= λ x. Ok (f x.0, x.1)
 
--- the bytes behind what was read
+-- the bytes after what was read
 abbrev pub passed : {A : Type 0} → Result (A × List ℕ) Fault → Result (List ℕ) Fault
 passed read = read >>= λ x. Ok x.1
 
--- the pairs that were read behind those that are done
+-- the first pairs, with the pairs that were read inserted
 abbrev pub settled : Pairs → Result (Pairs × List ℕ) Fault → Result (Pairs × List ℕ) Fault
 settled done read = mapped (settle done) read
 
--- code, and a document, as long together as is said
+-- code and a document, whose length together is the number before them
 unfoldable pub scope_at : (List ℕ → Result (Pairs × List ℕ) Fault) → List ℕ → Result (Value × List ℕ) Fault
 scope_at inner bytes = do
   n ← size_at bytes
@@ -153,7 +153,7 @@ scope_at inner bytes = do
   x ← settled no_pairs (inner s.1)
   if n.0 + length x.1 == length bytes then Ok (code_scope s.0 x.0, x.1) else Err (at Length bytes)
 
--- a value whose documents are read so, behind such keys
+-- a value, whose inner documents are read by this function
 unfoldable pub value_with : DuplicateKeys → (Before → List ℕ → Result (Pairs × List ℕ) Fault) → ElementType → List ℕ
     → Result (Value × List ℕ) Fault
 value_with keys inner tag.Double bytes = do
@@ -200,7 +200,7 @@ value_with keys inner tag.Decimal128 bytes = do
 value_with keys inner tag.MaxKey bytes = Ok (scalar kind.max_key, bytes)
 value_with keys inner tag.MinKey bytes = Ok (scalar kind.min_key, bytes)
 
--- The elements to the byte 0. The number bounds the turns: the count of the bytes is always enough.
+-- The elements to the byte 0. The number bounds the recursion: the count of the bytes is always enough.
 unfoldable pub list_at : (ElementType → List ℕ → Result (Value × List ℕ) Fault) → Before → ℕ → List ℕ
     → Result (Pairs × List ℕ) Fault
 list_at element before zero bytes = Err (at Short bytes)
@@ -213,7 +213,7 @@ list_at element before (suc n) bytes = do
     x ← list_at element (noted s.0 before) n v.1
     Ok (pair s.0 v.0 x.0, x.1)
 
--- the pairs, where the document that began with these bytes has the length
+-- the pairs, if the document that begins with these bytes has this length
 abbrev pub sized : ℕ → List ℕ → Pairs × List ℕ → Result (Pairs × List ℕ) Fault
 sized n bytes x = if n + length x.1 == length bytes then Ok x else Err (at Length bytes)
 
@@ -231,7 +231,7 @@ reads_bytes_in keys d bytes = do
   x ← settled no_pairs (document_in keys d (none_before keys) bytes)
   if length x.1 == 0 then Ok x.0 else Err (at Trailing x.1)
 
--- the same, where any key may stand twice
+-- the same, if duplicate keys are allowed
 abbrev pub document_at : ℕ → List ℕ → Result (Pairs × List ℕ) Fault
 document_at d = document_in Replace d None
 

@@ -1,5 +1,5 @@
--- The bytes that a document is written as, and why it has none: of all bytes that the grammar has for it, those whose
--- arrays have the keys 0, 1, 2 .. A subtype is written as its byte.
+-- The bytes that a document is written as, and why it has none. The keys of arrays are 0, 1, 2 and so on. A subtype is
+-- written as its byte.
 use Rattle.std.specs.Prelude.{◌≡◌, ◌⊎◌, ℕ, suc, ◌+◌, ◌^◌, ◌<◌, ◌≤◌, FitsSigned, List, [], ◌∷◌, ◌++◌, length, Bool}
 use Rattle.std.specs.Prelude.{true, false}
 use Rattle.std.specs.Prelude.{decimal, cond, nat_eq}
@@ -70,7 +70,7 @@ abbrev mutual
   value_bytes (array vs) = framed (items_bytes 0 vs)
   value_bytes (document ps) = framed (list_bytes ps)
 
-  -- the elements of an array from the place n on
+  -- the elements of an array from index n on
   pub items_bytes : ℕ → Values → List ℕ
   items_bytes n no_values = []
   items_bytes n (value v vs) = name_bytes (type_of v) (decimal n) ++ (value_bytes v ++ items_bytes (n + 1) vs)
@@ -82,7 +82,7 @@ abbrev mutual
 abbrev pub document_bytes : Pairs → List ℕ
 document_bytes ps = framed (list_bytes ps)
 
--- ---- what has bytes: no key, pattern or options have a 0 in them, and each length is one of BSON
+-- ---- what has bytes: no key, pattern or options contain a 0, and no length is too great
 
 -- the length of a binary whose subtype has the byte
 abbrev pub subtyped_size : ℕ → List ℕ → ℕ
@@ -127,7 +127,7 @@ pub data Cause : Type 0 where
   -- a text, a binary, a document, an array, or code with its scope is too long
   too_long : Cause
 
--- the length is none of BSON, which is this cause
+-- the length is too great for BSON, which is this cause
 abbrev pub IsLong : Cause → ℕ → Type 0
 IsLong too_long n = 2 ^ 31 ≤ n
 IsLong c n = ⊥
@@ -150,8 +150,8 @@ ScalarFails c (db_pointer s id) = IsLong c (length s + 1)
 ScalarFails c x = ⊥
 
 abbrev mutual
-  -- of the parts of the value, in the order in which they stand in the bytes, a whole behind its parts, the first that
-  -- has no bytes has none for this cause
+  -- the first part of the value that has no bytes has none for this cause; parts have the order of the bytes, and a
+  -- whole comes after its parts
   pub ValueFails : Cause → Value → Type 0
   ValueFails c (scalar x) = ScalarFails c x
   ValueFails c (code_scope s ps) =
@@ -202,7 +202,7 @@ IsWellTypedScalar (db_pointer s id) = (is_utf8 s ≡ true) × (length id ≡ 12)
 IsWellTypedScalar x = Unit {0}
 
 abbrev mutual
-  -- and no key stands twice in a document
+  -- and no document has a duplicate key
   pub IsWellTyped : Value → Type 0
   IsWellTyped (scalar x) = IsWellTypedScalar x
   IsWellTyped (code_scope s ps) = (is_utf8 s ≡ true) × PairsAreWellTyped ps × (one_each ps ≡ ps)
@@ -221,7 +221,7 @@ abbrev pub IsWellTypedDocument : Pairs → Type 0
 IsWellTypedDocument ps = PairsAreWellTyped ps × (one_each ps ≡ ps)
 
 abbrev mutual
-  -- documents, arrays and scopes stand at most d in each other in the value
+  -- documents, arrays and scopes nest at most d deep in the value
   pub Nests : Value → ℕ → Type 0
   Nests (scalar x) d = Unit {0}
   Nests (code_scope s ps) d = (e : ℕ) × (d ≡ suc e) × NestsPairs ps e

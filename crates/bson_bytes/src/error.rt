@@ -24,7 +24,7 @@ pub enum Error {
     /// A text, a binary, a document, an array, or code with its scope has 2^31 bytes or more.
     #[error("a part is too long for BSON")]
     Size,
-    /// A request for memory was refused.
+    /// An allocation failed.
     #[error("out of memory")]
     OutOfMemory,
 }

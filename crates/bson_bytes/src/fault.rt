@@ -1,8 +1,8 @@
-//! Why bytes are no document.
+//! Why bytes are not a document.
 ghost use Rattle.std.specs.Prelude.{◌≡◌};
 ghost use Rattle.bson_bytes.specs.Fault.{at};
 
-/// What is wrong with bytes that are no document of BSON 1.1.
+/// What is wrong with bytes that are not a document of BSON 1.1.
 ///
 /// ```
 /// if let Err(Error::Malformed { kind, .. }) = from_slice(alloc, b"\x05\0\0", DEPTH) {
@@ -11,36 +11,35 @@ ghost use Rattle.bson_bytes.specs.Fault.{at};
 /// ```
 #[derive(Clone, Copy, Debug, PartialEq, Eq)]
 pub enum FaultKind {
-    /// A document, an array or a scope begins where the limit of nesting is reached. The place is
-    /// its length.
+    /// A document, an array or a scope nests too deep. The position is that of its length.
     Depth,
     /// The bytes end inside a length, a number, a name, a text, a binary or a list of elements. The
-    /// place is the part that is short.
+    /// position is the start of this part.
     Short,
     /// A length is less than its part can have or above 2^31 - 1, or is not the length of its part.
-    /// The place is the length.
+    /// The position is that of the length.
     Length,
-    /// A byte is no tag. The place is that byte.
+    /// A byte is not a tag. The position is that of the byte.
     Tag,
-    /// The byte behind a text is not 0. The place is that byte.
+    /// The byte after a text is not 0. The position is that of the byte.
     End,
-    /// A name or a text is no UTF-8. The place is the name, or the first byte of the text.
+    /// A name or a text is not UTF-8. The position is its first byte.
     Utf8,
-    /// A boolean is neither 0 nor 1. The place is its byte.
+    /// A boolean is neither 0 nor 1. The position is that of its byte.
     Boolean,
-    /// Bytes stand behind the document. The place is the first of them.
+    /// Bytes follow the document. The position is that of the first of them.
     Trailing,
-    /// A key stands that stood before in its document, where the caller refuses that. The place is
-    /// the key that stands again; it is looked at before the value behind it.
+    /// A key occurred before in its document, and the caller rejects duplicate keys. The position is
+    /// that of the second occurrence. It is checked before the value after it.
     DuplicateKey,
 }
 
-/// A fault, and its place as the number of bytes from there to the end of the input.
+/// An error, and its position as the number of bytes from there to the end of the input.
 #[derive(Clone, Copy, Debug, PartialEq, Eq)]
 pub struct Fault {
     /// What is wrong.
     pub kind: FaultKind,
-    /// The number of bytes from the place of the fault to the end.
+    /// The number of bytes from the position of the error to the end.
     pub left: usize,
 }
 

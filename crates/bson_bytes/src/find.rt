@@ -35,14 +35,14 @@ fn is_key(key: &[u8], name: &[u8]) -> bool
     key == name
 }
 
-// Returns the later place if its element has the key.
+// Returns this position if its element has the key, and otherwise the position that was found.
 fn later(found: Option<usize>, has_key: bool, at: usize) -> Option<usize>
     ensures { result ≡ if has_key then Some at else found }
 {
     if has_key { Some(at) } else { found }
 }
 
-// Returns the element at the place.
+// Returns the element at the position.
 fn element_of(bytes: &[u8], found: Option<usize>) -> Option<RawElement<'_>>
     requires { IfSome found (λ i. i ≤ length bytes.now) }
     ensures found { (d : ℕ) (o : Option Value)

@@ -1,6 +1,6 @@
-//! Keys that stand twice.
+//! Duplicate keys.
 
-/// What a key means that stands twice in a document, at any depth. The keys of an array are free.
+/// Says what happens to a duplicate key of a document, at any depth. The keys of an array are free.
 ///
 /// ```
 /// let twice = b"\x0b\0\0\0\x0aa\0\x0aa\0\0";
@@ -9,8 +9,8 @@
 /// ```
 #[derive(Clone, Copy, Debug, Drop, PartialEq, Eq)]
 pub enum DuplicateKeys {
-    /// The last value counts, at the first place.
+    /// The last value wins, at the first position.
     Replace,
-    /// The bytes are refused.
+    /// The bytes are rejected.
     Refuse,
 }

@@ -113,7 +113,7 @@ impl ValueSink for Nothing {
     }
 }
 
-/// Checks that all of the bytes are a document (BSON 1.1). Documents, arrays and scopes may nest at most
+/// Checks that all of the bytes are a document (BSON 1.1). Documents, arrays and scopes can nest at most
 /// `depth` deep, counting the document itself. It allocates nothing.
 ///
 /// # Errors

@@ -1,4 +1,4 @@
-//! The parts of an element: each reader answers a value and the bytes behind it.
+//! The parts of an element: each reader returns a value and the bytes after it.
 ghost use Rattle.std.specs.Prelude.{◌≡◌, ◌≤◌, ◌<◌, ◌^◌, length, option_map, string_bytes, IfOk, IfSome};
 ghost use Rattle.std.specs.Int.{w32, w64};
 ghost use Rattle.bson_bytes.specs.Fault.{ReturnsReading};

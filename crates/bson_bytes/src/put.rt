@@ -1,4 +1,4 @@
-//! The parts of an element put behind the bytes that are written, as `parts` reads them.
+//! Writers of the parts of an element, which `parts` reads. Each appends to the bytes.
 ghost use Rattle.std.specs.Prelude.{◌≡◌, ◌≤◌, ◌+◌, ◌++◌, length, vec_len, OnOk, string_bytes};
 ghost use Rattle.std.specs.Int.{w32, w64};
 ghost use Rattle.bson_bytes.specs.Grammar.{le, old_binary_bytes, binary_bytes};
@@ -233,7 +233,7 @@ pub fn put_room(out: &mut Vec<u8>) -> Result<(), AllocError>
     out.extend_from_slice(&[0, 0, 0, 0])
 }
 
-/// Appends the 0 after a list of elements, and writes the length of the document at its place.
+/// Appends the 0 after a list of elements, and fills in the length of the document.
 ///
 /// # Errors
 ///

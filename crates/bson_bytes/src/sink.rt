@@ -16,12 +16,12 @@ use crate::stop::Stop;
 use std::alloc::AllocError;
 
 /// A sink of values, which receives each part of a value as it is read. Each call returns a token
-/// for what it wrote: a value in memory, or nothing if the sink appends to an output.
+/// for its output: a value in memory, or nothing if the sink appends to an output.
 pub trait ValueSink {
     /// A value that was written.
     type Value: Drop;
 
-    /// An array or a document that was begun.
+    /// An open array or document.
     type Open: Drop;
 
     /// The name of the next element.
@@ -30,19 +30,19 @@ pub trait ValueSink {
     /// A document that was written.
     type Document: Drop;
 
-    /// Code that was begun, whose scope comes next.
+    /// Open code, whose scope comes next.
     type Code: Drop;
 
-    // Whether documents may have duplicate keys.
+    // Whether duplicate keys are allowed in documents.
     ghost keys: { DuplicateKeys };
 
-    // The sink may stop for this reason.
+    // A reason for which the sink can stop.
     ghost may: { Stop → Type 0 };
 
     // The value was written between two states, and this is its token.
     ghost wrote: { Self → Value → Self.Value → Self → Type 0 };
 
-    // A document (true) or an array (false) was begun between two states, and these elements were written.
+    // A document (true) or an array (false) was opened between two states, and these elements were written.
     ghost begun: { Bool → Self → Pairs → Self.Open → Self → Type 0 };
 
     // The name of the next element in a document (true) or an array was written between two states.
@@ -51,10 +51,10 @@ pub trait ValueSink {
     // The document of the pairs was written between two states, and this is its token.
     ghost framed: { Self → Pairs → Self.Document → Self → Type 0 };
 
-    // Code was begun between two states, and its scope comes next.
+    // Code was opened between two states, and its scope comes next.
     ghost coded: { Self → List ℕ → Self.Code → Self → Type 0 };
 
-    /// Writes a scalar of a fixed size: a number, a boolean, an object id and others.
+    /// Writes a scalar with a constant size: a number, a boolean, an object id and others.
     fn fixed(&mut self, value: FixedScalar) -> Result<Self::Value, AllocError>
         ensures given { IfOk result (λ x. wrote self.old (scalar (fixed_view value)) x self.new) }
         ensures stop { IfErr result (λ e. may stops.OutOfMemory) };
@@ -95,7 +95,7 @@ pub trait ValueSink {
         ensures stop { IfErr result (λ e. may stops.OutOfMemory) };
 
     /// Reads the name at the front of the bytes, and writes it as that of the next element of the list.
-    /// An array may have any names. If duplicate keys are refused, a key that the document has already
+    /// An array accepts any names. If duplicate keys are refused, a key that the document has already
     /// is a fault of the bytes.
     fn name<'b>(
         &mut self,
@@ -127,7 +127,7 @@ pub trait ValueSink {
             → wrote start (array (pair_values ps)) x self.new) }
         ensures stop { IfErr result (λ e. may stops.OutOfMemory) };
 
-    /// Ends a document. If a key is duplicated, its last value wins, at its first position. A sink may
+    /// Ends a document. If a key is duplicated, its last value wins, at its first position. A sink can
     /// return `PossibleDuplicate` instead.
     fn end_document(&mut self, list: Self::Open) -> Result<Self::Document, Stop>
         requires { (start : Self) × (ps : Pairs) × begun true start ps list self.old }

@@ -68,7 +68,7 @@ pub(crate) fn skip(count: usize, bytes: &[u8]) -> Option<&[u8]>
     Some(&bytes[count..])
 }
 
-// Returns the length at a place.
+// Returns the length at a position.
 #[inline(always)]
 fn length_at(bytes: &[u8], at: usize) -> Option<usize>
     requires { at ≤ length bytes.now }
@@ -105,7 +105,7 @@ fn skip_regex(bytes: &[u8]) -> Option<&[u8]>
     skip_name(skip_name(bytes)?)
 }
 
-// Returns the place after a regular expression. It is not inlined, since few values are regular
+// Returns the position after a regular expression. It is not inlined, since few values are regular
 // expressions.
 #[inline(never)]
 fn regex_end(bytes: &[u8], at: usize) -> Option<usize>
@@ -119,7 +119,7 @@ fn regex_end(bytes: &[u8], at: usize) -> Option<usize>
     }
 }
 
-// Returns the place after a value of this size.
+// Returns the position after a value of this size.
 #[inline(always)]
 fn value_end(size: Size, bytes: &[u8], at: usize) -> Option<usize>
     requires { at ≤ length bytes.now }
@@ -152,8 +152,8 @@ fn name_len(bytes: &[u8]) -> Option<usize>
     None
 }
 
-// Returns the name of the element at a place, and the place after its value, or `None` at the end of
-// the elements. Places need fewer instructions than slices.
+// Returns the name of the element at a position, and the position after its value, or `None` at the end of
+// the elements. Positions need fewer instructions than slices.
 #[inline(always)]
 pub(crate) fn passed(bytes: &[u8], at: usize) -> Option<(&[u8], usize)>
     ensures given { (d : ℕ) (ps : Pairs) → BeginsWithElements d (drop at bytes.now) ps

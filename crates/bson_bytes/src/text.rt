@@ -45,7 +45,7 @@ pub struct TextSink {
 /// # Errors
 ///
 /// - `Stop::Fault` has the first fault of the bytes.
-/// - `Stop::PossibleDuplicate`: some document may have a duplicate key.
+/// - `Stop::PossibleDuplicate`: some document possibly has a duplicate key.
 /// - `Stop::OutOfMemory`: an allocation failed.
 pub fn document_text(alloc: Global, form: Form, bytes: &[u8], depth: usize) -> Result<String, Stop>
     ensures { ReadsAllTo (λ e. Unit {0}) (λ ps s. IsPrinted form ps (string_bytes s)) result (reads_bytes depth bytes.now) }

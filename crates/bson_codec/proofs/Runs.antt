@@ -69,7 +69,7 @@ run_goes_on run before mid after had holds after_holds reported reports after_te
           (subst (λ (s : ℕ). Appends reports after_tells (diagnostic_of (number + 1) s fault)) r.place g.1.1.0.2);
     }
 
--- ---- a document that was not given
+-- ---- a document without a line
 
 pub cut_line : (run : Run) (number start : ℕ) (bytes line : List ℕ) (had holds reports : Option (List ℕ))
     → IsLine run bytes line → WritesBeginning had holds line
@@ -150,7 +150,7 @@ run_ends run before mid after had holds after_holds reported reports after_tells
   reports_appended = Appends-trans reported reports after_tells r.verdicts said r.reports_appended t;
 }
 
--- ---- what was taken
+-- ---- the bytes of a document
 
 pub some_taken : (bytes : List ℕ) (n : ℕ) → n ≡ length bytes → false ≡ (n == 0) → bytes ≢ []
 some_taken bytes n e tested = λ none.

@@ -1,4 +1,4 @@
--- What is taken from a reader is the document at its front.
+-- The bytes that are read from a reader are the document at its front.
 use Rattle.std.proofs.Common.{◌≡◌, ◌⊎◌, inl, inr, ℕ, ◌+◌, ◌^◌, ◌<◌, ◌≤◌, List, [], ◌∷◌, ◌++◌, length, take, Option}
 use Rattle.std.proofs.Common.{None, Some, Result, Ok, Err, OnOk, Bool, true, false, cond, ltb, refl, sym, ap, subst, ◌∙◌, append_assoc, arith}
 use Rattle.std.specs.Int.{w32}
@@ -45,7 +45,7 @@ left_of : (all bytes : List ℕ) (after : Option (List ℕ)) → Consumes (Some 
 left_of all bytes None h = absurd h
 left_of all bytes (Some rest) h = record { rest = rest; parts = h; none = λ e. e }
 
--- what is taken to a count, or to the end, is the front
+-- the bytes that are read up to a count, or to the end, are the front
 counted : (n : ℕ) (all bytes : List ℕ) (after : Option (List ℕ)) → Left all bytes after
     → (length bytes ≡ n) ⊎ IsAtEnd after → length bytes ≤ n → bytes ≡ take n all
 counted n all bytes after l (inl e) b = sym (ap (take n) l.parts ∙ take_at bytes l.rest n e)
@@ -57,7 +57,7 @@ picked : (n k : ℕ) (b : Bool) → ltb k n ≡ b → n ≤ cond b n k
 picked n k true e = omega arith
 picked n k false e = ltb-false k n e
 
--- no fewer are promised than there are
+-- the length is no less than that of the bytes
 least : (n : ℕ) (r : Result (ℕ × List ℕ) Fault) → n ≤ most n r
 least n (Ok x) = picked n x.0 (ltb x.0 n) refl
 least n (Err f) = omega arith

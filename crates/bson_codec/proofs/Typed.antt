@@ -88,7 +88,7 @@ pub items_typed : (items : List Bson) (i : ℕ) (v : Bson) → i < length items 
     → AreWellTyped (values_view (drop (i + 1) items)) → AreWellTyped (values_view items)
 items_typed items i v lt is inv typed h = inv (subst AreWellTyped (sym (item_here items i v lt is)) (typed, h))
 
--- ---- what is said where the last part was put
+-- ---- the clause after the last part was appended
 
 pub on_ok : {X E T : Type 0} (r : Result X E) → T → OnOk r T
 on_ok (Ok x) t = t

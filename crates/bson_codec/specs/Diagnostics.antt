@@ -1,4 +1,4 @@
--- What is told of a document at which a run ends, or which it passes over.
+-- The diagnostic of a document at which a run ends, or which it skips.
 use Rattle.std.specs.Prelude.{ℕ, List, [], ◌∷◌, ◌++◌, codes}
 use Rattle.std.specs.Fmt.{decimal}
 use Rattle.bson_bytes.specs.declared.fault.FaultKind.{FaultKind}
@@ -38,6 +38,6 @@ abbrev pub place_text : RunFault → List ℕ
 place_text (Malformed k n) = codes " at its byte " ++ decimal n
 place_text other = []
 
--- a line on the document of this number, which begins behind so many bytes, and its fault
+-- a line with the number of the document, its offset and its fault
 abbrev pub diagnostic_of : ℕ → ℕ → RunFault → List ℕ
 diagnostic_of number start fault = diagnostic_with number start fault (place_text fault)

@@ -1,4 +1,4 @@
--- What a run over documents does: its input is documents one behind the other.
+-- What a run over documents does: its input is concatenated documents.
 use Rattle.std.specs.Prelude.{◌≡◌, ◌≢◌, ◌⊎◌, ◌+◌, ℕ, List, [], ◌++◌, true, false, IsUtf8, Option, Some, Ok, length}
 use Rattle.std.specs.Io.{StartsWith}
 use Rattle.std.specs.Io.KnownBytes.{Appends, Consumes, IsAtEnd, Keeps}
@@ -43,7 +43,7 @@ abbrev pub IsUnwritable : Options → Line → Pairs → Type 0
 IsUnwritable o (Text f) ps = writable_in o.doubles (document ps) ≡ false
 IsUnwritable o line ps = ⊥
 
--- of the bytes nothing can be written, for the fault
+-- nothing can be written for the bytes, because of the fault
 abbrev pub HasNoLine : RunFault → Run → List ℕ → Type 0
 HasNoLine (Malformed k n) run bytes = IsPlacedFault k n bytes (reads_bytes run.depth bytes)
 HasNoLine FiniteDouble run bytes = (ps : Pairs) × IsRead run.depth bytes ps × IsUnwritable run.options run.line ps
@@ -53,7 +53,7 @@ HasNoLine other run bytes = ⊥
 abbrev pub BeginsWithLength : List ℕ → Type 0
 BeginsWithLength bytes = (rest : List ℕ) × (size_at bytes ≡ Ok (length bytes, rest))
 
--- a rejected document is passed over: the run keeps going, and the next document begins behind the length of this one
+-- a rejected document is skipped: the run keeps going, and the next document begins after the length of this one
 abbrev pub IsPassedOver : Run → List ℕ → Type 0
 IsPassedOver run bytes = (run.keep_going ≡ true) × BeginsWithLength bytes
 
@@ -65,9 +65,9 @@ IsOfBytes CannotRead = ⊥
 IsOfBytes CannotWrite = ⊥
 IsOfBytes OutOfMemory = ⊥
 
--- ---- documents one behind the other
+-- ---- concatenated documents
 
--- these bytes are so many documents that give this output, of which so many were refused, passed over and told so
+-- these bytes are this number of documents with this output; this number of them were rejected, skipped and reported
 pub data Dump (run : Run) : List ℕ → List ℕ → List ℕ → ℕ → ℕ → Type 0 where
   none : Dump run [] [] [] 0 0
   written : {before output reported : List ℕ} {number refused : ℕ} (bytes line : List ℕ)
@@ -79,10 +79,10 @@ pub data Dump (run : Run) : List ℕ → List ℕ → List ℕ → ℕ → ℕ �
 
 -- ---- a run
 --
--- For a run, before and after are the remaining bytes of the reader, and the other pairs are the contents of the output
--- writer and of the diagnostics writer, before and after the run: None if they are not known.
+-- In a run, `before` and `after` are the bytes that the reader has before and after it. The next four are the contents
+-- of the output and of the report, before and after it. None means that they are not known.
 
--- all bytes of the reader are documents, and their output and diagnostics were written
+-- all bytes of the reader are documents, and their lines and diagnostics were written
 pub record DoneDocuments (run : Run) (before after had holds reported reports : Option (List ℕ)) (number refused : ℕ)
     : Type 0 where
   pub bytes : List ℕ
@@ -94,15 +94,15 @@ pub record DoneDocuments (run : Run) (before after had holds reported reports : 
   pub written : Appends had holds output
   pub reports_appended : Appends reported reports verdicts
 
--- a writer took no more than a beginning of the line, or of the verdict
+-- a writer accepted only a prefix of the line, or of the diagnostic
 abbrev pub IsCutShort : Run → (number start : ℕ) → (taken more said : List ℕ) → Type 0
 IsCutShort run number start taken more said =
     (((line : List ℕ) × IsLine run taken line × StartsWith line more) × (said ≡ []))
     ⊎ (((fault : RunFault) × HasNoLine fault run taken × IsPassedOver run taken
     × StartsWith (diagnostic_of number start fault) said) × (more ≡ []))
 
--- why a run ends at the bytes that were taken of the document of this number, which begins behind so many bytes, what
--- was written of its line, and what was told
+-- why a run ends at the document with this number and offset, of which these bytes were read; and which parts of its
+-- line and diagnostic were written
 abbrev pub EndsFor : RunFault → Run → (number start : ℕ) → (taken more said : List ℕ) → Type 0
 EndsFor CannotRead run number start taken more said = (more ≡ []) × (said ≡ [])
 EndsFor CannotWrite run number start taken more said = IsCutShort run number start taken more said
@@ -110,16 +110,16 @@ EndsFor OutOfMemory run number start taken more said = (more ≡ []) × (said �
 EndsFor fault run number start taken more said =
     HasNoLine fault run taken × (IsPassedOver run taken → ⊥) × (more ≡ []) × (said ≡ [])
 
--- unless the reader failed or memory ran out, bytes were taken, and they are the front of those behind the documents that
--- were done
+-- unless the reader failed or memory ran out, some bytes were read, and they are the prefix of those after the converted
+-- documents
 abbrev pub TakesFront : RunFault → (before : Option (List ℕ)) → (done taken : List ℕ) → Type 0
 TakesFront CannotRead before done taken = Unit {0}
 TakesFront OutOfMemory before done taken = Unit {0}
 TakesFront fault before done taken =
     (taken ≢ []) × ((rest : List ℕ) → before ≡ Some (done ++ rest) → taken ≡ front_of rest)
 
--- the documents before the one of this number, which begins behind so many bytes, were done, so many of them passed over,
--- and what they give was written and told; at that one the run ended for the fault
+-- the documents before the one with this number and offset were converted or skipped, and their lines and diagnostics
+-- were written; at this one the run ended for the fault
 pub record EndsAt (run : Run) (before after had holds reported reports : Option (List ℕ)) (fault : RunFault)
     (number refused start : ℕ) : Type 0 where
   pub done : List ℕ
@@ -138,18 +138,18 @@ pub record EndsAt (run : Run) (before after had holds reported reports : Option 
   pub written : Appends had holds (output ++ more)
   pub reports_appended : Appends reported reports (verdicts ++ said)
 
--- the bytes begin with no document that is written
+-- the bytes do not begin with a document that is written
 abbrev pub BeginsWithNone : Run → List ℕ → Type 0
 BeginsWithNone run bytes = (ps : Pairs) (rest : List ℕ) → IsFront run.depth bytes ps rest
     → IsUnwritable run.options run.line ps
 
--- if the fault is one of the bytes, those after so many bytes of the reader are some, begin with no document that is
--- written, and with none that the run passes over
+-- if the fault is one of a document, there are bytes at this offset, and they do not begin with a document that is
+-- written or skipped
 abbrev pub IsJustified : Run → (before : Option (List ℕ)) → RunFault → (start : ℕ) → Type 0
 IsJustified run before fault start = (done rest : List ℕ) → before ≡ Some (done ++ rest) → length done ≡ start
     → IsOfBytes fault → (rest ≢ []) × BeginsWithNone run rest × (IsPassedOver run (front_of rest) → ⊥)
 
--- a run over these bytes does the documents before the one of this number, and ends at that one for a fault of the bytes
+-- a run over these bytes converts or skips the documents before this one, and ends at it for its fault
 pub record EndsInside (run : Run) (all output verdicts : List ℕ) (fault : RunFault) (number refused start : ℕ)
     : Type 0 where
   pub done : List ℕ
@@ -165,7 +165,7 @@ pub record EndsInside (run : Run) (all output verdicts : List ℕ) (fault : RunF
 
 -- ---- for private clauses
 
--- why the bytes gave no line, or memory ran out
+-- why the bytes have no line, or memory ran out
 abbrev pub IsConversionFault : RunFault → Run → List ℕ → Type 0
 IsConversionFault OutOfMemory run bytes = Unit {0}
 IsConversionFault fault run bytes = HasNoLine fault run bytes
@@ -181,7 +181,7 @@ IsLineFault FiniteDouble o l ps = IsUnwritable o l ps
 IsLineFault OutOfMemory o l ps = Unit {0}
 IsLineFault other o l ps = ⊥
 
--- the line was written; or the document was refused, passed over and told so, which counts as 1
+-- the line was written; or the document was rejected, skipped and reported, which counts as 1
 abbrev pub IsHandled : ℕ → Run → (number start : ℕ) → List ℕ → (had holds reported reports : Option (List ℕ)) → Type 0
 IsHandled n run number start bytes had holds reported reports =
     ((n ≡ 0) × (((line : List ℕ) × IsLine run bytes line × Appends had holds line) × Keeps reported reports))
@@ -189,18 +189,18 @@ IsHandled n run number start bytes had holds reported reports =
     × (((fault : RunFault) × HasNoLine fault run bytes × Appends reported reports (diagnostic_of number start fault))
     × Keeps had holds)))
 
--- the run ends for the fault, and this was written of the line and told
+-- the run ends for the fault, and these parts of the line and the diagnostic were written
 abbrev pub IsUnhandled : RunFault → Run → (number start : ℕ) → List ℕ → (had holds reported reports : Option (List ℕ)) → Type 0
 IsUnhandled e run number start bytes had holds reported reports = (more : List ℕ) × (said : List ℕ)
     × EndsFor e run number start bytes more said × (Appends had holds more × Appends reported reports said)
 
--- the verdict was not told whole
+-- the diagnostic was not written completely
 abbrev pub IsUntold : RunFault → (number start : ℕ) → RunFault → (reported reports : Option (List ℕ)) → Type 0
 IsUntold e number start fault reported reports =
     ((e ≡ OutOfMemory) × Keeps reported reports)
     ⊎ ((e ≡ CannotWrite) × ((said : List ℕ) × StartsWith (diagnostic_of number start fault) said × Appends reported reports said))
 
--- how far a run has come
+-- the progress of a run
 pub record DocumentsRun (run : Run) (before after had holds reported reports : Option (List ℕ)) (number refused start : ℕ)
     : Type 0 where
   pub done : List ℕ

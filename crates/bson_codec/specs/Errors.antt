@@ -1,4 +1,4 @@
--- What the calls answer where bytes are no document.
+-- What the calls return if bytes are not a document.
 use Rattle.std.specs.Prelude.{◌≡◌, ◌≤◌, ℕ, ◌+◌, ◌-◌, List, length, Result, Err}
 use Rattle.bson_bytes.specs.declared.fault.Fault.{Fault}
 use Rattle.bson_bytes.specs.declared.fault.FaultKind.{FaultKind}
@@ -7,7 +7,7 @@ use Rattle.bson_bytes.specs.declared.stop.Stop.TheVariants as stops
 use Rattle.bson_codec.specs.declared.de.Error.{Error}
 use Rattle.bson_codec.specs.declared.de.Error.TheVariants as errors
 
--- the fault that reading the bytes gives: its kind, and that so many bytes stand before its place
+-- the error of reading the bytes: its kind, and its offset
 abbrev pub IsPlacedFault : {Y : Type 0} → FaultKind → ℕ → List ℕ → Result Y Fault → Type 0
 IsPlacedFault k n bytes read = (f : Fault) × (read ≡ Err f) × (k ≡ f.kind) × (n + f.left ≡ length bytes)
 
@@ -16,20 +16,20 @@ abbrev pub IsReadFault : {Y : Type 0} → Error → List ℕ → Result Y Fault 
 IsReadFault errors.OutOfMemory bytes read = Unit {0}
 IsReadFault (errors.Malformed k n) bytes read = IsPlacedFault k n bytes read
 
--- that fault, where no memory is taken
+-- that error, if nothing is allocated
 abbrev pub IsFaultAlone : {Y : Type 0} → Error → List ℕ → Result Y Fault → Type 0
 IsFaultAlone errors.OutOfMemory bytes read = ⊥
 IsFaultAlone (errors.Malformed k n) bytes read = IsPlacedFault k n bytes read
 
 -- ---- for private clauses
 
--- a fault stands in the bytes, or at their end, and no document may be doubtful
+-- the error is in the bytes, or at their end, and no duplicate key is possible
 abbrev pub StandsIn : Stop → List ℕ → Type 0
 StandsIn (stops.Fault f) bytes = f.left ≤ length bytes
 StandsIn stops.PossibleDuplicate bytes = ⊥
 StandsIn stops.OutOfMemory bytes = Unit {0}
 
--- the error with its place from the front of the bytes
+-- the error with its offset in the bytes
 abbrev pub located : Stop → List ℕ → Error
 located (stops.Fault f) bytes = errors.Malformed f.kind (length bytes - f.left)
 located e bytes = errors.OutOfMemory

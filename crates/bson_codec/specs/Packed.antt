@@ -1,4 +1,4 @@
--- What bytes are that were written from the tokens of a text.
+-- Which bytes are written from the tokens of a text.
 use Rattle.std.specs.Prelude.{◌≡◌, ◌++◌, ◌+◌, ◌≤◌, ℕ, suc, List, length, true, Ok}
 use Rattle.std.specs.Str.{is_utf8}
 use Rattle.bson_types.specs.declared.spec.ElementType.TheVariants as tag
@@ -21,23 +21,23 @@ pub record IsPackedText (D : Doubles) (text bytes : List ℕ) : Type 0 where
 
 -- ---- for private clauses
 
--- the element of this name that holds the value was put behind the old bytes
+-- the element with this name and value was appended to the old bytes
 abbrev pub PutUnder : List ℕ → Value → List ℕ → List ℕ → Type 0
 PutUnder k v old new =
     IsWellTyped v × (put_value v (old ++ name_bytes (type_of v) k) ≡ Ok new) × (length old ≤ length new)
 
--- the document of the pairs was
+-- the document of the pairs was appended
 abbrev pub PutFramed : Pairs → List ℕ → List ℕ → Type 0
 PutFramed ps old new = IsWellTypedDocument ps × (put_document ps old ≡ Ok new) × (length old ≤ length new)
 
--- four bytes of room for a length were put at the place
+-- four bytes for a length were reserved at this position
 abbrev pub ReservesLength : ℕ → List ℕ → List ℕ → Type 0
 ReservesLength start old new = (start ≡ length old) × (new ≡ put_room old)
 
 abbrev pub ArrayUnder : List ℕ → ℕ → List ℕ → List ℕ → Type 0
 ArrayUnder k start old new = ReservesLength start (old ++ name_bytes tag.Array k) new
 
--- the code was put that stands before its scope, behind room for the length of both at the place
+-- the code before its scope was appended, after four bytes for the length of both at this position
 abbrev pub CodeUnder : List ℕ → List ℕ → ℕ → List ℕ → List ℕ → Type 0
 CodeUnder k s start old new =
     (is_utf8 s ≡ true) × (start ≡ length (old ++ name_bytes tag.JavaScriptCodeWithScope k))

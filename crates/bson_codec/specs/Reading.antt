@@ -8,12 +8,12 @@ use Rattle.bson_bytes.specs.Reading.{is_new}
 use Rattle.bson.specs.View.{pairs_view}
 use Rattle.bson.specs.declared.bson.Bson.{Bson}
 
--- the first fact of a document (true), the other of an array
+-- the first fact for a document (true), the second for an array
 abbrev pub OfKind : Bool → Type 0 → Type 0 → Type 0
 OfKind true D A = D
 OfKind false D A = A
 
--- the pairs that entries stand for
+-- the pairs of entries
 abbrev pub entries_view : List (Pair Bson) → Pairs
 entries_view es = pairs_view (stored_pairs es)
 

@@ -1,4 +1,4 @@
--- What reading a document from a reader takes, and writing one to a writer does.
+-- How a document is read from a reader, and written to a writer.
 use Rattle.std.specs.Prelude.{◌≡◌, ℕ, List, ◌++◌, Option, Result, Ok, Err, length, take, cond, nat_lt}
 use Rattle.std.specs.Io.{StartsWith}
 use Rattle.std.specs.Io.KnownBytes.{Appends, Consumes, Keeps}
@@ -22,13 +22,13 @@ pub record WritesBeginning (had holds : Option (List ℕ)) (bytes : List ℕ) : 
 
 -- ---- reading
 
--- the reader or memory is wanting
+-- the reader failed, or memory ran out
 abbrev pub IsHindrance : ReaderError → Type 0
 IsHindrance read_errors.CannotRead = Unit {0}
 IsHindrance read_errors.OutOfMemory = Unit {0}
 IsHindrance (read_errors.Malformed k n) = ⊥
 
--- the fault is that of the bytes that were taken; or the reader or memory is wanting
+-- the error is that of the bytes that were read; or the reader failed, or memory ran out
 abbrev pub IsRefusedInput : ℕ → (before after : Option (List ℕ)) → ReaderError → Type 0
 IsRefusedInput d before after read_errors.CannotRead = Unit {0}
 IsRefusedInput d before after read_errors.OutOfMemory = Unit {0}
@@ -37,12 +37,12 @@ IsRefusedInput d before after (read_errors.Malformed k n) =
 
 -- ---- writing
 
--- the writer or memory is wanting
+-- the writer failed, or memory ran out
 abbrev pub IsSystemFailure : WriterError → Type 0
 IsSystemFailure write_errors.CannotWrite = Unit {0}
 IsSystemFailure (write_errors.NoBytes e) = e ≡ errors.OutOfMemory
 
--- a document that has no bytes writes none; a writer that fails took a beginning
+-- a document that has no bytes writes none; a writer that fails accepted a prefix
 abbrev pub IsWriteFailure : WriterError → Pairs → (had holds : Option (List ℕ)) → Type 0
 IsWriteFailure (write_errors.NoBytes e) ps had holds = IsRefusal e ps × Keeps had holds
 IsWriteFailure write_errors.CannotWrite ps had holds = FitsDocument ps × WritesBeginning had holds (document_bytes ps)
@@ -58,12 +58,12 @@ most n (Err f) = n
 abbrev pub promised : List ℕ → ℕ
 promised bytes = most (length bytes) (size_at bytes)
 
--- the bytes at the front that the first four of them, a length, promise; all bytes if there are fewer
+-- as many bytes as the first four of them, a length, say; all bytes if there are fewer
 abbrev pub front_of : List ℕ → List ℕ
 front_of bytes = take (promised (take 4 bytes)) bytes
 
 -- ---- for private clauses
 
--- the bytes that were taken from the reader were added
+-- the bytes that were read from the reader were added
 abbrev pub IsConsumed : (before after : Option (List ℕ)) (old new : List ℕ) → Type 0
 IsConsumed before after old new = (more : List ℕ) × (new ≡ old ++ more) × Consumes before after more

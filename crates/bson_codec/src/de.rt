@@ -19,12 +19,12 @@ use bson_bytes::nothing;
 use bson_bytes::stop::Stop;
 use std::alloc::{AllocError, Global};
 
-/// How deep documents, arrays and scopes may nest where a caller has no limit of its own: the limit
-/// of MongoDB's server.
+/// How deep documents, arrays and scopes nest if a caller has no limit of its own: the limit of
+/// MongoDB's server.
 pub const DEPTH: usize = 100;
 
 /// How bytes are read by [`from_bytes`] and [`front_of_bytes`]. The default is the depth [`DEPTH`],
-/// and that any key may stand twice.
+/// and that duplicate keys are allowed.
 ///
 /// ```
 /// let options = ReadOptions {
@@ -38,9 +38,9 @@ pub const DEPTH: usize = 100;
 /// ```
 #[derive(Clone, Copy, Debug, Drop, PartialEq, Eq)]
 pub struct ReadOptions {
-    /// How many documents, arrays and scopes may stand in each other, counting the document itself.
+    /// How deep documents, arrays and scopes may nest, counting the document itself.
     pub depth: usize,
-    /// What a key means that stands twice in a document.
+    /// What happens to a duplicate key of a document.
     pub duplicate_keys: DuplicateKeys,
 }
 
@@ -56,7 +56,7 @@ impl Default for ReadOptions {
     }
 }
 
-/// Why bytes give no document.
+/// Why bytes are not read as a document.
 ///
 /// ```
 /// if let Err(error) = from_slice(alloc, b"\x05\0\0\0\0\0", DEPTH) {
@@ -65,21 +65,21 @@ impl Default for ReadOptions {
 /// ```
 #[derive(Debug, Drop, thiserror::Error)]
 pub enum Error {
-    /// The bytes are no document of BSON 1.1, for their first fault.
+    /// The bytes are not a document of BSON 1.1, because of their first error.
     #[error("no BSON document, by the byte at {offset}")]
     Malformed {
         /// What is wrong.
         kind: FaultKind,
-        /// The number of bytes before its place.
+        /// The offset of the error.
         offset: usize,
     },
 
-    /// A request for memory was refused.
+    /// An allocation failed.
     #[error("out of memory")]
     OutOfMemory,
 }
 
-/// A document, or why bytes give none.
+/// A document, or why bytes are not read as one.
 pub type Result<T, E = Error> = std::result::Result<T, E>;
 
 /// Returns the document that all of the bytes are (BSON 1.1). Documents, arrays and scopes nest at
@@ -123,9 +123,9 @@ pub fn from_slice(alloc: Global, bytes: &[u8], depth: usize) -> Result<Document>
 /// The fault of a duplicate key is at its second position. A fault before it comes first. A fault
 /// after it does not count, nor does a length around it, which is checked after its part.
 pub fn from_bytes(alloc: Global, options: ReadOptions, bytes: &[u8]) -> Result<Document>
-    // What is read is in the grammar, and no key stands twice where the options refuse that.
+    // What is read is in the grammar, and has no duplicate key if the options reject those.
     ensures ok { IfOk result (λ d. IsReadIn options.duplicate_keys options.depth bytes.now (document_view d)) }
-    // What is so is read as its one document, unless memory runs out.
+    // Each such document is read, unless memory runs out.
     ensures only { (ps : Pairs) → IsReadIn options.duplicate_keys options.depth bytes.now ps
         → IfOk result (λ d. document_view d ≡ ps) × IfErr result (λ e. e ≡ errors.OutOfMemory) }
     // Which fault it is, and where.
@@ -175,10 +175,10 @@ pub fn front_of_bytes(
     options: ReadOptions,
     bytes: &[u8],
 ) -> Result<(Document, &[u8])>
-    // What is read is in the grammar, and no key stands twice where the options refuse that.
+    // What is read is in the grammar, and has no duplicate key if the options reject those.
     ensures ok { IfOk result
         (λ x. IsFrontIn options.duplicate_keys options.depth bytes.now (document_view x.0) x.1.now) }
-    // What is so is read as its one document, unless memory runs out.
+    // Each such document is read, unless memory runs out.
     ensures only { (ps : Pairs) (rest : _) → IsFrontIn options.duplicate_keys options.depth bytes.now ps rest
         → IfOk result (λ x. (document_view x.0 ≡ ps) × (x.1.now ≡ rest)) × IfErr result (λ e. e ≡ errors.OutOfMemory) }
     // Which fault it is, and where.
@@ -238,7 +238,7 @@ pub fn is_canonical(alloc: Global, bytes: &[u8], depth: usize) -> Result<bool, A
     }
 }
 
-// What is said of bytes whose document has none for this cause.
+// Returns false if the document can't be written for this cause.
 fn is_unwritable(error: ser::Error) -> Result<bool, AllocError>
     ensures { IfOk result (λ b. (b ≡ false) × (error ≡ causes.OutOfMemory → ⊥)) }
 {
@@ -250,7 +250,7 @@ fn is_unwritable(error: ser::Error) -> Result<bool, AllocError>
     }
 }
 
-// The error with its place from the front of the bytes.
+// Returns the error with its offset in the bytes.
 pub(crate) fn locate(stop: Stop, bytes: &[u8]) -> Error
     requires { StandsIn stop bytes.now }
     ensures { result ≡ located stop bytes.now }

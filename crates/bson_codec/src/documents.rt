@@ -26,7 +26,7 @@ use bson_bytes::parts::size_at;
 use std::alloc::Global;
 use std::io::{Read, Write};
 
-/// As much as is asked of a reader at once. A run has one block, which is filled with zeros once.
+/// The number of bytes that are requested from a reader at once. A run has one block, filled with zeros once.
 const BLOCK: usize = 65536;
 
 /// The greatest number of documents in one run.
@@ -233,7 +233,7 @@ fn give<W: Write, T: Write>(
     }
 }
 
-// What is written of the document that the bytes are.
+// Returns the line of the document that the bytes are.
 fn line_of(alloc: Global, run: Run, bytes: &[u8]) -> Result<Vec<u8>, RunFault>
     ensures ok { IfOk result (λ line. IsLine run bytes.now line.items) }
     ensures fault { IfErr result (λ e. IsConversionFault e run bytes.now) }
@@ -271,8 +271,8 @@ fn text_line(alloc: Global, run: Run, form: Form, bytes: &[u8]) -> Result<Vec<u8
     }
 }
 
-// The text in the form, with the keys in their own order, of the document that the bytes are, and a
-// newline. With finite doubles it needs no document in memory.
+// Returns the line of the document that the bytes are, in the form and with its keys in their own
+// order. With finite doubles it needs no document in memory.
 fn ordered_line(alloc: Global, run: Run, form: Form, bytes: &[u8]) -> Result<Vec<u8>, RunFault>
     requires { (run.line ≡ Text form) × (run.options.key_order ≡ AsGiven) }
     ensures ok { IfOk result (λ line. IsLine run bytes.now line.items) }

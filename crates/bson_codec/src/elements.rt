@@ -1,4 +1,4 @@
-//! BSON elements that values are written to.
+//! A writer of values that appends BSON elements.
 ghost use Rattle.std.specs.Prelude.{◌≡◌, true, ⊤};
 ghost use Rattle.std.specs.Str.{is_utf8};
 ghost use Rattle.bson_bytes.specs.Putting.{is_free};
@@ -15,8 +15,8 @@ use bson_text::writer::ValueWriter;
 use bson_types::spec::ElementType;
 use itoa::Buffer;
 
-/// The bytes of elements, one behind the other. Of an array, a document or code that was begun it is
-/// held where its length stands.
+/// The bytes of concatenated elements. For each open array, document or code, the position of its
+/// length is kept.
 #[derive(Drop)]
 pub(crate) struct ElementWriter {
     pub(crate) bytes: Vec<u8>,
@@ -114,7 +114,7 @@ impl ValueWriter for ElementWriter {
     }
 }
 
-// A text whose document has no bytes is read whole.
+// Returns the reason to stop if a part has no bytes.
 fn refused(error: Error) -> Stop
     ensures { MayStop (λ D. ⊤) result }
 {

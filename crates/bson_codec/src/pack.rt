@@ -21,7 +21,7 @@ const LONG: usize = 1 << 16;
 /// # Errors
 ///
 /// - `OutOfMemory`: a request for memory was refused.
-/// - `DuplicateKey`, `GaveUp`, `Syntax` and `Fault`: the text is to be read whole. They say nothing of it.
+/// - `DuplicateKey`, `GaveUp`, `Syntax` and `Fault`: the call gave up. They say nothing about the text.
 pub fn pack_text(
     alloc: Global,
     doubles: Doubles,
@@ -37,7 +37,7 @@ pub fn pack_text(
     }
 }
 
-// A text that was left, packed from the text in which each object has each key once.
+// Encodes the normalized text, in which each object has each key once.
 fn pack_normalized(
     alloc: Global,
     doubles: Doubles,
@@ -50,7 +50,7 @@ fn pack_normalized(
     write_packed(alloc, doubles, normalized.as_str(), scratch)
 }
 
-// An error is also a text that has two equal keys in an object.
+// Stops also at a duplicate key.
 fn write_packed(
     alloc: Global,
     doubles: Doubles,
@@ -65,7 +65,7 @@ fn write_packed(
     write_whole(alloc, doubles, text, scratch)
 }
 
-// The same with a scratch of its own.
+// Encodes a long text with a scratch buffer of its own.
 #[inline(never)]
 fn write_long(alloc: Global, doubles: Doubles, text: &str) -> Result<Vec<u8>, Stop>
     ensures ok { IfOk result (λ out. IsPackedText doubles text.now out.items) }
@@ -74,7 +74,7 @@ fn write_long(alloc: Global, doubles: Doubles, text: &str) -> Result<Vec<u8>, St
     write_whole(alloc, doubles, text, &mut scratch)
 }
 
-// The same of a text of any length, with this scratch.
+// Encodes a text of any length with this scratch buffer.
 fn write_whole(
     alloc: Global,
     doubles: Doubles,

@@ -1,4 +1,4 @@
-//! Why a run over documents ends, or passes a document over, and what is told of it.
+//! Why a run over documents ends or skips a document, and its diagnostic.
 ghost use Rattle.std.specs.Prelude.{◌≡◌, IfOk, string_bytes};
 ghost use Rattle.bson_codec.specs.Diagnostics.{place_text, diagnostic_of, diagnostic_with, fault_kind_message, run_fault_message};
 
@@ -17,20 +17,20 @@ use std::alloc::{AllocError, Global};
 /// ```
 #[derive(Clone, Copy, PartialEq, Eq, Debug)]
 pub enum RunFault {
-    /// A document is none of BSON 1.1, for its first fault.
+    /// A document is not one of BSON 1.1, because of its first error.
     Malformed {
         /// What is wrong.
         kind: FaultKind,
-        /// The number of bytes of the document before its place.
+        /// The offset of the error in the document.
         offset: usize,
     },
-    /// A document has a finite double other than zero, where those have no text.
+    /// A document has a finite double other than zero, and those are not accepted.
     FiniteDouble,
     /// The reader failed.
     CannotRead,
-    /// A writer failed, or took no byte.
+    /// A writer failed, or accepted no byte.
     CannotWrite,
-    /// A request for memory was refused.
+    /// An allocation failed.
     OutOfMemory,
 }
 
@@ -50,9 +50,9 @@ pub struct RunEnd {
     pub fault: RunFault,
     /// The number of the document, from 1.
     pub number: u64,
-    /// The number of documents before it that were passed over.
+    /// The number of documents before it that were skipped.
     pub refused: u64,
-    /// The number of bytes before the document.
+    /// The offset of the document.
     pub start: u64,
 }
 
@@ -69,7 +69,7 @@ impl RunEnd {
     }
 }
 
-/// The document and its fault, in words for people, and a newline.
+/// Returns the diagnostic of a document and its fault, and a newline.
 pub(crate) fn verdict(
     alloc: Global,
     number: u64,
@@ -82,7 +82,7 @@ pub(crate) fn verdict(
     at_place(alloc, number, start, fault, place.as_str())
 }
 
-// The document, the words for the fault, and its place.
+// Returns the diagnostic with the document, the message of the fault, and its offset.
 fn at_place(
     alloc: Global,
     number: u64,
@@ -110,7 +110,7 @@ impl RunFault {
         }
     }
 
-    // Where in the document.
+    // Returns the offset in the document as text.
     fn place(self, alloc: Global) -> Result<String, AllocError>
         ensures { IfOk result (λ place. string_bytes place ≡ place_text self) }
     {
@@ -124,7 +124,7 @@ impl RunFault {
     }
 }
 
-// What is wrong with bytes.
+// Returns the message for a kind of error.
 fn words_for(kind: FaultKind) -> &'static str
     ensures { result.now ≡ fault_kind_message kind }
 {

@@ -37,7 +37,7 @@ pub(crate) fn type_of(scalar: &Scalar) -> ElementType
     }
 }
 
-// What stands behind the name of an element.
+// Appends the bytes after the name of an element.
 #[tactic(auto, using(bson_bytes::proofs::Offered::string_utf8))]
 pub(crate) fn put_scalar(out: &mut Vec<u8>, scalar: &Scalar) -> Result<(), Error>
     ensures put { PutsBytes result out.new.items (put_scalar (scalar_view scalar.now) out.old.items) }

@@ -38,12 +38,12 @@ pub fn to_vec(alloc: Global, document: &Document) -> Result<Vec<u8>>
     // The canonical bytes, and each part fits.
     ensures ok { IfOk result (λ out. out.items ≡ document_bytes (document_view document.now)) }
     ensures fits { OnOk result (FitsDocument (document_view document.now)) }
-    // Its texts are UTF-8, its numbers are in range, and no key stands twice in it, at any depth.
+    // Its texts are UTF-8, its numbers are in range, and it has no duplicate key, at any depth.
     ensures typed { OnOk result (IsWellTypedDocument (document_view document.now)) }
     // They are read back as the document, each binary under the subtype that its byte names.
     ensures back { IfOk result (λ out. (d : ℕ) → NestsPairs (document_view document.now) d
         → IsRead (suc d) out.items (as_written (document_view document.now))) }
-    // Where each part fits, it is refused for memory alone.
+    // If each part fits, only memory can fail.
     ensures only { FitsDocument (document_view document.now) → IfErr result (λ e. e ≡ errors.OutOfMemory) }
     // It is the cause of the first part, in the order of writing, that has no bytes.
     ensures cause { IfErr result (λ e. IsRefusal e (document_view document.now)) }

@@ -19,13 +19,13 @@ use bson_bytes::parts::size_at;
 use std::alloc::Global;
 use std::io::{Read, Write};
 
-/// As much as is asked of a reader at once.
+/// The number of bytes that are requested from a reader at once.
 const BLOCK: usize = 4096;
 
 /// The length that begins a document.
 const LENGTH: usize = 4;
 
-/// Why a reader gives no document.
+/// Why no document is read from a reader.
 ///
 /// ```
 /// let mut input: &[u8] = b"\x06\0\0\0";
@@ -35,12 +35,12 @@ const LENGTH: usize = 4;
 /// ```
 #[derive(Debug, Drop, thiserror::Error)]
 pub enum ReaderError {
-    /// The bytes that were read are no document of BSON 1.1, for their first fault.
+    /// The bytes that were read are not a document of BSON 1.1, because of their first error.
     #[error("no BSON document, by the byte at {offset}")]
     Malformed {
         /// What is wrong.
         kind: FaultKind,
-        /// The number of bytes before its place.
+        /// The offset of the error.
         offset: usize,
     },
 
@@ -48,7 +48,7 @@ pub enum ReaderError {
     #[error("cannot read")]
     CannotRead,
 
-    /// A request for memory was refused.
+    /// An allocation failed.
     #[error("out of memory")]
     OutOfMemory,
 }
@@ -69,7 +69,7 @@ pub enum WriterError {
     #[error("{0}")]
     NoBytes(ser::Error),
 
-    /// The writer failed, or took no byte.
+    /// The writer failed, or accepted no byte.
     #[error("cannot write")]
     CannotWrite,
 }
@@ -77,7 +77,7 @@ pub enum WriterError {
 /// Reads the document at the front of what the reader has, as [`from_slice`] reads it. No byte
 /// after the document is read.
 ///
-/// The length is read first, then as many bytes as it says, in pieces. Memory is that of the bytes
+/// The length is read first, then as many bytes as it says, in blocks. Memory is that of the bytes
 /// that were read, whatever the length says.
 ///
 /// # Errors
@@ -93,13 +93,13 @@ pub fn from_reader<R: Read>(
     reader: &mut R,
     depth: usize,
 ) -> Result<Document, ReaderError>
-    // What was taken from the reader is in the grammar.
+    // The bytes that were read are in the grammar.
     ensures ok { IfOk result (λ d. (bytes : List ℕ) × Consumes (R.remaining reader.old) (R.remaining reader.new) bytes
         × IsRead depth bytes (document_view d)) }
-    // What is in the grammar at the front is read as its one document, and nothing else is taken.
+    // A document at the front is read, and no byte after it.
     ensures only { (all : List ℕ) (ps : Pairs) (rest : List ℕ) → R.remaining reader.old ≡ Some all
         → IsFront depth all ps rest → IfErr result (λ e. IsHindrance e) }
-    // Which fault it is of what was taken, and where.
+    // Which error of the bytes it is, and where.
     ensures fault { IfErr result
         (λ e. IsRefusedInput depth (R.remaining reader.old) (R.remaining reader.new) e) }
 {
@@ -129,7 +129,7 @@ pub fn to_writer<W: Write>(
     ensures ok { OnOk result
         (Appends (W.contents writer.old) (W.contents writer.new) (document_bytes (document_view document.now))) }
     ensures fits { OnOk result (FitsDocument (document_view document.now)) }
-    // Where each part fits, memory or the writer is wanting.
+    // If each part fits, only memory or the writer can fail.
     ensures only { FitsDocument (document_view document.now) → IfErr result (λ e. IsSystemFailure e) }
     // Why, and what was written.
     ensures cause { IfErr result (λ e. IsWriteFailure e (document_view document.now) (W.contents writer.old)
@@ -141,8 +141,8 @@ pub fn to_writer<W: Write>(
     }
 }
 
-/// Takes a document, as long as its length says, or what came of it. No more than a block is asked of
-/// the reader at once.
+/// Reads the bytes of a document, as many as its length says, or fewer if the reader ends. At most a
+/// block is requested from the reader at once.
 pub(crate) fn take_document<R: Read>(
     reader: &mut R,
     block: &mut [u8],
@@ -164,7 +164,7 @@ pub(crate) fn take_document<R: Read>(
     fill(reader, block, bytes, size)
 }
 
-// Takes bytes until there are `count` of them, or the reader has no more.
+// Reads bytes until there are `count` of them, or the reader has no more.
 fn fill<R: Read>(
     reader: &mut R,
     block: &mut [u8],
@@ -201,7 +201,7 @@ fn fill<R: Read>(
     Ok(())
 }
 
-// How many bytes the document has that begins with these, no fewer than they are.
+// Returns the length that the document declares in these bytes, or their number if that is greater.
 fn promised_size(bytes: &[u8]) -> usize
     ensures value { result ≡ promised bytes.now }
     ensures least { length bytes.now ≤ result }

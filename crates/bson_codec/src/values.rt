@@ -26,7 +26,7 @@ pub(crate) struct Values<P: PairList> {
     of: PhantomData<P>,
 }
 
-/// The elements of an array or a document that was begun.
+/// The elements of an open array or document.
 #[derive(Drop)]
 pub(crate) struct Elements<P: PairList> {
     items: Vec<Bson>,

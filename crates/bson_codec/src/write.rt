@@ -1,4 +1,4 @@
-//! Values behind the bytes that are written.
+//! Values that are appended to bytes.
 ghost use Rattle.std.specs.Prelude.{◌≡◌, ◌≤◌, length, OnOk};
 ghost use Rattle.bson_bytes.specs.Putting.{put_value, put_document, put_room, PutsBytes};
 ghost use Rattle.bson_bytes.specs.Writing.{type_of, IsWellTyped, IsWellTypedDocument};
@@ -94,10 +94,10 @@ fn put_array(out: &mut Vec<u8>, values: &Vec<Bson>) -> Result<()>
     put_end(out, start)
 }
 
-/// As much room as is made at once for each pair of a document: most take more.
+/// The number of bytes that are reserved for each pair of a document. Most pairs need more.
 const LEAST_ROOM: usize = 8;
 
-// Four bytes for the length of the document, and room for its pairs.
+// Appends four bytes for the length of the document, and reserves bytes for its pairs.
 fn make_room(out: &mut Vec<u8>, document: &Document) -> Result<(), AllocError>
     ensures room { OnOk result (out.new.items ≡ put_room out.old.items) }
     ensures distinct { HasDistinctKeys (contents document.now) }

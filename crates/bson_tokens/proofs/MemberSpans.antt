@@ -18,7 +18,7 @@ same_key k l h = (bytes_eq-Decides k l).0 h
 pub own_key : (k : List ℕ) → bytes_eq k k ≡ true
 own_key k = (bytes_eq-Decides k k).1 refl
 
--- keys that differ do so either way round
+-- unequal keys are unequal in either order
 pub turned : (k l : List ℕ) → bytes_eq l k ≡ false → bytes_eq k l ≡ false
 turned k l differ = nat_list_eq_equiv.symm k l ∙ differ
 

@@ -93,7 +93,7 @@ pub ascending_normalized : (ms : Members) → Ascend None ms → IsNormalized As
 ascending_normalized no_members up = tt
 ascending_normalized (member k j ms) up = (above_first k ms up, behind_last k ms up)
 
--- members whose keys ascend are normalized in either arrangement
+-- members in ascending key order are normalized in either arrangement
 pub normalized_in : (a : Arrangement) (ms : Members) → Ascend None ms → IsNormalized a ms
 normalized_in FirstPlaces ms up = normalized_either Ascending ms (ascending_normalized ms up)
 normalized_in Ascending ms up = ascending_normalized ms up

@@ -1,4 +1,4 @@
--- The first fault of a tree and the path to it, as a function. For private clauses.
+-- The first error of a tree and the path to it, as a function. For private clauses.
 use Rattle.std.specs.Prelude.{ℕ, ◌+◌, List, [], ◌∷◌, ◌++◌, codes, ◌&&◌, if◌then◌else◌, Option, Some, None}
 use Rattle.std.specs.Prelude.{Result, Ok, Err}
 use Rattle.std.specs.Str.{bytes_eq}
@@ -11,7 +11,7 @@ use Rattle.bson_scalar.specs.Table.{wrapper_of, has_wrapper}
 use Rattle.bson_scalar.specs.declared.form.Doubles.{Doubles}
 use Rattle.bson_tree.specs.Place.{PathSegment, key, element}
 
--- a fault and the path from it outward, or none
+-- an error and the path from it outward, or none
 abbrev pub Verdict : Type 0
 Verdict = Option (Fault × List PathSegment)
 
@@ -43,17 +43,17 @@ abbrev mutual
   found D (tree.array ds) = found_items D 0 ds
   found D (tree.object ms) = if has_wrapper ms then found_wrapper D ms else found_members D ms
 
-  -- of elements, the first of which has this place in its array
+  -- among elements, the first of which has this index in its array
   pub found_items : Doubles → ℕ → Items → Verdict
   found_items D n no_items = None
   found_items D n (item d ds) = or (within (element n) (found D d)) (found_items D (n + 1) ds)
 
-  -- of the values of a map, by ascending key
+  -- among the values of an object, in ascending key order
   pub found_members : Doubles → Members → Verdict
   found_members D no_members = None
   found_members D (member k d ms) = or (within (key k) (found D d)) (found_members D ms)
 
-  -- of a map with a wrapper's key
+  -- in an object with a wrapper key
   pub found_wrapper : Doubles → Members → Verdict
   found_wrapper D no_members = here
   found_wrapper D (member k d no_members) = within (key k) (of_scalar (single_at_in D (wrapper_of k) d))
@@ -61,7 +61,7 @@ abbrev mutual
       if bytes_eq k (codes "$code") && bytes_eq l (codes "$scope") then of_code d (found_scope D e) else here
   found_wrapper D (member k d (member l e (member m f ms))) = here
 
-  -- of what stands as a scope beside code
+  -- in the scope of code
   pub found_scope : Doubles → Data → Verdict
   found_scope D tree.null = None
   found_scope D (tree.boolean b) = here

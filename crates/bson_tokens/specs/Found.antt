@@ -1,4 +1,4 @@
--- The path to the first key that stands twice, as a function. For private clauses.
+-- The path to the first duplicate key, as a function. For private clauses.
 use Rattle.std.specs.Prelude.{◌≡◌, ◌++◌, ◌+◌, ℕ, List, [], ◌∷◌, Option, Some, None, Bool, true, false, not, option_map}
 use Rattle.std.specs.Prelude.{Vec}
 use Rattle.std.specs.List.{list_any}
@@ -23,7 +23,7 @@ abbrev pub or_path : FoundPath → FoundPath → FoundPath
 or_path None w = w
 or_path (Some path) w = Some path
 
--- of a member, whose key is new or stood before
+-- the path of a member, whose key is new or duplicated
 abbrev pub at_key : Bool → List ℕ → FoundPath → FoundPath
 at_key true k v = path_within (key k) v
 at_key false k v = Some (key k ∷ [])
@@ -40,22 +40,22 @@ abbrev mutual
   double (json.array js) = double_items 0 js
   double (json.object ms) = double_members [] ms
 
-  -- of elements, the first of which has this place in its array
+  -- among elements, the first of which has this index in its array
   pub double_items : ℕ → Items → FoundPath
   double_items n no_items = None
   double_items n (item j js) = or_path (path_within (element n) (double j)) (double_items (n + 1) js)
 
-  -- of members that stand behind others with these keys
+  -- among members after others with these keys
   pub double_members : List (List ℕ) → Members → FoundPath
   double_members before no_members = None
   double_members before (member k j ms) =
       or_path (at_key (not (stands_among before k)) k (double j)) (double_members (k ∷ before) ms)
 
--- what an answer tells
+-- the path that a function returned
 abbrev pub reported : Option (Vec Segment Global) → FoundPath
 reported path = option_map segments_of path
 
--- a value or some were read, of which these tokens are left, and the answer tells their verdict
+-- one or more values were read, these tokens remain, and the returned path is that of the values
 abbrev pub Finds : {D : Type 0} → (D → FoundPath) → Option (D × List Token) → Option (Vec Segment Global) → List Token
     → Type 0
 Finds {D} f values path rest = (d : D) × (values ≡ Some (d, rest)) × (reported path ≡ f d)

@@ -1,4 +1,4 @@
--- What stands in a wrapper, as far as wrappers read it: of a tree that none of them can read a small one is enough.
+-- The content of a wrapper, as far as wrappers read it: a small tree that every wrapper reads as it reads the content.
 use Rattle.std.specs.Prelude.{◌≡◌, ℕ, zero, suc, List, Option, Some, None}
 use Rattle.json.specs.Token.{Token}
 use Rattle.serde_json.specs.Data.{Data, Items, no_items, Members, no_members, member, put}
@@ -8,11 +8,11 @@ use Rattle.bson_scalar.specs.Reading.{single_at_in}
 use Rattle.bson_scalar.specs.declared.form.Doubles.{Doubles}
 use Rattle.bson_scalar.specs.declared.wrapper.Wrapper.{Wrapper}
 
--- each wrapper reads of d what it reads of t, also why it reads nothing
+-- each wrapper reads d as it reads t, with the same error
 abbrev pub StandsFor : Data → Data → Type 0
 StandsFor t d = ((D : Doubles) (w : Option Wrapper) → single_at_in D w d ≡ single_at_in D w t) × (as_str d ≡ as_str t)
 
--- a tree was read, of which these tokens are left, and d stands for it
+-- a tree was read, these tokens remain, and wrappers read d as they read the tree
 abbrev pub IsHeldAs : Option (Data × List Token) → Data → List Token → Type 0
 IsHeldAs tree d rest = (t : Data) × (tree ≡ Some (t, rest)) × StandsFor t d
 
@@ -29,8 +29,8 @@ abbrev pub or_empty : Option Members → Members
 or_empty None = no_members
 or_empty (Some ms) = ms
 
--- the tree without what no wrapper reads: elements of arrays, members of an object that has more than two, or that lies
--- so many levels down
+-- the tree without what no wrapper reads: elements of arrays, and members of an object that has more than two, or that
+-- is this many levels deep
 abbrev mutual
   pub pruned : ℕ → Data → Data
   pruned n tree.null = tree.null
@@ -45,17 +45,17 @@ abbrev mutual
   pruned_members n no_members = no_members
   pruned_members n (member k d ms) = member k (pruned n d) (pruned_members n ms)
 
--- what is kept of an object's members
+-- the members of an object that are kept
 abbrev pub kept_of : ℕ → Members → Option Members
 kept_of zero ms = None
 kept_of (suc n) ms = few (pruned_members n ms)
 
--- the same with one more
+-- the members with one more
 abbrev pub entered : List ℕ → Data → Option Members → Option Members
 entered k d None = None
 entered k d (Some ms) = few (put k d ms)
 
--- a tree was read, of which these tokens are left, and it was pruned
+-- a tree was read, these tokens remain, and it was pruned
 abbrev pub IsPruned : ℕ → Option (Data × List Token) → Data → List Token → Type 0
 IsPruned n tree d rest = (t : Data) × (tree ≡ Some (t, rest)) × (d ≡ pruned n t)
 

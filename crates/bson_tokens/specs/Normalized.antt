@@ -1,5 +1,5 @@
--- The same tree with each key once in its object, at its first place or by ascending key. Keys are compared by their
--- unescaped bytes.
+-- The normalized tree: each key once in its object, at its first position or in ascending key order. Keys are compared
+-- by their unescaped bytes.
 use Rattle.std.specs.Prelude.{◌≡◌, ℕ, List, Some, if◌then◌else◌}
 use Rattle.std.specs.Cmp.Lexicographic.{slice_cmp}
 use Rattle.std.specs.Ordering.{match_ordering, nat_cmp}
@@ -14,12 +14,12 @@ use Rattle.bson_tokens.specs.Double.{json_of}
 use Rattle.bson_tokens.specs.declared.arrangement.Arrangement.{Arrangement}
 use Rattle.bson_tokens.specs.declared.arrangement.Arrangement.TheVariants.{FirstPlaces, Ascending}
 
--- the members with j at k: at k's place where k is there, else last
+-- the members with value j at key k: at the position of k if it is present, otherwise last
 abbrev pub put_first : List ℕ → Json → Members → Members
 put_first k j no_members = member k j no_members
 put_first k j (member l i ms) = if bytes_eq k l then member l j ms else member l i (put_first k j ms)
 
--- the members with j at k, by ascending key
+-- the members with value j at key k, in ascending key order
 abbrev pub put_ascending : List ℕ → Json → Members → Members
 put_ascending k j no_members = member k j no_members
 put_ascending k j (member l i ms) =
@@ -30,7 +30,7 @@ abbrev pub put_by : Arrangement → List ℕ → Json → Members → Members
 put_by FirstPlaces = put_first
 put_by Ascending = put_ascending
 
--- the tree with each key once in its object: its members go in one after another, so that the last value of a key stays
+-- the tree with each key once in its object: members are inserted one after another, so the last value of a key wins
 abbrev mutual
   pub normalized : Arrangement → Json → Json
   normalized a null = null
@@ -44,7 +44,7 @@ abbrev mutual
   normalized_items a no_items = no_items
   normalized_items a (item j js) = item (normalized a j) (normalized_items a js)
 
-  -- members that stand behind those found, which are normalized
+  -- members after those that are normalized
   pub normalized_members : Arrangement → Members → Members → Members
   normalized_members a no_members found = found
   normalized_members a (member k j ms) found = normalized_members a ms (put_by a k (normalized a j) found)

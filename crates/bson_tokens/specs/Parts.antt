@@ -11,11 +11,11 @@ use Rattle.json.specs.declared.error.Error.TheVariants.{Invalid}
 abbrev pub InvalidMeansNone : {X : Type 0} → Option X → Error → Type 0
 InvalidMeansNone tree e = e ≡ Invalid → tree ≡ None
 
--- the members are read to the end of the object, beside those before them
+-- the members are read to the end of the object, added to those before them
 abbrev pub MembersAre : ℕ → Members → List Token → Members → List Token → Type 0
 MembersAre depth old ts new rest = (n : ℕ) → length ts ≤ n
     → converted (λ js. of_members js old) (members (value depth) n ts) ≡ Some (new, rest)
 
--- they are not, since the text breaks
+-- they are not read, since the text is not valid
 abbrev pub ReadsNoMembers : ℕ → List Token → Type 0
 ReadsNoMembers depth ts = (old : Members) (n : ℕ) → converted (λ js. of_members js old) (members (value depth) n ts) ≡ None

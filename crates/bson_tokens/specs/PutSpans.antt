@@ -1,4 +1,4 @@
--- What has a key, a place and a value each, as the members of an object that it is put as. For private clauses.
+-- Items with a key, a position and a value each, as the members of an object. For private clauses.
 use Rattle.std.specs.Prelude.{◌≡◌, ◌≤◌, ◌+◌, ℕ, List, [], ◌∷◌, if◌then◌else◌, Option, Some, None}
 use Rattle.std.specs.Cmp.Lexicographic.{slice_cmp}
 use Rattle.std.specs.Ordering.{nat_cmp}
@@ -23,7 +23,7 @@ KeysAscendAfter last (k ∷ ks) = Follows last k × KeysAscendAfter (Some k) ks
 -- ---- places
 
 module _ {M : Type 0} (place_of : M → ℕ) where
-  -- each stands behind the one before it, the first at the lowest place or behind it
+  -- each position is after the one before it, and the first is not before the lowest
   abbrev pub Rise : ℕ → List M → Type 0
   Rise lowest [] = Unit {0}
   Rise lowest (m ∷ ms) = (lowest ≤ place_of m) × Rise (place_of m + 1) ms
@@ -36,12 +36,12 @@ module _ {M : Type 0} (key_of : M → List ℕ) where
     members_of [] = no_members
     members_of (m ∷ ms) = member (key_of m) (value_of m) (members_of ms)
 
-    -- the members after each in turn is put to them
+    -- the members after each item is inserted
     abbrev pub put_each_by : Arrangement → List M → Members → Members
     put_each_by a [] found = found
     put_each_by a (m ∷ ms) found = put_each_by a ms (put_by a (key_of m) (value_of m) found)
 
-  -- those of one key that stand side by side, one merged with the next
+  -- adjacent items with one key, merged into one
   module _ (merge : M → M → M) where
     abbrev pub merged_from : M → List M → List M
     merged_from m [] = m ∷ []

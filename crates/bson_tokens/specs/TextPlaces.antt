@@ -1,4 +1,4 @@
--- What the first fault of a text is.
+-- The first error of a text.
 use Rattle.std.specs.Prelude.{◌≡◌, ℕ, List, Option, Some, MatchOption}
 use Rattle.bson_scalar.specs.declared.form.Doubles.{Doubles}
 use Rattle.serde_json.specs.Data.{Data}
@@ -6,7 +6,7 @@ use Rattle.serde_json.specs.Read.{read}
 use Rattle.bson_tree.specs.Place.{HasValueIn, IsFirstFaultIn}
 use Rattle.bson_tree.specs.declared.place.Place.{Place}
 
--- the text has a tree; that has a value, or its first fault lies at the place, for its reason
+-- the text has a tree; the tree has a value, or its first error is at this path, for its reason
 abbrev pub IsTextPlaceIn : Doubles → List ℕ → Option Place → Type 0
 IsTextPlaceIn D text place =
     (t : Data) × (read text ≡ Some t) × MatchOption place (HasValueIn D t) (IsFirstFaultIn D t)

@@ -24,7 +24,7 @@ IsPrimitive (Bool b) j = j ≡ json.boolean b
 IsPrimitive (Number n) j = (s : List ℕ) × (j ≡ json.number s) × (number_of s ≡ Some (number_view n))
 IsPrimitive (String s) j = j ≡ json.string s.now
 
--- a value starts so, and these tokens are left: behind the value, or behind its bracket or brace
+-- a value starts in this way, and these tokens remain: after the value, or after its bracket or brace
 abbrev pub StartsValue : ℕ → List Token → ValueStart → List Token → Type 0
 StartsValue depth ts (start.Primitive p) rest = (j : json.Json) × (value depth ts ≡ Some (j, rest)) × IsPrimitive p j
 StartsValue depth ts start.Array rest = (0 < depth)

@@ -1,10 +1,10 @@
-//! How the members of objects stand.
+//! The order of the members of objects.
 
-/// How the members of each object stand, each key once.
+/// The order of the members of each object, each key once.
 #[derive(Clone, Copy, Debug, Drop, PartialEq, Eq)]
 pub enum Arrangement {
-    /// At the key's first place, with its last value.
+    /// Each key at its first position, with its last value.
     FirstPlaces,
-    /// By ascending bytes of the keys, with the last value.
+    /// In ascending order of the keys' bytes, each with its last value.
     Ascending,
 }

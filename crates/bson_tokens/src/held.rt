@@ -1,4 +1,4 @@
-//! What stands in a wrapper, as far as wrappers read it.
+//! The content of a wrapper, as far as wrappers read it.
 ghost use Rattle.std.specs.Prelude.{◌≡◌, ◌<◌, length, option_map, IfOk, IfErr, OnOk};
 ghost use Rattle.json.specs.Json.{value, items, members};
 ghost use Rattle.serde_json.specs.Data.{no_members};
@@ -13,17 +13,17 @@ use json::{Error, Reader};
 use serde_json::{Map, Value};
 use std::alloc::{AllocError, Global};
 
-// How many objects a wrapper reads, one in the other.
+// The number of nested objects that a wrapper reads.
 const LEVELS: usize = 2;
 
-// How many keys an object has that a wrapper reads.
+// The greatest number of keys of an object that a wrapper reads.
 const MAX_KEYS: usize = 2;
 
 /// Reads the next value, nested at most `depth` deep, as far as a wrapper reads it. Each wrapper
 /// reads the tree as it reads the value.
 ///
-/// These parts are passed over: elements of arrays, members of objects with more keys than any
-/// wrapper reads, and members of objects that lie deeper.
+/// These parts are skipped: elements of arrays, members of objects with more keys than any wrapper
+/// reads, and members of objects that nest deeper.
 ///
 /// # Errors
 ///
@@ -61,7 +61,7 @@ fn held_value(
     }
 }
 
-// Passes over the elements of an array after its bracket.
+// Skips the elements of an array after its bracket.
 #[cycle(held)]
 fn pass_items(alloc: Global, reader: &mut Reader<'_>, depth: usize) -> Result<(), Error>
     ensures ok { OnOk result
@@ -76,7 +76,7 @@ fn pass_items(alloc: Global, reader: &mut Reader<'_>, depth: usize) -> Result<()
     Ok(())
 }
 
-// The members of an object whose brace was read, or none where they are too many or lie too deep.
+// Returns the members of an object after its brace, or none if they are too many or too deep.
 #[cycle(held)]
 fn held_members(
     alloc: Global,
@@ -99,7 +99,7 @@ fn held_members(
     Ok(or_empty(alloc, found))
 }
 
-// No members yet, where any are kept.
+// Returns an empty list of members, or `None` if none are kept.
 fn first_members(alloc: Global, levels: usize) -> Option<Map<String, Value>>
     ensures { option_map (λ m. members_view m.entries) result ≡ kept_of levels no_members }
 {
@@ -110,7 +110,7 @@ fn first_members(alloc: Global, levels: usize) -> Option<Map<String, Value>>
     }
 }
 
-// The members that were found and one more, or none where they are too many.
+// Adds a member, or returns `None` if there are too many.
 fn enter(
     alloc: Global,
     found: Option<Map<String, Value>>,

@@ -1,4 +1,4 @@
-//! From a text to the text in which each object has each key once, token by token.
+//! Normalizes a text token by token: each object has each key once.
 ghost use Rattle.std.specs.Prelude.{◌≡◌, false, true, IfErr, IfOk, OnOk, string_bytes};
 ghost use Rattle.json.specs.Json.{array, object, value};
 ghost use Rattle.json.specs.Json as json;
@@ -85,7 +85,7 @@ fn write_number(text: &str, out: &mut Normalizer) -> Result<(), Error>
     Ok(out.scalar(Token::Number(text))?)
 }
 
-// The elements of an array whose bracket was read.
+// Writes the elements of an array after its bracket.
 #[cycle(write)]
 fn write_items(reader: &mut Reader<'_>, depth: usize, out: &mut Normalizer) -> Result<(), Error>
     ensures ok { OnOk result (Passes (sound ranged_items (elements depth reader.old))
@@ -99,7 +99,7 @@ fn write_items(reader: &mut Reader<'_>, depth: usize, out: &mut Normalizer) -> R
     Ok(out.close(b']')?)
 }
 
-// The members of an object whose brace was read.
+// Writes the members of an object after its brace.
 #[cycle(write)]
 fn write_members(reader: &mut Reader<'_>, depth: usize, out: &mut Normalizer) -> Result<(), Error>
     ensures ok { OnOk result (Passes (sound ranged_members (inside depth reader.old))

@@ -1,4 +1,4 @@
-//! The text that is written, token by token, and where the members of an object stand in it.
+//! The text that is written token by token, and the spans of an object's members in it.
 ghost use Rattle.std.specs.Prelude.{◌≡◌, ◌≤◌, ◌-◌, ◌++◌, ◌∷◌, [], drop, false, length, true, IfErr, IfOk, OnOk};
 ghost use Rattle.std.specs.Prelude.{string_bytes};
 ghost use Rattle.std.specs.List.{All};
@@ -14,23 +14,23 @@ use json::{Error, Token, Writer};
 use std::alloc::{AllocError, Global};
 use std::mem::replace;
 
-// So many members of an open object are normalized before its end, and again wherever they are twice
-// as many.
+// If an open object has this many members, they are normalized before its end, and again after each
+// doubling.
 pub(crate) const EARLY: usize = 1_000;
 
-// The text so far. The members of an open object stand in it as they came.
+// The text so far. The members of an open object are in it in input order.
 #[derive(Drop)]
 pub(crate) struct Normalizer {
     pub(crate) alloc: Global,
     pub(crate) arrangement: Arrangement,
     pub(crate) text: Vec<u8>,
-    // Room for the writer of a token, since one that stands in a long text takes much room ahead.
+    // A buffer for the writer of a token. In a long text it would reserve much memory ahead.
     pub(crate) part: Vec<u8>,
-    // A value stands before what comes next.
+    // Whether the next value needs a comma before it.
     pub(crate) needs_comma: bool,
 }
 
-// The text as a string.
+// Converts the text to a string.
 pub(crate) fn into_text(text: Vec<u8>) -> Result<String, Error>
     ensures bytes { IfOk result (λ written. string_bytes written ≡ text.items) }
     ensures refused { IfErr result (λ e. e ≡ OutOfMemory) }
@@ -60,7 +60,7 @@ impl Normalizer {
         })
     }
 
-    // Adds the comma that is due.
+    // Adds a comma if one is needed.
     fn add_comma(&mut self) -> Result<(), AllocError>
         ensures { OnOk result (Closed self.old (comma_if self.old.needs_comma) self.old.needs_comma self.new) }
     {
@@ -70,7 +70,7 @@ impl Normalizer {
         Ok(())
     }
 
-    // Adds a token, behind which a value stands or not.
+    // Adds a token, and says whether the next value needs a comma.
     fn add(&mut self, token: Token<'_>, needs_comma: bool) -> Result<(), AllocError>
         requires { IsPrintable (token_of token) }
         ensures { OnOk result (Closed self.old (print (token_of token.entry ∷ [])) needs_comma self.new) }
@@ -104,7 +104,7 @@ impl Normalizer {
         Ok(())
     }
 
-    // Closes it.
+    // Closes an array or an object.
     pub(crate) fn close(&mut self, byte: u8) -> Result<(), AllocError>
         ensures { OnOk result (Closed self.old (byte ∷ []) true self.new) }
     {
@@ -113,7 +113,7 @@ impl Normalizer {
         Ok(())
     }
 
-    // Opens an object, and answers where its members begin.
+    // Opens an object, and returns the position of its first member.
     pub(crate) fn begin_object(&mut self) -> Result<usize, AllocError>
         ensures { IfOk result (λ start. IsBegun self.old start self.new) }
     {
@@ -121,14 +121,14 @@ impl Normalizer {
         Ok(self.text.len())
     }
 
-    // How far behind the start of its object the text ends.
+    // Returns the distance from the start of the object to the end of the text.
     pub(crate) fn place(&self, start: usize) -> usize
         ensures { result ≡ length self.now.text.items - start }
     {
         self.text.len().saturating_sub(start)
     }
 
-    // Adds the key of a member, and answers where in its object the member begins.
+    // Adds the key of a member, and returns the member's position in its object.
     pub(crate) fn begin_member(&mut self, start: usize, key: &str) -> Result<usize, AllocError>
         ensures { IfOk result (λ place. MemberBegun self.old start key.now place self.new) }
     {
@@ -156,7 +156,7 @@ impl Normalizer {
         Ok(())
     }
 
-    // Normalizes them where there are as many as this, and answers how many there may be then.
+    // Normalizes the members if there are this many, and returns the next limit.
     pub(crate) fn settle_early(
         &mut self,
         start: usize,

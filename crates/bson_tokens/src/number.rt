@@ -8,7 +8,7 @@ use fast_float::Numeral;
 use serde_json::Number;
 
 /// Returns the number that a token of JSON denotes: an integer if it is one of 64 bits, and
-/// otherwise the nearest double. None where that is not finite.
+/// otherwise the nearest double. Returns `None` if that is not finite.
 pub fn number(text: &str) -> Option<Number>
     ensures { option_map number_view result ≡ number_of text.now }
 {

@@ -1,4 +1,4 @@
-//! The texts of an object's members, put in order with each key once.
+//! Puts the members of an object in order, each key once.
 ghost use Rattle.std.specs.Prelude.{◌≡◌, ◌<◌, ◌++◌, ◌∷◌, [], false, length, map, None, option_map, true, IfOk, OnOk};
 ghost use Rattle.std.specs.List.{All};
 ghost use Rattle.std.specs.List.Sorted.{IsPermutation, IsSortedBy, IsSortedByKey};
@@ -13,11 +13,11 @@ use crate::arrangement::Arrangement;
 use std::alloc::{AllocError, Global};
 use std::cmp::Ordering;
 
-// Among so many pieces or fewer a key that stands twice is looked for in pairs.
+// Among this many members, a duplicate key is searched for by comparing all pairs.
 const FEW: usize = 32;
 
-// The key of a member, the place that it takes among the others, and where its text stands, as in
-// `"a":1`: all behind the start of its object.
+// The key of a member, its position among the others, and the span of its text, such as `"a":1`.
+// All positions are relative to the start of its object.
 #[derive(Clone, Copy, Drop)]
 pub(crate) struct MemberSpan<'a> {
     pub(crate) key: &'a str,
@@ -26,7 +26,7 @@ pub(crate) struct MemberSpan<'a> {
     pub(crate) end: usize,
 }
 
-// Holds one more piece, with room for a quarter more at most.
+// Adds a member, and reserves capacity for at most a quarter more.
 pub(crate) fn hold<'a>(
     spans: &mut Vec<MemberSpan<'a>>,
     span: MemberSpan<'a>,
@@ -40,8 +40,8 @@ pub(crate) fn hold<'a>(
     Ok(())
 }
 
-// Puts the pieces in order, each key once with its last text, and answers the text that they give;
-// or nothing where they stand so.
+// Puts the members in order, each key once with its last text, and returns their text. Returns
+// `None` if they are in order.
 pub(crate) fn normalize_spans(
     alloc: Global,
     arrangement: Arrangement,
@@ -58,8 +58,8 @@ pub(crate) fn normalize_spans(
     Ok(Some(join_spans(alloc, spans, body)?))
 }
 
-// The pieces stand in their order, each key once. Of more than a few at their first places this is
-// not looked for.
+// Returns true if the members are in order, each key once. Many members at first positions are not
+// compared.
 fn are_normalized(arrangement: Arrangement, spans: &Vec<MemberSpan<'_>>) -> bool
     ensures { result ≡ true → StandInOrder arrangement (map member_span_key spans.now.items) }
 {
@@ -72,7 +72,7 @@ fn are_normalized(arrangement: Arrangement, spans: &Vec<MemberSpan<'_>>) -> bool
     }
 }
 
-// The keys are few, and no two of them are equal.
+// Returns true if there are only some keys, and no two of them are equal.
 fn differ(spans: &Vec<MemberSpan<'_>>) -> bool
     ensures { result ≡ true → AreDistinct (map member_span_key spans.now.items) }
 {
@@ -87,7 +87,7 @@ fn differ(spans: &Vec<MemberSpan<'_>>) -> bool
     true
 }
 
-// A piece before this one has its key.
+// Returns whether an earlier member has the same key.
 fn stands_before(spans: &Vec<MemberSpan<'_>>, at: usize) -> bool
     requires { at < length spans.now.items }
     ensures { result ≡ false → DifferAt spans.now.items at }
@@ -101,7 +101,7 @@ fn stands_before(spans: &Vec<MemberSpan<'_>>, at: usize) -> bool
     false
 }
 
-// Each key once, with the text of its last piece.
+// Keeps each key once, with the text of its last member.
 fn order_spans(arrangement: Arrangement, spans: &mut Vec<MemberSpan<'_>>)
     ensures { AreOrdered arrangement spans.old.items spans.new.items }
 {
@@ -110,7 +110,7 @@ fn order_spans(arrangement: Arrangement, spans: &mut Vec<MemberSpan<'_>>)
     place_spans(arrangement, spans);
 }
 
-// Puts pieces that stand by ascending key where they are to stand.
+// Puts members that are sorted by key in the order of the arrangement.
 fn place_spans(arrangement: Arrangement, spans: &mut Vec<MemberSpan<'_>>)
     ensures { ArePlaced arrangement spans.old.items spans.new.items }
 {
@@ -120,7 +120,7 @@ fn place_spans(arrangement: Arrangement, spans: &mut Vec<MemberSpan<'_>>)
     }
 }
 
-// Each key is greater than the one before, by bytes.
+// Returns whether each key is greater than the one before, by bytes.
 fn ascend(spans: &Vec<MemberSpan<'_>>) -> bool
     ensures { result ≡ true → KeysAscendAfter None (map member_span_key spans.now.items) }
 {
@@ -135,7 +135,7 @@ fn ascend(spans: &Vec<MemberSpan<'_>>) -> bool
     true
 }
 
-// The key is greater than the last one, by bytes.
+// Returns whether the key is greater than the last one, by bytes.
 fn follows(last: Option<&str>, key: &str) -> bool
     ensures { result ≡ true → Follows (option_map (λ s. s.now) last.entry) key.now }
 {
@@ -145,7 +145,7 @@ fn follows(last: Option<&str>, key: &str) -> bool
     }
 }
 
-// By key, and those of one key by place.
+// Sorts by key, and members with one key by position.
 fn sort_by_key(spans: &mut Vec<MemberSpan<'_>>)
     ensures same { IsPermutation spans.old.items spans.new.items }
     ensures sorted { IsSortedBy (λ p q. is_lt (key_and_place_cmp p q)) spans.new.items }
@@ -160,7 +160,7 @@ fn by_key_and_place(one: &MemberSpan<'_>, other: &MemberSpan<'_>) -> Ordering
     by_key.then(one.place.cmp(&other.place))
 }
 
-// Of those of one key that stand side by side, one with the place of the first and the text of the
+// Merges adjacent members with one key into one, with the position of the first and the text of the
 // last.
 fn merge_runs(spans: &mut Vec<MemberSpan<'_>>)
     ensures { spans.new.items ≡ merged member_span_key merge spans.old.items }
@@ -192,7 +192,7 @@ fn sort_by_place(spans: &mut Vec<MemberSpan<'_>>)
     spans.sort_unstable_by_key(|span| span.place);
 }
 
-// The texts of the pieces one behind the other, where they stand from then on.
+// Concatenates the texts of the members, and updates their spans.
 fn join_spans(
     alloc: Global,
     spans: &mut Vec<MemberSpan<'_>>,
@@ -201,8 +201,8 @@ fn join_spans(
     requires { All (IsMemberSpanWithin body.now) spans.old.items }
     ensures { IfOk result (λ text. IsJoined body.now spans.old.items spans.new.items text.items) }
 {
-    // Twice the room, half of which is never touched: glibc maps a block that is larger than all
-    // that were let go before it, and so gives it back at once (mallopt(3), M_MMAP_THRESHOLD).
+    // Twice the capacity, half of which is never touched: glibc maps a block that is larger than all
+    // that were freed before it, and so returns it at once (mallopt(3), M_MMAP_THRESHOLD).
     let mut text = Vec::with_capacity(alloc, body.len().saturating_mul(2))?;
     'spans: for at in 0..spans.len() {
         let MemberSpan {

@@ -1,4 +1,4 @@
-//! The path to a key, as it is found.
+//! The path to a duplicate key.
 ghost use Rattle.std.specs.Prelude.{◌≡◌, IfOk};
 ghost use Rattle.bson_tree.specs.Place.{segment_of};
 ghost use Rattle.bson_tokens.specs.Found.{reported, or_path, path_within, at_key};
@@ -9,7 +9,7 @@ use std::alloc::{AllocError, Global};
 /// A path from a key outward.
 pub type KeyPath = Vec<Segment>;
 
-/// The first path so far, or that in the next element.
+/// Returns the first path so far, or otherwise the path in the next element.
 pub(crate) fn or_at(
     first: Option<KeyPath>,
     found: Option<KeyPath>,
@@ -23,8 +23,8 @@ pub(crate) fn or_at(
     with_segment(found, Segment::Element(at))
 }
 
-/// The first path so far, or that of the next member: to its key where that is not new, or else in
-/// its value.
+/// Returns the first path so far, or otherwise that of the next member: to its key if that is
+/// duplicated, or in its value.
 pub(crate) fn or_member(
     alloc: Global,
     first: Option<KeyPath>,
@@ -46,7 +46,7 @@ pub(crate) fn or_member(
     Ok(Some(path))
 }
 
-// The path behind one more segment.
+// Adds a segment to the path.
 fn with_segment(found: Option<KeyPath>, segment: Segment) -> Result<Option<KeyPath>, AllocError>
     ensures { IfOk result (λ path. reported path ≡ path_within (segment_of segment) (reported found)) }
 {

@@ -1,4 +1,4 @@
-//! The first bytes of keys, which tell most of them apart.
+//! The first bytes of keys, which distinguish most keys.
 ghost use Rattle.std.specs.Prelude.{◌≡◌};
 ghost use Rattle.bson_tokens.specs.Prefix.{prefix};
 

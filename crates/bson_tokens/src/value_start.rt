@@ -69,7 +69,7 @@ pub fn read_start<'a>(reader: &mut Reader<'a>, depth: usize) -> Result<ValueStar
     }
 }
 
-// The tree of a value of one token.
+// Returns the tree of a value of one token.
 pub(crate) fn primitive_value(alloc: Global, primitive: Primitive<'_>) -> Result<Value, AllocError>
     ensures { IfOk result (λ v. view v ≡ primitive_tree primitive.entry) }
 {

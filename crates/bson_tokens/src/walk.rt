@@ -1,4 +1,4 @@
-//! How the first key that stands twice is found.
+//! The search for the first duplicate key.
 ghost use Rattle.std.specs.Prelude.{◌<◌, [], length, IfOk, IfErr, OnOk};
 ghost use Rattle.json.specs.Json.{value, items, members};
 ghost use Rattle.bson_tokens.specs.Parts.{InvalidMeansNone};
@@ -20,7 +20,7 @@ use std::collections::BTreeSet;
 /// # Errors
 ///
 /// - `Invalid`: the text is not JSON of at most 127 levels.
-/// - `OutOfMemory`: a request for memory was refused.
+/// - `OutOfMemory`: an allocation failed.
 ///
 /// ```
 /// if let Some(path) = first_duplicate_key(alloc, r#"{"a": [{"b": 1, "\u0062": 2}]}"#)? {
@@ -69,7 +69,7 @@ fn walk_value(
     }
 }
 
-// The elements of an array whose bracket was read.
+// Searches the elements of an array after its bracket.
 #[cycle(walk)]
 fn walk_items(
     alloc: Global,
@@ -91,7 +91,7 @@ fn walk_items(
     Ok(first)
 }
 
-// The members of an object whose brace was read.
+// Searches the members of an object after its brace.
 #[cycle(walk)]
 fn walk_members(
     alloc: Global,
