@@ -124,7 +124,7 @@ jiff_of-moment ms c is = omega (arith, signed_arith, civil_nanos-parts (jiff_of 
 pub civil_of-moment : (ms : ℤ) (c : Civil) → IsMoment ms c → civil_of ms ≡ c
 civil_of-moment ms c is = civil_of-jiff ms (jiff_of c is.0) (jiff_of-moment ms c is) ∙ fields_of-jiff_of c is.0
 
--- and lies in the years that the calendar has
+-- and is in the years that the calendar has
 pub moment-within : (ms : ℤ) (c : Civil) → IsMoment ms c → IsCivilMillis ms
 moment-within ms c is = moment-range ms (jiff_of c is.0) (jiff_of-moment ms c is)
 

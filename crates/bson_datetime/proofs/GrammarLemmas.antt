@@ -215,7 +215,7 @@ record OffsetRead (s : List ℕ) (z : ℤ) (rest : List ℕ) : Type 0 where
   value : offset_seconds offset ≡ z
   text : s ≡ offset_text offset ++ rest
 
--- hours and minutes behind a sign are an offset of this kind, whose seconds count so
+-- hours and minutes after a sign are an offset of this kind, with these seconds
 signed-read : (sign : ℕ) (way : ℕ → ℕ → Offset) (count : ℕ → ℤ) → ((h m : ℕ) → h < 24 → m < 60 → IsOffset (way h m))
     → ((h m : ℕ) → offset_seconds (way h m) ≡ count (h * 3600 + m * 60))
     → ((h m : ℕ) (t : List ℕ) → sign ∷ two_digit_text h ++ 58 ∷ two_digit_text m ++ t ≡ offset_text (way h m) ++ t)

@@ -13,7 +13,7 @@ use Rattle.bson_datetime.specs.JiffSteps.{IsJiffMoment}
 use Rattle.bson_datetime.specs.Moment.{IsCivilMillis, day_of, time_of}
 use Rattle.bson_datetime.proofs.CivilLemmas.{year_len, days_of_years-step, days_of_months-step, size_of, unfold_count}
 
--- a count of days lies in a year
+-- a number of days is in a year
 find_year : (more k n : ℕ) → days_of_years k ≤ n → n < days_of_years (k + suc more)
     → (y : ℕ) × (days_of_years y ≤ n) × (n < days_of_years (suc y)) × (k ≤ y) × (y ≤ k + more)
 find_year zero k n low high =

@@ -1,4 +1,4 @@
--- Which milliseconds lie in the years from 0000 on.
+-- Which milliseconds are in the years from 0000 on.
 use Rattle.std.proofs.Common.{◌≡◌, ℕ, inl, refl, arith, rules, ℤ, pos, negsuc, neg_ℤ, ◌<ℤ◌, ◌≤ℤ◌}
 use Rattle.jiff.specs.Types.{Date, DateTime}
 use Rattle.jiff.specs.Words.{epoch_day}

@@ -1,4 +1,4 @@
--- What a builder holds.
+-- The builder of a date-time: its fields after each call.
 use Rattle.std.specs.Prelude.{ℕ, ℤ, None, Some, unwrap_or}
 use Rattle.bson_datetime.specs.Moment.{Civil}
 use Rattle.bson_datetime.specs.declared.builder.DateTimeBuilder.{DateTimeBuilder}
@@ -18,7 +18,7 @@ unset = record {
   time = record { hour = None; minute = None; second = None; millisecond = None };
 }
 
--- a builder that is told one thing more; what else it was told stays
+-- a builder with one more field set; the other fields are unchanged
 abbrev pub with_year : {M D : Type 0} → ℤ → DateTimeBuilder NoYear M D → DateTimeBuilder Year M D
 with_year n b = record {
   year = record { number = n };
@@ -43,7 +43,7 @@ with_day n b = record {
   time = b.time;
 }
 
--- the time of day: the last that it is told counts
+-- the time of day: the last call counts
 module _ {Y M D : Type 0} where
   abbrev pub with_hour : ℕ → DateTimeBuilder Y M D → DateTimeBuilder Y M D
   with_hour n b = record b { time = record b.time { hour = Some n } }
@@ -57,7 +57,7 @@ module _ {Y M D : Type 0} where
   abbrev pub with_millisecond : ℕ → DateTimeBuilder Y M D → DateTimeBuilder Y M D
   with_millisecond n b = record b { time = record b.time { millisecond = Some n } }
 
--- the date and time that a full builder was told; what was not set of the time is 0
+-- the date and time of a builder whose date is set; a part of the time that was not set is 0
 abbrev pub civil_fields : DateTimeBuilder Year Month Day → Civil
 civil_fields b = record {
   year = b.year.number;

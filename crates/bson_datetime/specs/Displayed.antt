@@ -1,4 +1,4 @@
--- The texts that are written for a moment: RFC 3339 section 5.6, and the one of `Display`.
+-- The strings that are written for a date-time: RFC 3339 section 5.6, and `Display`.
 use Rattle.std.specs.Prelude.{ℕ, suc, ◌+◌, ◌/◌, ◌%◌, ◌==◌, ◌&&◌, nat_lt, Bool, ℤ, pos, negsuc, neg_ℤ, int_le, ◌++◌}
 use Rattle.std.specs.Prelude.{List, [], ◌∷◌, if◌then◌else◌, codes}
 use Rattle.std.specs.Fmt.{signed_decimal}
@@ -11,7 +11,7 @@ digit n = (48 + n) ∷ []
 abbrev pub two_digit_text : ℕ → List ℕ
 two_digit_text n = digit (n / 10) ++ digit (n % 10)
 
--- a year in four digits, behind a sign where it is negative
+-- a year in four digits, after a minus sign if it is negative
 abbrev pub year_text : ℤ → List ℕ
 year_text (pos n) = two_digit_text (n / 100) ++ two_digit_text (n % 100)
 year_text (negsuc n) = codes "-" ++ two_digit_text (suc n / 100) ++ two_digit_text (suc n % 100)
@@ -28,24 +28,24 @@ thousandths_text n =
 
 -- ---- RFC 3339
 
--- `YYYY-MM-DDThh:mm:ssZ`, with a point and a fraction where that is not zero
+-- `YYYY-MM-DDThh:mm:ssZ`, with a point and the fraction if it is not zero
 abbrev pub rfc_text : Civil → List ℕ
 rfc_text c =
     date_text c ++ codes "T" ++ two_digit_text c.hour ++ codes ":" ++ two_digit_text c.minute ++ codes ":"
     ++ two_digit_text c.second
     ++ (if c.millisecond == 0 then [] else codes "." ++ thousandths_text c.millisecond) ++ codes "Z"
 
--- the RFC 3339 text of a moment of the years 0000 to 9999
+-- the RFC 3339 string of a date-time of the years 0000 to 9999
 unfoldable pub rfc : ℤ → List ℕ
 rfc ms = rfc_text (civil_of ms)
 
 -- ---- `Display`
 
--- an hour, with no zero in front
+-- an hour without a leading zero
 abbrev pub hour_text : ℕ → List ℕ
 hour_text n = if nat_lt n 10 then digit n else two_digit_text n
 
--- as `2023-01-23 20:11:47.316 +00:00:00`
+-- for example `2023-01-23 20:11:47.316 +00:00:00`
 abbrev pub civil_text : Civil → List ℕ
 civil_text c =
     date_text c ++ codes " " ++ hour_text c.hour ++ codes ":" ++ two_digit_text c.minute ++ codes ":"
@@ -55,6 +55,6 @@ civil_text c =
 abbrev pub is_civil_millis : ℤ → Bool
 is_civil_millis ms = int_le (neg_ℤ (pos 377_705_116_800_000)) ms && int_le ms (pos 253_402_300_799_999)
 
--- the text of the date and time in the years -9999 to 9999, else the milliseconds as a decimal number
+-- the date and time if the year is -9999 to 9999, otherwise the milliseconds as a decimal number
 unfoldable pub date_time_text : ℤ → List ℕ
 date_time_text ms = if is_civil_millis ms then civil_text (civil_of ms) else signed_decimal ms

@@ -1,4 +1,4 @@
--- Which error it is, and the words of its message.
+-- The errors of dates, and the string of each message.
 use Rattle.std.specs.Prelude.{◌≡◌, ℕ, List, codes}
 use Rattle.bson_datetime.specs.declared.error.Message.{Message}
 use Rattle.bson_datetime.specs.declared.error.Message.TheVariants.{NotRfc3339, NoSuchDay, NoSuchTime, YearOutOfRange}
@@ -9,12 +9,12 @@ abbrev pub IsInvalidTimestamp : Error → Type 0
 IsInvalidTimestamp (InvalidTimestamp message) = Unit {0}
 IsInvalidTimestamp _ = ⊥
 
--- with the one message that it has
+-- an error of formatting, with its only message
 abbrev pub IsCannotFormat : Error → Type 0
 IsCannotFormat (CannotFormat message) = message ≡ YearOutOfRange
 IsCannotFormat _ = ⊥
 
--- the text, or the parts, are refused with this message
+-- the string, or the parts, are rejected with this message
 abbrev pub IsInvalidFor : Message → Error → Type 0
 IsInvalidFor why (InvalidTimestamp message) = message ≡ why
 IsInvalidFor why _ = ⊥

@@ -1,5 +1,5 @@
--- The texts of RFC 3339 section 5.6 by their parts, and the moment that each of them names.
--- No text is read here; `Rfc3339` has the same as a function that reads a text from the front.
+-- The grammar of RFC 3339 section 5.6: the parts of a string, and the date-time that it denotes.
+-- `Rfc3339` has the same as functions that parse a string from its start.
 use Rattle.std.specs.Prelude.{◌≡◌, ◌⊎◌, ℕ, ◌+◌, ◌*◌, ◌/◌, ◌%◌, ◌<◌, ℤ, pos, neg_ℤ, int_div, List, [], ◌∷◌, ◌++◌, codes}
 use Rattle.std.specs.Char.{IsAsciiDigit}
 use Rattle.std.specs.List.{All}
@@ -7,13 +7,13 @@ use Rattle.jiff_core.specs.Calendar.{IsCivilDate, days_from_civil}
 use Rattle.bson_datetime.specs.Rfc3339.{fraction_value, nanos_of}
 use Rattle.bson_datetime.specs.Displayed.{two_digit_text}
 
--- how a text ends: with a `Z` of either case, or with how far its clock is ahead of or behind UTC, in hours and minutes
+-- the offset at the end: a `Z` of either case, or the hours and minutes that the clock is ahead of UTC or late
 pub data Offset : Type 0 where
   zulu : ℕ → Offset
   lookahead : ℕ → ℕ → Offset
   behind : ℕ → ℕ → Offset
 
--- the parts of a text; the separator is the `T`, and the fraction is its digits, none where there is no point
+-- the parts of a string; the separator is the `T`, and the fraction is its digits, empty without a point
 pub record Parts : Type 0 where
   pub year : ℕ
   pub month : ℕ
@@ -31,7 +31,7 @@ offset_text (zulu c) = c ∷ []
 offset_text (lookahead h m) = codes "+" ++ two_digit_text h ++ codes ":" ++ two_digit_text m
 offset_text (behind h m) = codes "-" ++ two_digit_text h ++ codes ":" ++ two_digit_text m
 
--- a point and the fraction, where there is one
+-- a point and the fraction, if there is one
 abbrev pub fraction_text : List ℕ → List ℕ
 fraction_text [] = []
 fraction_text (d ∷ ds) = codes "." ++ d ∷ ds
@@ -44,17 +44,17 @@ parts_text p =
     ++ codes ":" ++ two_digit_text p.minute ++ codes ":" ++ two_digit_text p.second ++ fraction_text p.fraction
     ++ offset_text p.offset
 
--- a letter of either case: a small letter lies 32 above its capital
+-- a letter of either case: a lower-case letter is 32 above its upper-case letter
 abbrev pub IsLetter : ℕ → ℕ → Type 0
 IsLetter upper c = (c ≡ upper) ⊎ (c ≡ upper + 32)
 
--- hours to 23 and minutes to 59, either way
+-- hours to 23 and minutes to 59, with either sign
 abbrev pub IsOffset : Offset → Type 0
 IsOffset (zulu c) = IsLetter 90 c
 IsOffset (lookahead h m) = (h < 24) × (m < 60)
 IsOffset (behind h m) = (h < 24) × (m < 60)
 
--- the ranges of section 5.7, but for the second 60, which is refused
+-- the ranges of section 5.7, except the second 60, which is rejected
 pub record IsInRanges (p : Parts) : Type 0 where
   pub year : p.year < 10_000
   pub date : IsCivilDate (pos p.year) p.month p.day
@@ -71,13 +71,13 @@ offset_seconds (zulu c) = pos 0
 offset_seconds (lookahead h m) = pos (h * 3600 + m * 60)
 offset_seconds (behind h m) = neg_ℤ (pos (h * 3600 + m * 60))
 
--- the nanoseconds since 1970-01-01T00:00:00Z that the parts name; of the fraction nine digits count
+-- the nanoseconds since 1970-01-01T00:00:00Z that the parts denote; nine digits of the fraction count
 abbrev pub nanos_named : Parts → ℤ
 nanos_named p =
     nanos_of (days_from_civil (pos p.year) p.month p.day) (p.hour * 3600 + p.minute * 60 + p.second)
     (fraction_value 9 p.fraction) (offset_seconds p.offset)
 
--- the text is one of RFC 3339, and names the moment: its nanoseconds in whole milliseconds, cut towards zero
+-- the string is one of RFC 3339, and denotes these milliseconds: its nanoseconds divided, rounded towards zero
 pub record Names (text : List ℕ) (ms : ℤ) : Type 0 where
   pub parts : Parts
   pub in_ranges : IsInRanges parts

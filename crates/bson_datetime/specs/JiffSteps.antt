@@ -1,10 +1,10 @@
--- Steps between moments and the dates and times of `jiff`, which only private contracts and proofs cite.
+-- Conversions between milliseconds and the dates and times of `jiff`. Only private contracts and proofs cite them.
 use Rattle.std.specs.Prelude.{◌≡◌, ◌/◌, ℤ, pos, ◌*ℤ◌}
 use Rattle.jiff.specs.Types.{DateTime}
 use Rattle.jiff.specs.Words.{civil_nanos}
 use Rattle.bson_datetime.specs.Moment.{Civil}
 
--- jiff's date and time of a whole millisecond
+-- the date and time of `jiff` is this number of milliseconds
 abbrev pub IsJiffMoment : ℤ → DateTime → Type 0
 IsJiffMoment ms at = civil_nanos at ≡ ms *ℤ pos 1_000_000
 

@@ -1,10 +1,10 @@
--- Sums and differences of moments, which are integers of milliseconds.
+-- Sums and differences of date-times, which are numbers of milliseconds.
 use Rattle.std.specs.Prelude.{ℕ, ◌/◌, ℤ, pos, ◌+ℤ◌, ◌-ℤ◌, ◌*ℤ◌}
 use Rattle.std.specs.Int.{int_min, int_max}
 use Rattle.std.specs.Duration.{as_nanos}
 use Rattle.std.specs.declared.time.Duration.{Duration}
 
--- the last moment, `DateTime::MAX`: 2 ^ 63 - 1
+-- the last date-time, `DateTime::MAX`: 2 ^ 63 - 1
 abbrev pub latest : ℤ
 latest = pos 9_223_372_036_854_775_807
 
@@ -16,10 +16,10 @@ whole_millis d = as_nanos d / 1_000_000
 abbrev pub nanos_of_millis : ℤ → ℤ
 nanos_of_millis ms = ms *ℤ pos 1_000_000
 
--- the exact sum with a duration, but no later than the last moment
+-- the exact sum with a duration, but at most the last date-time
 abbrev pub sum_with : ℤ → Duration → ℤ
 sum_with ms d = int_min latest (ms +ℤ pos (whole_millis d))
 
--- how long after `earlier` it is, and nothing if it is before
+-- the milliseconds since `earlier`, or 0 if `earlier` is later
 abbrev pub millis_since : ℤ → ℤ → ℤ
 millis_since ms earlier = int_max (pos 0) (ms -ℤ earlier)

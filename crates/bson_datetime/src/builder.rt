@@ -1,5 +1,5 @@
-//! A builder of moments whose states are types: `build` can be called once year, month and day are
-//! set.
+//! A builder of date-times whose states are types: `build` can be called once year, month and day
+//! are set.
 ghost use Rattle.std.specs.Prelude.{◌≡◌, ◌↔◌, IsOk, IfOk, IfErr};
 ghost use Rattle.jiff.specs.Words.{IsEpochDay};
 ghost use Rattle.jiff_core.specs.Calendar.{IsCivilDate, days_from_civil};
@@ -42,7 +42,7 @@ pub struct NoDay {}
 
 /// Builds a `DateTime` from a date and a time in UTC.
 ///
-/// Year, month and day are set once each; what isn't set of the time is 0.
+/// Year, month and day are set once each. A part of the time that is not set is 0.
 ///
 /// ```
 /// let empty: DateTimeBuilder<NoYear, NoMonth, NoDay> = DateTime::builder();
@@ -58,7 +58,7 @@ pub struct DateTimeBuilder<Y = NoYear, M = NoMonth, D = NoDay> {
     time: TimeOfDay,
 }
 
-/// What is set of the time of day.
+/// The parts of the time of day that are set.
 #[derive(Drop)]
 struct TimeOfDay {
     hour: Option<u8>,
@@ -175,7 +175,7 @@ impl<Y, M, D> DateTimeBuilder<Y, M, D> {
 impl DateTimeBuilder<Year, Month, Day> {
     ghost use Rattle.bson_datetime.specs.Builder.{civil_fields};
 
-    /// Returns the moment with the date and time that were set, on the proleptic Gregorian
+    /// Returns the date-time with the date and time that were set, on the proleptic Gregorian
     /// calendar.
     ///
     /// # Errors
@@ -205,7 +205,7 @@ impl DateTimeBuilder<Year, Month, Day> {
     }
 }
 
-// The number of a day from 1970-01-01, where the calendar has it.
+// The number of a day from 1970-01-01, if the calendar has the day.
 fn day_number(year: i32, month: u8, day: u8) -> Result<i64>
     ensures exists { IsOk result ↔ IsCivilDate year month day }
     ensures value { IfOk result (λ n. n ≡ days_from_civil year month day) }

@@ -1,5 +1,5 @@
-//! `DateTime`, a moment in milliseconds since 1970-01-01T00:00:00Z: its sums, and its texts both
-//! ways.
+//! `DateTime`, a number of milliseconds since 1970-01-01T00:00:00Z: its sums, its parsing from
+//! RFC 3339, and its formatting.
 ghost use Rattle.std.specs.Prelude.{◌≡◌, ◌↔◌, pos, ℤ, ◌+ℤ◌, ◌-ℤ◌, ◌<ℤ◌, IsSome, IsNone, IfSome};
 ghost use Rattle.std.specs.Int.{saturate_signed, w64};
 ghost use Rattle.std.specs.Duration.{as_nanos};
@@ -17,7 +17,7 @@ use std::fmt;
 use std::marker::Model;
 use std::time::Duration;
 
-/// A moment, to the millisecond: BSON's UTC datetime, a signed number of 64 bits (BSON 1.1).
+/// A date-time, to the millisecond: BSON's UTC datetime, a signed number of 64 bits (BSON 1.1).
 ///
 /// The years -9999 to 9999 have a date, on the proleptic Gregorian calendar.
 ///
@@ -42,10 +42,10 @@ impl Model for DateTime {
 impl DateTime {
     ghost use Rattle.bson_datetime.specs.Builder.{unset};
 
-    /// The last moment: 2^63 - 1 milliseconds after 1970-01-01T00:00:00Z.
+    /// The last date-time: 2^63 - 1 milliseconds after 1970-01-01T00:00:00Z.
     pub const MAX: DateTime = DateTime { millis: i64::MAX };
 
-    /// The first moment: 2^63 milliseconds before 1970-01-01T00:00:00Z.
+    /// The first date-time: 2^63 milliseconds before 1970-01-01T00:00:00Z.
     pub const MIN: DateTime = DateTime { millis: i64::MIN };
 
     /// Makes a builder with no field set.
@@ -67,8 +67,8 @@ impl DateTime {
     pub fn timestamp_millis(self) -> i64
         ensures value { result ≡ self }
 
-        // A moment of the years -9999 to 9999 has a date and time, which its texts show; it has
-        // only one, and no other moment has any.
+        // A date-time of the years -9999 to 9999 has one date and time, which its strings show.
+        // No other date-time has one.
         ensures exists { IsCivilMillis self → IsMoment self (civil_of self) }
         ensures only { (c : Civil) → IsMoment self c → IsCivilMillis self × (civil_of self ≡ c) }
     {
@@ -118,7 +118,7 @@ impl DateTime {
         }
     }
 
-    // The date and time, in the years that the calendar has.
+    // The date and time, if the year is -9999 to 9999.
     pub(crate) fn civil(self) -> Option<civil::DateTime>
         ensures exists { IsSome result ↔ IsCivilMillis self }
         ensures value { IfSome result (IsJiffMoment self) }
@@ -140,13 +140,13 @@ impl DateTime {
     ghost use Rattle.bson_datetime.specs.Errors.{IsCannotFormat, IsInvalidFor, IsInvalidTimestamp};
     ghost use Rattle.bson_datetime.specs.Errors.{IsOutOfMemory};
 
-    /// Writes the RFC 3339 text (section 5.6) in UTC, for example `1998-02-12T00:01:00.023Z`. The
-    /// fraction has no zeros at its end, and a fraction of zero is not written. The text reads back
-    /// as this moment.
+    /// Writes the RFC 3339 string (section 5.6) in UTC, for example `1998-02-12T00:01:00.023Z`. The
+    /// fraction has no zeros at its end, and a fraction of zero is not written. Parsing the string
+    /// returns this date-time.
     ///
     /// # Errors
     ///
-    /// - `CannotFormat`: the moment is outside the years 0000 to 9999.
+    /// - `CannotFormat`: the date-time is outside the years 0000 to 9999.
     /// - `OutOfMemory`: a request for memory was refused.
     pub fn try_to_rfc3339_string(self, alloc: Global) -> Result<String>
         ensures ok { IfOk result (λ text. string_bytes text ≡ rfc self) }
@@ -168,7 +168,7 @@ impl DateTime {
         }
     }
 
-    /// Reads an RFC 3339 text (section 5.6): `YYYY-MM-DDThh:mm:ss`, an optional fraction, and `Z`
+    /// Parses an RFC 3339 string (section 5.6): `YYYY-MM-DDThh:mm:ss`, an optional fraction, and `Z`
     /// or an offset.
     ///
     /// T and Z may be small letters. Nine digits of the fraction count, and the nanoseconds since
@@ -176,19 +176,19 @@ impl DateTime {
     ///
     /// # Errors
     ///
-    /// - `InvalidTimestamp` with `NotRfc3339`: the text has another form, or one of its parts is
+    /// - `InvalidTimestamp` with `NotRfc3339`: the string has another form, or one of its parts is
     ///   out of range. A second of 60 is out of range.
     pub fn parse_rfc3339_str(text: &str) -> Result<DateTime>
         ensures ok { IfOk result (λ ms. Names text.now ms) }
         ensures refused { IfErr result (λ e. IsInvalidTimestamp e × ((ms : ℤ) → ¬ (Names text.now ms))) }
         ensures message { IfErr result (IsInvalidFor Message.NotRfc3339) }
 
-        // A text names one moment at most, and `named_moment`, which reads it from its front, gives
-        // that one.
+        // A string denotes at most one date-time. `named_moment`, which reads it from its start,
+        // returns this one.
         ensures one { (a b : ℤ) → Names text.now a → Names text.now b → a ≡ b }
         ensures grammar { (ms : ℤ) → (named_moment text.now ≡ Some ms) ↔ Names text.now ms }
 
-        // Every moment of the years 0000 to 9999 comes back from its text.
+        // Every date-time of the years 0000 to 9999 round-trips through its string.
         ensures round_trip { (ms : ℤ) → IsRfcMillis ms → text.now ≡ rfc ms → result ≡ Ok ms }
     {
         match rfc3339::parse(text.as_bytes()) {
@@ -206,8 +206,8 @@ const NOT_RFC3339: Error = Error::InvalidTimestamp {
     message: Message::NotRfc3339,
 };
 
-/// As `2023-01-23 20:11:47.316 +00:00:00`; outside the years -9999 to 9999 the milliseconds as a
-/// decimal number.
+/// Writes it for example as `2023-01-23 20:11:47.316 +00:00:00`, and outside the years -9999 to
+/// 9999 as the milliseconds in decimal.
 impl fmt::Display for DateTime {
     ghost use Rattle.std.specs.Prelude.{Some};
     ghost use Rattle.bson_datetime.specs.Displayed.{date_time_text};
@@ -224,7 +224,7 @@ impl fmt::Display for DateTime {
     }
 }
 
-/// As `DateTime(2023-01-23 20:11:47.316 +00:00:00)`.
+/// Writes it for example as `DateTime(2023-01-23 20:11:47.316 +00:00:00)`.
 impl fmt::Debug for DateTime {
     fn fmt<W: fmt::Write>(&self, f: &mut fmt::Formatter<W>) -> fmt::Result {
         write!(f, "DateTime({self})")

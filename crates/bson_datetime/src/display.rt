@@ -1,4 +1,4 @@
-//! Writes the parts of a date and time, and the two together as `Display` has them.
+//! Writes the parts of a date and time, and the whole as `Display` writes it.
 ghost use Rattle.std.specs.Prelude.{◌≡◌, ◌<◌, Some, ℤ};
 ghost use Rattle.bson_datetime.specs.JiffSteps.{fields_of};
 ghost use Rattle.bson_datetime.specs.Displayed.{two_digit_text, year_text, hour_text};
@@ -25,7 +25,7 @@ impl fmt::Display for Two {
     }
 }
 
-// An hour, with no zero in front.
+// An hour without a leading zero.
 #[derive(Clone, Copy)]
 pub(crate) struct Hour {
     pub n: u8,
@@ -69,7 +69,7 @@ impl fmt::Display for Fraction {
     }
 }
 
-// A year, in four digits behind a sign where it is negative.
+// A year in four digits, after a minus sign if it is negative.
 #[derive(Clone, Copy)]
 pub(crate) struct Year {
     pub n: i16,
@@ -94,7 +94,7 @@ impl fmt::Display for Year {
     }
 }
 
-// A date and time, as `2023-01-23 20:11:47.316 +00:00:00`.
+// A date and time, for example `2023-01-23 20:11:47.316 +00:00:00`.
 #[derive(Clone, Copy)]
 pub(crate) struct CivilText {
     pub at: DateTime,

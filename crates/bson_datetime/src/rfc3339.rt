@@ -1,4 +1,5 @@
-//! Reads RFC 3339 texts. Each function takes the front of a text, and gives the value and the rest.
+//! Parses RFC 3339 strings. Each function reads a part at the start of its input, and returns its
+//! value and the remaining input.
 ghost use Rattle.std.specs.Prelude.{◌≡◌, ◌<◌, ◌≤◌, ℕ, pos, length, slice_index, IfSome, option_map};
 ghost use Rattle.std.specs.Prelude.{int_div, ◌^◌};
 ghost use Rattle.std.specs.Char.{IsAsciiDigit, is_ascii_digit};
@@ -105,7 +106,7 @@ fn time_part(s: &[u8]) -> Option<(u32, &[u8])>
     Some((hour as u32 * 3600 + minute as u32 * 60 + second as u32, s))
 }
 
-// What digits are worth as the first nine places of a fraction.
+// The nanoseconds of the digits of a fraction, of which nine count.
 fn nanoseconds(digits: &[u8]) -> u32
     requires { (k : ℕ) → k < length digits.now → IsAsciiDigit (slice_index digits.now k) }
     ensures value { result ≡ spec.fraction_value 9 digits.now }
@@ -194,7 +195,7 @@ fn whole_millis(nanos: i128) -> i64
     (nanos / 1_000_000) as i64
 }
 
-/// The milliseconds that a text denotes.
+/// Returns the milliseconds that a string denotes.
 #[tactic(auto, unfolding(crate::specs::Rfc3339::named_moment))]
 pub(crate) fn parse(text: &[u8]) -> Option<i64>
     ensures { result ≡ spec.named_moment text.now }

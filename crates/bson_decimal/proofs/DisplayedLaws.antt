@@ -121,7 +121,7 @@ power-below : (n : ℕ) → 0 < n → power_text (neg_ℤ (pos n)) ≡ 45 ∷ de
 power-below zero some = absurd (omega arith)
 power-below (suc n) some = refl
 
--- the exponent k - 6177 that is written behind an `E`
+-- the exponent k - 6177 that is written after an `E`
 record PrintsPower (k : ℕ) : Type 0 where
   exponent : Exponent
   is : 69 ∷ power_text (pos k -ℤ pos 6177) ≡ exponent_bytes exponent
@@ -368,7 +368,7 @@ display_text-canon b =
     (from_le_bytes-to_le_bytes_16 (normal_number (bytes_meaning b)) (canon-lt (bytes_meaning b) h))
     ∙ meaning_text-canon (bytes_meaning b) h
 
--- two patterns print alike exactly if their canonical patterns are one
+-- two patterns print the same string if and only if their canonical patterns are equal
 pub display_text-same : (a b : List ℕ) → (decimal128_text a ≡ decimal128_text b) ↔ (normal_decimal a ≡ normal_decimal b)
 display_text-same a b = (
   λ e. parses-one (decimal128_text b) (normal_decimal a) (normal_decimal b) (rw e at (display_text-parses a))

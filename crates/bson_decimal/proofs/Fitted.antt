@@ -39,7 +39,7 @@ pub bind-by : {A B : Type 0} (P : B → Type 0) (Q : ParseError → Type 0) (R :
 bind-by P Q R S (Ok a) f h g k = g a h
 bind-by P Q R S (Err e) f h g k = k e h
 
--- zeros behind the digits move the exponent
+-- zeros after the digits move the exponent
 pub fits-moved : (xs ds : List ℕ) (k up down c e : ℕ) → ds ≡ xs ++ replicate k 48
     → FitsShifted (digits_value 10 ds) up down c e → FitsShifted (digits_value 10 xs) (up + k) down c e
 fits-moved xs ds k up down c e is f =
@@ -186,7 +186,7 @@ raised-digits-back ks y b rai h =
       ]
     ]
 
--- where nothing fits after a raise, nothing stored_pair before it
+-- if nothing fits after a raise, nothing fits before it
 raised-refuses : (ks : List ℕ) (y : ℕ) (b : Scaled) (e : ParseError) → IsRaised ks y b → Refuses b.0 b.1 e
     → Refuses ks y e
 raised-refuses ks y b e rai refuse digits large up down at c f fits =

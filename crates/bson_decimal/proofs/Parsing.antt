@@ -229,7 +229,7 @@ special-one word m n (inf e) (snan f) = absurd (omega (arith, heads word _ _ e f
 special-one word m n (inf e) (infinity f) = refl
 special-one word m n (inf e) (inf f) = refl
 
--- a word behind its sign
+-- a word after its sign
 pub word-off : (s : Sign) (word : List ℕ) (n : ℕ) → SpecialWord word n
     → (without_leading_sign (sign_bytes s ++ word) ≡ word) × (starts_with_minus (sign_bytes s ++ word) ≡ is_minus s)
 word-off s word n h = let first = special-letter word n h in sign-off s word (λ e. omega arith) (λ e. omega arith)

@@ -1,5 +1,5 @@
--- The same words without negative numbers, for the proofs: an exponent x is up - down, and a stored exponent stands for
--- itself less 6176.
+-- The same definitions without negative numbers, for the proofs: an exponent x is up - down, and a stored exponent is
+-- 6176 more.
 use Rattle.std.proofs.Common.{◌≡◌, ℕ, ◌+◌, ◌-◌, ◌*◌, ◌^◌, ◌<◌, ◌≤◌, ℤ, pos, ◌+ℤ◌, ◌-ℤ◌, ◌≤ℤ◌, neg_ℤ, Bool, true, false}
 use Rattle.std.proofs.Common.{cond, min, length, refl, sym, ap, subst, ◌∙◌, arith}
 use Rattle.std.specs.Int.{int_min}

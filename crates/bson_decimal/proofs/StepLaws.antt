@@ -72,7 +72,7 @@ zeros-dropped : (ds : List ℕ) (n : ℕ) → list_all is_zero (drop n ds) ≡ t
 zeros-dropped ds n e = sym (take-append-drop n ds)
     ∙ ap (λ ys. take n ds ++ ys) (zeros-are (drop n ds) e ∙ ap (λ k. replicate k 48) (length-drop n ds))
 
--- nothing fits, whatever exponent up - down it is that x stands for
+-- nothing fits, whatever exponent up - down x denotes
 abbrev pub NoneFitsAt : List ℕ → ℕ → Type 0
 NoneFitsAt ds x = (up down : ℕ) → x + down ≡ up + 32768 → NoneFits ds up down
 

@@ -27,7 +27,7 @@ position-or p xs =
 pub position_or_len-le : (p : ℕ → Bool) (xs : List ℕ) → position_or_len p xs ≤ length xs
 position_or_len-le p xs = prefix_len-le-length _ xs
 
--- the place of the first such byte, where the place found or else the length is told
+-- the place of the first of these bytes, given the place that was found, or else the length
 pub first-place : (p : ℕ → Bool) (xs : List ℕ) (n : ℕ) → n ≡ unwrap_or (position p xs) (length xs)
     → (n ≡ position_or_len p xs) × (n ≤ length xs)
 first-place p xs n is = let place = is ∙ position-or p xs in (place, rw place (position_or_len-le p xs))

@@ -1,4 +1,4 @@
--- Zeros before and behind the digits of a number.
+-- Zeros before and after the digits of a number.
 use Rattle.std.proofs.Common.{◌≡◌, ◌≢◌, ℕ, zero, suc, ◌+◌, ◌*◌, ◌^◌, ◌<◌, ◌≤◌, inl, inr, true, false, eqb, List, []}
 use Rattle.std.proofs.Common.{◌∷◌, ◌++◌, length, take, replicate, refl, sym, ap, ◌∙◌, arith, Bool, cond, ◌&&◌, ◌==◌}
 use Rattle.std.proofs.lemmas.Bool.{cases_Bool, and_parts, eqb-true}
@@ -16,7 +16,7 @@ use Rattle.bson_decimal.proofs.Tens.{tens-pos}
 same_next : (m n : ℕ) → (1 + m == suc n) ≡ (m == n)
 same_next m n = grind (arith, nat_tests)
 
--- all bytes are zeros just if as many zeros stand at the front
+-- all bytes are zeros if and only if they begin with as many zeros
 pub all_zeros : (xs : List ℕ) → (prefix_len is_zero xs == length xs) ≡ list_all is_zero xs
 all_zeros [] = refl
 all_zeros (x ∷ xs) = at (is_zero x) (all_zeros xs) where
@@ -48,7 +48,7 @@ pub value-zeros : (k : ℕ) → digits_value 10 (replicate k 48) ≡ 0
 value-zeros zero = refl
 value-zeros (suc k) = value-zeros k
 
--- digits with k zeros behind them
+-- digits with k zeros after them
 pub value-behind : (xs : List ℕ) (k : ℕ) → digits_value 10 (xs ++ replicate k 48) ≡ digits_value 10 xs * 10 ^ k
 value-behind xs k = value-append xs (replicate k 48) ∙ rw (length-replicate, value-zeros k) (omega arith)
 

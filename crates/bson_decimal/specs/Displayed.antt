@@ -1,4 +1,4 @@
--- How a decimal is printed: the scientific text of IEEE 754-2008, section 5.12, in the form of the BSON specification
+-- How a decimal is printed: the scientific form of IEEE 754-2008, section 5.12, in the form of the BSON specification
 -- of decimal128.
 use Rattle.std.specs.Prelude.{ℕ, ◌-◌, ◌&&◌, ℤ, pos, neg_ℤ, ◌+ℤ◌, ◌-ℤ◌, int_lt, int_le, unsigned_abs, List, [], ◌++◌}
 use Rattle.std.specs.Prelude.{length, take, drop, replicate, codes, nat_lt, ◌==◌, if◌then◌else◌}
@@ -8,14 +8,14 @@ use Rattle.bson_decimal.specs.declared.bits.Decoded.TheVariants.{Nan, Infinity, 
 use Rattle.bson_decimal.specs.Exponents.{exponent_at}
 use Rattle.bson_decimal.specs.Pattern.{bytes_meaning}
 
--- the digits with a point before the last `places` of them, or `0.` and zeros where there are no more
+-- the digits with a point before the last `places` of them, or after `0.` and zeros if there are no more
 abbrev pub plain_text : List ℕ → ℕ → List ℕ
 plain_text ds places =
     if places == 0 then ds
     else (if nat_lt places (length ds) then take (length ds - places) ds ++ (codes "." ++ drop (length ds - places) ds)
     else codes "0." ++ (replicate (places - length ds) 48 ++ ds))
 
--- an exponent with its sign, `+` where it is above 0
+-- an exponent with its sign, `+` if it is above 0
 abbrev pub power_text : ℤ → List ℕ
 power_text exponent = if int_lt (pos 0) exponent then codes "+" ++ signed_decimal exponent else signed_decimal exponent
 
@@ -28,7 +28,7 @@ abbrev pub scientific_text : List ℕ → ℤ → List ℕ
 scientific_text ds first =
     take 1 ds ++ ((if length ds == 1 then [] else codes "." ++ drop 1 ds) ++ (codes "E" ++ power_text first))
 
--- plain where the exponent is at most 0 and that of the first digit at least -6
+-- plain if the exponent is at most 0 and the exponent of the first digit at least -6
 abbrev pub finite_text : List ℕ → ℤ → List ℕ
 finite_text ds exponent =
     if int_le exponent (pos 0) && int_le (neg_ℤ (pos 6)) (scientific_exponent ds exponent)
@@ -41,6 +41,6 @@ meaning_text (Nan negative signalling) = codes "NaN"
 meaning_text (Infinity negative) = sign_text negative ++ codes "Infinity"
 meaning_text (Finite negative c stored) = sign_text negative ++ finite_text (decimal c) (exponent_at stored)
 
--- the text of 16 bytes
+-- the string of the decimal of 16 bytes
 unfoldable pub decimal128_text : List ℕ → List ℕ
 decimal128_text b = meaning_text (bytes_meaning b)

@@ -8,10 +8,10 @@ least_exponent = neg_ℤ (pos 6176)
 abbrev pub greatest_exponent : ℤ
 greatest_exponent = pos 6111
 
--- what is added to an exponent where it is stored
+-- what is added to an exponent when it is stored
 abbrev pub bias : ℕ
 bias = 6176
 
--- the exponent that a stored one stands for
+-- the exponent of a stored exponent
 abbrev pub exponent_at : ℕ → ℤ
 exponent_at stored = pos stored -ℤ pos bias

@@ -1,4 +1,4 @@
--- The grammar of the finite texts, and the number that each denotes.
+-- The grammar of finite decimals as strings, and the number that each denotes.
 use Rattle.std.specs.Prelude.{◌≡◌, ℕ, ◌<◌, ℤ, pos, neg_ℤ, ◌-ℤ◌, Bool, true, false, ◌⊎◌, List, [], ◌∷◌, ◌++◌, length}
 use Rattle.std.specs.Prelude.{Option, Some, None, if◌then◌else◌, ⊤, drop, ◌==◌, codes}
 use Rattle.std.specs.List.{prefix_len}
@@ -25,7 +25,7 @@ pub data Exponent : Type 0 where
   unwritten : Exponent
   written : ℕ → Sign → List ℕ → Exponent
 
--- digits, a point and digits where there is one, and an exponent
+-- digits, perhaps a point and more digits, and an exponent
 pub record Numeral : Type 0 where
   pub sign : Sign
   pub whole : List ℕ
@@ -55,14 +55,14 @@ abbrev pub IsExponent : Exponent → Type 0
 IsExponent unwritten = ⊤
 IsExponent (written mark s ds) = ((mark ≡ 101) ⊎ (mark ≡ 69)) × (0 < length ds) × AllDigits 10 ds
 
--- the text is finite, and these are its parts
+-- the string is a finite decimal, and these are its parts
 pub record IsFiniteText (text : List ℕ) (n : Numeral) : Type 0 where
   pub is : text ≡ numeral_bytes n
   pub digits : AllDigits 10 (digits_of n)
   pub some : 0 < length (digits_of n)
   pub exponent : IsExponent n.exponent
 
--- The text denotes number n * 10 ^ exponent n, with the sign n.sign.
+-- The string denotes this number times ten to the power of its exponent, with its sign.
 abbrev pub number : Numeral → ℕ
 number n = digits_value 10 (digits_of n)
 

@@ -1,6 +1,6 @@
--- Why a text is refused: the kind of the first of these steps that finds a fault. They are for `decimal_fault` and for
--- the proofs; which texts denote a decimal, and which one, is said in Text, with no step. An exponent is kept by its
--- place among those of 16 bits, which is a natural number.
+-- The steps of parsing, and the error of the first step that fails. They are for `decimal_fault` and for the proofs.
+-- Text says, without steps, which strings denote a decimal, and which one. An exponent is a natural number here: its
+-- place among those of 16 bits, which is 32768 more than the exponent.
 use Rattle.std.specs.Prelude.{ℕ, ◌+◌, ◌-◌, ◌*◌, ◌^◌, Bool, not, ◌&&◌, ◌||◌, List, ◌++◌, length, take, drop, Option}
 use Rattle.std.specs.Prelude.{Some, None, Result, Ok, Err, nat_lt, nat_le, ◌==◌, if◌then◌else◌, slice_index, min, ℤ}
 use Rattle.std.specs.Prelude.{pos, ◌+ℤ◌, unsigned_abs}
@@ -20,7 +20,7 @@ is_mark b = b == 101 || b == 69
 abbrev pub is_point : ℕ → Bool
 is_point b = b == 46
 
--- the place of an exponent among those of 16 bits, counted from the least, which is -2 ^ 15
+-- the place of an exponent among those of 16 bits, counted from the least one, -2 ^ 15
 abbrev pub place_of : ℤ → ℕ
 place_of exponent = unsigned_abs (exponent +ℤ pos (2 ^ 15))
 
@@ -37,7 +37,7 @@ greatest_place = place_of greatest_exponent
 abbrev pub last_place : ℕ
 last_place = place_of (pos 32767)
 
--- a character goes on at this byte (UTF-8, RFC 3629 section 3)
+-- this byte continues a character (UTF-8, RFC 3629 section 3)
 abbrev pub is_inside : ℕ → Bool
 is_inside b = nat_le 128 b && nat_lt b 192
 
@@ -55,7 +55,7 @@ cut_at_34 ds x =
     else (if nat_lt last_place (x + (length ds - 34)) then Err Overflow
     else Ok (take 34 ds, x + (length ds - 34))))))
 
--- the exponent is raised to the least one, for zeros dropped
+-- the exponent is raised to the least one by dropping zeros
 unfoldable pub raise_to_least : List ℕ → ℕ → Result Scaled ParseError
 raise_to_least ds x =
     if nat_le least_place x then Ok (ds, x)
@@ -65,7 +65,7 @@ raise_to_least ds x =
     else (if not (list_all is_zero (drop (length ds - (least_place - x)) ds)) then Err InexactRounding
     else Ok (take (length ds - (least_place - x)) ds, least_place)))))
 
--- the exponent is lowered to the greatest one, for so many zeros added
+-- the number of zeros that are added to lower the exponent to the greatest one
 unfoldable pub zeros_to_add : List ℕ → ℕ → Result ℕ ParseError
 zeros_to_add ds x =
     if nat_le x greatest_place then Ok 0
@@ -104,7 +104,7 @@ scaled_exponent x fraction =
     else (if nat_lt x (length fraction) then Err Underflow
     else Ok (x - length fraction))
 
--- the second step, where the first found no fault
+-- the second step, if the first one did not fail
 abbrev pub bind : {A B : Type 0} → Result A ParseError → (A → Result B ParseError) → Result B ParseError
 bind (Ok x) f = f x
 bind (Err e) f = Err e
@@ -113,7 +113,7 @@ infixl 10 ◌>>=◌
 abbrev pub ◌>>=◌ : {A B : Type 0} → Result A ParseError → (A → Result B ParseError) → Result B ParseError
 o >>= f = bind o f
 
--- the number that the digits write with z zeros behind them
+-- the number that the digits denote, with this number of zeros after them
 unfoldable pub coefficient : List ℕ → ℕ → Bool → Result ℕ ParseError
 coefficient ds z has_digit =
     if not has_digit then Err InvalidCoefficient
@@ -129,14 +129,14 @@ stored_pair bs x = do
   c ← coefficient b.0 z (nat_lt 0 (length bs))
   Ok (c, min b.1 greatest_place - least_place)
 
--- a finite text without its sign
+-- a finite decimal without its sign
 unfoldable pub finite : List ℕ → Result (ℕ × ℕ) ParseError
 finite rest = do
   w ← written_exponent_place rest
   x ← scaled_exponent w (after_first is_point (before_first is_mark rest))
   stored_pair (before_first is_point (before_first is_mark rest) ++ after_first is_point (before_first is_mark rest)) x
 
--- the kind of fault of a text that denotes nothing
+-- the kind of error of a string that denotes nothing
 abbrev pub parse_error_of : Result (ℕ × ℕ) ParseError → ParseError
 parse_error_of (Ok r) = InvalidCoefficient
 parse_error_of (Err k) = k

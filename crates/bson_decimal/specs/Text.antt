@@ -1,4 +1,4 @@
--- The texts that denote a decimal.
+-- The strings that denote a decimal.
 use Rattle.std.specs.Prelude.{◌≡◌, ℕ, ◌+◌, ◌-◌, ◌*◌, ◌^◌, ◌≤◌, pos, neg_ℤ, ◌+ℤ◌, ◌≤ℤ◌, List, ◌++◌, length, map, codes}
 use Rattle.std.specs.Char.{to_ascii_lowercase}
 use Rattle.std.specs.Int.{w128, to_le_bytes}
@@ -8,12 +8,12 @@ use Rattle.bson_decimal.specs.Numeral.{Sign, sign_bytes, is_minus, Numeral, frac
 use Rattle.bson_decimal.specs.Numeral.{number, written_exponent, exponent, without_leading_zeros}
 use Rattle.bson_decimal.specs.Nearest.{IsNearest}
 
--- how many digits come after the 34th, leading zeros dropped
+-- the number of digits after the 34th, without leading zeros
 abbrev pub excess : Numeral → ℕ
 excess n = length (without_leading_zeros (digits_of n)) - 34
 
--- The limits of 16 bits that a text keeps: on the exponent that is written, on the digits after the point, on the
--- exponent that is denoted, and on the digits past the 34th, also where they move the exponent.
+-- The limits of 16 bits of a string: for the exponent that is written, the digits after the point, the exponent that is
+-- denoted, and the digits past the 34th, also if they move the exponent.
 pub record IsWithin16 (n : Numeral) : Type 0 where
   pub low : (neg_ℤ (pos 32768)) ≤ℤ written_exponent n.exponent
   pub high : written_exponent n.exponent ≤ℤ pos 32767
@@ -25,15 +25,15 @@ pub record IsWithin16 (n : Numeral) : Type 0 where
 abbrev pub lowercase : List ℕ → List ℕ
 lowercase bs = map to_ascii_lowercase bs
 
--- a NaN or an infinity in any case, and the number of its pattern without the sign
+-- a NaN or an infinity in any case, and its bit pattern as a number, without the sign
 pub data SpecialWord (word : List ℕ) : ℕ → Type 0 where
   nan : lowercase word ≡ codes "nan" → SpecialWord word (124 * 2 ^ 120)
   snan : lowercase word ≡ codes "snan" → SpecialWord word (126 * 2 ^ 120)
   infinity : lowercase word ≡ codes "infinity" → SpecialWord word (120 * 2 ^ 120)
   inf : lowercase word ≡ codes "inf" → SpecialWord word (120 * 2 ^ 120)
 
--- The text denotes the decimal of the pattern b: a word with its sign, or a finite text within the limits, to the first
--- form of the nearest pair. A text that has no such pair denotes nothing: no value is rounded.
+-- The string denotes the decimal of the bit pattern b: a special word with its sign, or a finite decimal within the
+-- limits, whose bit pattern has the nearest pair. A string without a pair denotes nothing: no value is rounded.
 pub data Parses (text b : List ℕ) : Type 0 where
   special : (s : Sign) (word : List ℕ) (n : ℕ) → text ≡ sign_bytes s ++ word → SpecialWord word n
       → b ≡ to_le_bytes w128 (sign_weight (is_minus s) + n) → Parses text b

@@ -1,4 +1,4 @@
-//! The bits of a pattern, taken apart and put together (IEEE 754-2008, section 3.5.2).
+//! Decodes and encodes the bit pattern of a decimal (IEEE 754-2008, section 3.5.2).
 
 ghost use Rattle.std.specs.Prelude.{◌≡◌, ◌^◌, ◌<◌, ◌≤◌};
 ghost use Rattle.bson_decimal.specs.Exponents.{exponent_at};
@@ -6,7 +6,7 @@ ghost use Rattle.bson_decimal.specs.Pattern.{sign_weight, first_form};
 
 use crate::Decimal128;
 
-/// What a pattern means. An exponent is stored with 6176 added, and is always below 12288; a
+/// The value of a bit pattern. An exponent is stored with 6176 added, and is always below 12288. A
 /// coefficient is always below 10^34.
 #[derive(Clone, Copy, PartialEq, Eq)]
 pub(crate) enum Decoded {
@@ -27,7 +27,7 @@ pub(crate) enum Decoded {
 // A coefficient has at most 34 digits.
 const COEFFICIENT_END: u128 = 10_000_000_000_000_000_000_000_000_000_000_000;
 
-// The numbers of the patterns with no other bit set, without their sign.
+// The bit patterns with no other bit set, as numbers, without their sign.
 pub(crate) const QUIET_NAN: u128 = 0x7c << 120;
 
 pub(crate) const SIGNALLING_NAN: u128 = 0x7e << 120;
@@ -74,7 +74,7 @@ impl Decimal128 {
     }
 }
 
-// The exponent that a stored one stands for.
+// The exponent of a stored exponent.
 pub(crate) fn exponent_at(stored: u16) -> i32
     ensures { result ≡ exponent_at stored }
 {
@@ -89,7 +89,7 @@ pub(crate) fn sign_weight(negative: bool) -> u128
     if negative { 1 << 127 } else { 0 }
 }
 
-// The number of the first form.
+// The bit pattern of a finite decimal, as a number.
 pub(crate) fn first_form(negative: bool, coefficient: u128, stored_exponent: u16) -> u128
     requires coefficient { coefficient < 10 ^ 34 }
     requires exponent { stored_exponent < 12288 }

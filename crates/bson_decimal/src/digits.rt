@@ -1,4 +1,4 @@
-// The bytes of a coefficient on both sides of its point, as one list.
+// The digits of a coefficient before and after its point, as one list of bytes.
 ghost use Rattle.std.specs.Prelude.{◌≡◌, ◌+◌, ◌-◌, ◌*◌, ◌^◌, ◌<◌, ◌≤◌, ◌++◌, List, ℕ, length, take};
 ghost use Rattle.std.specs.Prelude.{drop, slice_index};
 ghost use Rattle.std.specs.List.{list_all, prefix_len};
@@ -62,7 +62,7 @@ impl<'a> Digits<'a> {
         }
     }
 
-    // What follows the first `n` bytes.
+    // The bytes after the first `n`.
     pub(crate) fn after(self, n: usize) -> Digits<'a>
         requires { n ≤ length self }
         ensures { result ≡ drop n self.entry }
@@ -80,7 +80,7 @@ impl<'a> Digits<'a> {
         }
     }
 
-    // How many zeros stand behind the first `n` bytes, up to the first byte that is none.
+    // The number of zeros after the first `n` bytes, up to the first byte that is not a zero.
     fn zeros_after(&self, n: usize) -> usize
         requires { n ≤ length self.now }
         ensures value { result ≡ prefix_len is_zero (drop n self.now) }
@@ -109,7 +109,7 @@ impl<'a> Digits<'a> {
         self.zeros_after(n) == self.len() - n
     }
 
-    // The number that the bytes write, if all are digits.
+    // The number that the bytes denote, if all are digits.
     pub(crate) fn value(&self) -> Option<u128>
         requires { length self.now ≤ 34 }
         ensures { SomeIff result (AllDigits 10 self.now) (digits_value 10 self.now) }

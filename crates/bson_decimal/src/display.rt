@@ -1,4 +1,4 @@
-//! The text of a decimal.
+//! Writes a decimal as a string.
 
 ghost use Rattle.std.specs.Prelude.{◌≡◌, ◌+◌, ◌-◌, ◌*◌, ◌^◌, ◌<◌, ◌≤◌, ◌++◌, [], length, take};
 ghost use Rattle.std.specs.Prelude.{drop, replicate, Some, IsAscii};
@@ -57,7 +57,7 @@ fn write_plain<W: fmt::Write>(f: &mut fmt::Formatter<W>, digits: &str, places: u
     f.write_str(digits)
 }
 
-// An exponent with its sign, `+` where it is above 0.
+// An exponent with its sign, `+` if it is above 0.
 fn write_power<W: fmt::Write>(f: &mut fmt::Formatter<W>, exponent: i32) -> fmt::Result
     ensures { WritesOnOk W.write_str_gives f.old result (power_text exponent) f.new }
 {
@@ -94,7 +94,7 @@ fn scientific_exponent(digits: &str, stored_exponent: u16) -> i32
     exponent_at(stored_exponent) + digits.len() as i32 - 1
 }
 
-// Plain where the exponent is at most 0 and that of the first digit at least -6.
+// Plain if the exponent is at most 0 and the exponent of the first digit at least -6.
 fn write_finite<W: fmt::Write>(
     f: &mut fmt::Formatter<W>,
     digits: &str,
@@ -132,9 +132,9 @@ fn write_signed<W: fmt::Write>(
     write_finite(f, digits, stored_exponent)
 }
 
-/// Writes a decimal as its digits where its exponent is at most 0 and its first digit stands no
-/// further than six places behind the point, as `0.000001`, else in scientific form, as
-/// `1.05E+3`. Zeros at the end are kept. A NaN is `NaN`, whatever its sign, and an infinity
+/// Writes a decimal as its digits if its exponent is at most 0 and its first digit is at most six
+/// places after the point, for example `0.000001`. Otherwise it writes the scientific form, for
+/// example `1.05E+3`. Zeros at the end are kept. A NaN is `NaN`, whatever its sign, and an infinity
 /// `Infinity` or `-Infinity` (IEEE 754-2008, section 5.12).
 impl fmt::Display for Decimal128 {
     ghost output = { λ d. Some (decimal128_text d) };

@@ -1,4 +1,4 @@
-//! A text to a decimal.
+//! Parses a string as a decimal.
 
 ghost use Rattle.std.specs.Prelude.{◌≡◌, ◌↔◌, ◌+◌, ◌*◌, ◌^◌, ◌<◌, ◌≤◌, List, ℕ, length, position};
 ghost use Rattle.std.specs.Prelude.{slice_index, IfOk, IfSome, IsOkAnd, MatchOption};
@@ -19,19 +19,19 @@ use crate::{Decimal128, ParseError};
 use std::str::FromStr;
 
 /// Reads a decimal: at most one sign, and then `nan`, `snan`, `infinity` or `inf` in any case, or
-/// digits with at most one point and, behind an `e` or `E`, an exponent from -32768 to 32767. It
-/// takes no memory.
+/// digits with at most one point and, after an `e` or `E`, an exponent from -32768 to 32767. It
+/// allocates no memory.
 ///
-/// Of the pairs of at most 34 digits and an exponent from -6176 to 6111 that have the text's exact
-/// value, the answer is the one whose exponent is nearest to the written one less the number of
-/// digits after the point. So `1.50` keeps its zero, and a text whose value has no such pair is
-/// refused, never rounded (IEEE 754-2008, section 5.12). A `nan` is quiet, an `snan` signals, and
-/// each keeps its sign. A text past the limits of 16 bits, in items 1 to 3 below, is refused
+/// A string can have several pairs of at most 34 digits and an exponent from -6176 to 6111 with its
+/// exact value. The result is the pair whose exponent is nearest to the written one less the number
+/// of digits after the point. So `1.50` keeps its zero, and a string whose value has no pair is
+/// rejected, never rounded (IEEE 754-2008, section 5.12). A `nan` is quiet, an `snan` signals, and
+/// each keeps its sign. A string past the limits of 16 bits, in items 1 to 3 below, is rejected
 /// whatever its value.
 ///
-/// Where a text is refused, its first fault is told, in this order:
+/// If a string is rejected, its first error is reported, in this order:
 /// 1. nothing after the `e` or `E` (`EmptyExponent`), or no exponent there (`InvalidExponent`);
-/// 2. more than 32767 bytes after the point, or an exponent less those below -32768 (`Underflow`);
+/// 2. more than 32767 bytes after the point, or an exponent less these below -32768 (`Underflow`);
 /// 3. leading zeros dropped, past the 34th byte: a cut inside a character (`Unparseable`), another
 ///    character than `0` (`InexactRounding`), more than 32767 bytes, or an exponent above 32767
 ///    with them (`Overflow`);
@@ -49,8 +49,8 @@ impl FromStr for Decimal128 {
     fn from_str(text: &str) -> Result<Decimal128, ParseError>
         ensures answer { ParsesTo text.now result }
 
-        // Two laws: a printed text parses to the canonical pattern, and two patterns print alike
-        // exactly if their canonical patterns are one.
+        // Two laws: a printed decimal parses to the canonical bit pattern, and two bit patterns
+        // print the same string if and only if their canonical bit patterns are equal.
         ensures reads_displayed { (b : List ℕ) → text.now ≡ decimal128_text b
             → IsOkAnd result (λ d. d ≡ normal_decimal b) }
         ensures prints_apart { (a b : List ℕ) → (decimal128_text a ≡ decimal128_text b)
@@ -89,7 +89,7 @@ fn without_sign(text: &str) -> &str
     text
 }
 
-// The number of the pattern of a NaN or an infinity, without its sign.
+// The bit pattern of a NaN or an infinity as a number, without its sign.
 fn special(rest: &str) -> Option<u128>
     ensures word { MatchOption result ((n : ℕ) → ¬ (SpecialWord rest.now n)) (SpecialWord rest.now) }
     ensures small { IfSome result (λ n. n < 2 ^ 127) }
@@ -119,7 +119,7 @@ const GREATEST: usize = ZERO + 6111;
 
 const LAST: usize = ZERO + 32767;
 
-// The coefficient and the stored exponent of a finite text without its sign.
+// The coefficient and the stored exponent of a finite decimal without its sign.
 #[tactic(auto, unfolding(crate::specs::Steps::finite))]
 fn finite(rest: &str) -> Result<(u128, u16), ParseError>
     ensures value { result ≡ finite rest.now }
@@ -223,7 +223,7 @@ fn stored_pair(digits: Digits, exponent: usize) -> Result<(u128, u16), ParseErro
     Ok((coefficient, (exponent.min(GREATEST) - LEAST) as u16))
 }
 
-// Whether a character goes on at this byte.
+// Whether this byte continues a character in UTF-8.
 fn is_inside(byte: u8) -> bool
     ensures { result ≡ is_inside byte }
 {
@@ -283,7 +283,7 @@ fn raise_to_least(digits: Digits, exponent: usize) -> Result<(Digits, usize), Pa
     Ok((digits.first(kept), LEAST))
 }
 
-// How many zeros lower an exponent above the greatest one. Zero itself needs none.
+// The number of zeros that lower an exponent above the greatest one. Zero itself needs none.
 #[tactic(auto, unfolding(crate::specs::Steps::zeros_to_add))]
 fn zeros_to_add(digits: &Digits, exponent: usize) -> Result<usize, ParseError>
     requires { length digits.now ≤ 34 }
@@ -303,7 +303,7 @@ fn zeros_to_add(digits: &Digits, exponent: usize) -> Result<usize, ParseError>
     Ok(exponent - GREATEST)
 }
 
-// The number that the digits write with so many zeros behind them.
+// The number that the digits denote, with this number of zeros after them.
 #[tactic(auto, unfolding(crate::specs::Steps::coefficient))]
 fn coefficient(digits: &Digits, zeros: usize, has_digit: bool) -> Result<u128, ParseError>
     requires short { length digits.now ≤ 34 }

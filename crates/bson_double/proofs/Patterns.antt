@@ -10,14 +10,14 @@ use Rattle.bson_double.specs.Doubles.{is_finite, finite_bits}
 use lib.Ieee.{nan_bits}
 use lib.Ieee.Bits.{to_bits-of_bits, nan_bits_is}
 
--- a finite pattern is no NaN's
+-- finite bits are not those of a NaN
 pub not_nan_bits : (p : ℕ) → is_finite p ≡ true → T (not (nan_bits binary64 p))
 not_nan_bits p h = not_nan_f64_bits p (let l = ltb-true _ _ h in omega (arith, l))
 
 pub not_nan : (p : ℕ) → is_finite p ≡ true → T (not (is_nan (from_bits binary64 p)))
 not_nan p h = subst (λ b. T (not b)) (nan_bits_is binary64 p) (not_nan_bits p h)
 
--- the bits of a pattern's value are the pattern
+-- the value of some bits has the same bits
 pub bits_back : (p : ℕ) → p < 2 ^ 64 → is_finite p ≡ true → to_bits binary64 (from_bits binary64 p) ≡ p
 bits_back p l h = to_bits-of_bits binary64 p l (not_nan p h)
 
@@ -25,7 +25,7 @@ pub same_value : (p q : ℕ) → p < 2 ^ 64 → q < 2 ^ 64 → is_finite p ≡ t
     → from_bits binary64 p ≡ from_bits binary64 q → p ≡ q
 same_value p q l m h i e = sym (bits_back p l h) ∙ (ap (to_bits binary64) e ∙ bits_back q m i)
 
--- a finite pattern stands for a finite float
+-- finite bits are those of a finite float
 pub finite_value : (p : ℕ) → p < 2 ^ 64 → is_finite p ≡ true → float_is_finite (from_bits binary64 p) ≡ true
 finite_value p l h = (parts binary64 (from_bits binary64 p) p refl l (not_nan p h)).finite.1 (ltb-true _ _ h)
 

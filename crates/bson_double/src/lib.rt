@@ -1,11 +1,11 @@
-//! Finite doubles as decimal texts: a double, given as its pattern of 64 bits (IEEE 754-2008
-//! binary64), is written as its shortest decimal, and any decimal text is read as the nearest
-//! double. Each finite pattern has exactly one text, which is a JSON number (RFC 8259) with a point
-//! or an exponent, as `12.5`, `1.0`, `1e16` and `-0.0`, and which is read back as that pattern. No
-//! call takes memory.
+//! Finite doubles as decimal strings. A double, given as its 64 bits (IEEE 754-2008 binary64), is
+//! written as its shortest decimal, and any decimal string is read as the nearest double. Each
+//! finite double has exactly one string, which is a JSON number (RFC 8259) with a point or an
+//! exponent, such as `12.5`, `1.0`, `1e16` and `-0.0`, and which is read as the same bits. No call
+//! allocates memory.
 //!
-//! In reading order: `read` reads a text, `text` writes one, `shortest` finds the digits, `compare`
-//! and `limbs` compare a decimal and a double exactly, and `laws` says what holds of all of them.
+//! In reading order: `read` reads a string, `text` writes one, `shortest` finds the digits,
+//! `compare` and `limbs` compare a decimal and a double exactly, and `laws` has the laws.
 #![tactic(auto)]
 
 mod compare;

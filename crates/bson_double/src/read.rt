@@ -1,4 +1,4 @@
-//! Reading a text as a finite double.
+//! Reads a string as a finite double.
 ghost use Rattle.std.specs.Prelude.{◌≡◌, MatchResult, IfErr, Some, None, false, IsTrue, IsFalse};
 ghost use Rattle.fast_float.specs.Parse.{completes_number, without_sign, is_infinity_text};
 ghost use Rattle.fast_float.specs.Parse.{is_nan_text};
@@ -6,7 +6,7 @@ ghost use Rattle.bson_double.specs.Doubles.{is_finite, is_number, finite_of, dou
 
 use thiserror::Error;
 
-/// Why a text means no finite double.
+/// Why a string does not denote a finite double.
 ///
 /// ```
 /// if let Err(error) = double_of_text(b"1e400") {
@@ -15,8 +15,9 @@ use thiserror::Error;
 /// ```
 #[derive(Clone, Copy, Debug, PartialEq, Eq, Error)]
 pub enum DoubleError {
-    /// The text is no number: no sign or one, digits with at most one point and at least one digit,
-    /// and perhaps `e` or `E` with an integer. Words, as `Infinity`, and spaces are none.
+    /// The string is not a number. A number has at most one sign, digits with at most one point and
+    /// at least one digit, and perhaps `e` or `E` with an integer. Words, such as `Infinity`, and
+    /// spaces are not accepted.
     #[error("the text is no number")]
     NotANumber,
     /// The double nearest to the number is an infinity: its size is at least 2^1024 - 2^970.
@@ -24,7 +25,7 @@ pub enum DoubleError {
     OutOfRange,
 }
 
-/// Returns whether the double of a pattern is neither an infinity nor a NaN.
+/// Returns whether the double with these bits is neither an infinity nor a NaN.
 pub fn is_finite(pattern: u64) -> bool
     ensures { result ≡ is_finite pattern }
 {
@@ -40,7 +41,7 @@ fn without_sign(text: &[u8]) -> &[u8]
     }
 }
 
-// An `i` or an `n`, in either case, stands where the first digit or point of a number would.
+// Whether the first byte is an `i` or an `n`, in either case, instead of a digit or a point.
 fn begins_a_word(unsigned: &[u8]) -> bool
     ensures some { IsTrue result → completes_number 0 unsigned.now ≡ false }
     ensures none { IsFalse result
@@ -52,13 +53,13 @@ fn begins_a_word(unsigned: &[u8]) -> bool
     }
 }
 
-/// Returns the pattern of the double nearest to the number that a text writes. If two doubles are
-/// equally near, it is the one with an even pattern (IEEE 754-2008 section 4.3.1). `-0` is the
-/// negative zero, and so is a negative number that is nearer to zero than to any other double.
+/// Returns the bits of the double nearest to the number that a string denotes. If two doubles are
+/// equally near, it is the one whose bits are an even number (IEEE 754-2008 section 4.3.1). `-0` is
+/// the negative zero, and so is a negative number that is nearer to zero than to any other double.
 ///
 /// # Errors
 ///
-/// - `NotANumber`: the text is not a number.
+/// - `NotANumber`: the string is not a number.
 /// - `OutOfRange`: the nearest double is an infinity.
 ///
 /// ```

@@ -1,4 +1,4 @@
-//! Rows of texts and patterns. The texts are those that Python's `repr` gives, in the layout here.
+//! Test cases of strings and the bits of doubles. The digits are those of Python's `repr`.
 use crate::{DoubleError, double_of_text, double_text, is_finite};
 
 fn written(pattern: u64, text: &str) -> bool {
@@ -61,7 +61,7 @@ fn doubles_of_texts(rt: HostRuntime) {
     );
     assert!(rt; read("9007199254740995", 0x4340_0000_0000_0002));
 
-    // Below half of the least double all is zero, with its sign.
+    // A number below half of the least double rounds to zero, with its sign.
     assert!(rt; read("1e-400", 0));
     assert!(rt; read("-1e-400", 0x8000_0000_0000_0000));
     assert!(rt; read("2e-324", 0));

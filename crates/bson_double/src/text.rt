@@ -1,4 +1,4 @@
-//! Writing a finite double as text.
+//! Writes a finite double as a string.
 ghost use Rattle.std.specs.Prelude.{◌≡◌, ◌+◌, ◌<◌, ◌≤◌, ◌^◌, ◌++◌, List, ℕ, length, replicate};
 ghost use Rattle.std.specs.Prelude.{IsTrue, IsAscii};
 ghost use Rattle.arrayvec.specs.ArrayString.{array_string_len};
@@ -18,7 +18,7 @@ fn push_zeros(text: &mut ArrayString<32>, count: usize)
     }
 }
 
-// The point where it falls, with zeros up to it and a digit on each side.
+// Writes the digits with a point at its position, with zeros up to it and a digit on each side.
 fn push_pointed(text: &mut ArrayString<32>, digits: &str, place: u64)
     requires room { array_string_len text.old ≤ 1 }
     requires ascii { IsAscii digits.now }
@@ -44,7 +44,7 @@ fn push_pointed(text: &mut ArrayString<32>, digits: &str, place: u64)
     text.push_str(&digits[whole..]);
 }
 
-// The power of ten of the first digit.
+// Writes the exponent: the power of ten of the first digit.
 fn push_power(text: &mut ArrayString<32>, place: u64)
     requires room { array_string_len text.old ≤ 25 }
     requires place { (700 ≤ place) × (place ≤ 1600) }
@@ -60,7 +60,7 @@ fn push_power(text: &mut ArrayString<32>, place: u64)
     }
 }
 
-// The point after the first digit if there are others, and the power of ten of that digit.
+// Writes the digits with a point after the first one, if there are others, and the exponent.
 fn push_scientific(text: &mut ArrayString<32>, digits: &str, place: u64)
     requires room { array_string_len text.old ≤ 1 }
     requires ascii { IsAscii digits.now }
@@ -106,11 +106,12 @@ fn push_unsigned(text: &mut ArrayString<32>, pattern: u64)
     push_digits(text, written, written.len() as u64 + power);
 }
 
-/// Returns the text of a finite double: its sign, and its shortest decimal. That is the decimal of
-/// the fewest digits whose nearest double it is, and of those the one nearest to it. The text has a
-/// point with a digit on each side, as `12.5`, `1.0` and `0.001`, or one digit before the point and
-/// an exponent, as `1e16` and `5e-324`: where more than 16 digits would stand before the point, or
-/// more than 4 zeros between it and the first digit. It is a number of RFC 8259.
+/// Returns a finite double as a string: its sign, and its shortest decimal. This is the decimal with
+/// the fewest digits whose nearest double it is; if several have as few, the one nearest to it. The
+/// string has a point with a digit on each side, such as `12.5`, `1.0` and `0.001`. It has one digit
+/// before the point and an exponent, such as `1e16` and `5e-324`, if it would have more than 16
+/// digits before the point, or more than 4 zeros between it and the first digit. It is a number of
+/// RFC 8259.
 ///
 /// ```
 /// println!(rt; "{}", double_text(0x4029_0000_0000_0000))?; // 12.5

@@ -1,4 +1,4 @@
--- Pairs whose keys ascend: they stay so, and where a key lies among them.
+-- Pairs whose keys ascend: their keys still ascend after a change, and the place of a key among them.
 use Rattle.std.proofs.Common.{◌≡◌, ℕ, zero, suc, ◌+◌, ◌<◌, ◌≤◌, Bool, true, false, List, [], ◌∷◌, ◌++◌, length, take}
 use Rattle.std.proofs.Common.{remove, Option, Some, None, slice_get, option_map, refl, sym, ap, ◌∙◌, true≢false, arith}
 use Rattle.std.specs.List.{AllByRecursion}
@@ -45,7 +45,7 @@ unfolding IsStrictlySortedBy
 ascend_none = tt
 
 module _ {V : Type 0} where
-  -- ---- keys that ascend do so with one more behind them, and with one less
+  -- ---- keys still ascend with one more key after them, and with one key less
 
   below-at : (k : List ℕ) (ps : List (List ℕ × V)) (i : ℕ) (l : List ℕ)
       → AllByRecursion (λ q. key_cmp k q ≡ Less) (keys ps) → slice_get (keys ps) i ≡ Some l → key_cmp k l ≡ Less
@@ -85,7 +85,7 @@ module _ {V : Type 0} where
   at-take (p ∷ ps) (suc n) zero less = refl
   at-take (p ∷ ps) (suc n) (suc i) less = at-take ps n i (omega (arith, less))
 
-  -- ---- where a key lies
+  -- ---- the place of a key
 
   pub order-at : (ps : List (List ℕ × V)) (i j : ℕ) (k l : List ℕ) → HasAscendingKeys ps → i < j
       → slice_get (keys ps) i ≡ Some k → slice_get (keys ps) j ≡ Some l → key_cmp k l ≡ Less
@@ -100,7 +100,7 @@ module _ {V : Type 0} where
       → slice_get (keys ps) i ≡ Some p.0
   key-of ps i p e = slice_get-map (λ x. x.0) ps i ∙ ap (option_map (λ x. x.0)) e
 
-  -- what a place's key is above, the keys behind it are above too
+  -- if the key at a place is above a key, so are the keys after it
   pub above-at : (last : List ℕ) (ps : List (List ℕ × V)) (m j : ℕ) (k l : List ℕ) → HasAscendingKeys ps → m ≤ j
       → slice_get (keys ps) m ≡ Some k → slice_get (keys ps) j ≡ Some l → is_lt (key_cmp last k) ≡ true
       → is_lt (key_cmp last l) ≡ true
@@ -115,7 +115,7 @@ module _ {V : Type 0} where
   above-at last (p ∷ ps) (suc m) zero k l up le e f a = absurd (omega (arith, le))
   above-at last (p ∷ ps) (suc m) (suc j) k l up le e f a = above-at last ps m j k l up.1 (omega (arith, le)) e f a
 
-  -- one step of the halves: from a key above the last one all are above it, and up to one that is not none is
+  -- one step of the search: from a key above the last one all are above it, and up to one that is not none is
   pub above-from : (last : List ℕ) (ps : List (List ℕ × V)) (m : ℕ) (k : List ℕ) → HasAscendingKeys ps
       → slice_get (keys ps) m ≡ Some k → is_lt (key_cmp last k) ≡ true → AllAbove (Some last) ps m
   above-from last ps m k up e a = λ j l le f. above-at last ps m j k l up le e f a

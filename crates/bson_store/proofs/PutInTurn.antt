@@ -1,4 +1,4 @@
--- Pairs put in turn, where no key stands twice.
+-- Pairs inserted one after another, without a duplicate key.
 use Rattle.std.proofs.Common.{◌≡◌, ℕ, List, [], ◌∷◌, ◌++◌, length, None, Some, slice_get, refl, sym, ap, subst, ◌∙◌}
 use Rattle.std.proofs.Common.{append_assoc}
 use Rattle.std.proofs.Math.Seq.{take-append_seam}
@@ -23,6 +23,6 @@ module _ {V : Type 0} where
       ∙ put_behind qs (done ++ p ∷ []) (subst (λ ps. HasDistinctKeys ps) (sym (append_assoc done (p ∷ []) qs)) d)
       ∙ append_assoc done (p ∷ []) qs
 
-  -- they are the list as they stand
+  -- they are the same list
   pub put_distinct : (ps : List (List ℕ × V)) → HasDistinctKeys ps → put_pairs ps [] ≡ ps
   put_distinct ps d = put_behind ps [] d

@@ -1,4 +1,4 @@
--- The places of pairs by ascending key: where a key stands among them, and what is left where a pair is taken out.
+-- The places of pairs in ascending key order: the place of a key among them, and the places after a pair is removed.
 use Rattle.std.proofs.Common.{◌≡◌, ℕ, zero, suc, ◌+◌, ◌-◌, ◌<◌, ◌≤◌, ◌==◌, Bool, true, false, not, cond, List, [], ◌∷◌}
 use Rattle.std.proofs.Common.{◌++◌, length, map, remove, get_or, slice_index_or, Option, Some, None, slice_get}
 use Rattle.std.proofs.Common.{option_map, string_bytes, refl, sym, ap, subst, ◌∙◌, true≢false, arith}
@@ -238,7 +238,7 @@ module _ {V : Type 0} where
       (λ j l. rw (keys-at is ps j 0, keys-at is ps (j + 1) 0)
       (less_of _ (sym (next j 0 (omega (arith, length-keys is ps, l))))))
 
-  -- the places in turn
+  -- the places one after another
   in_turn : (f : ℕ → List ℕ) (ps : List (List ℕ × V)) (a : ℕ)
       → ((i : ℕ) → i < length ps → f (a + i) ≡ get_or (keys ps) i []) → (k : List ℕ)
       → get k (map (λ i. (f i, i)) (range_with_len a (length ps))) ≡ option_map (λ i. a + i) (position_of k ps)
@@ -284,7 +284,7 @@ module _ {V : Type 0} where
         ),
       )
 
--- the key that stands at a place of the fields
+-- the key at a place of the fields
 pub key_there : {V : Type 0} (ps : List (Pair V)) (i : ℕ) (p : Pair V) → slice_get ps i ≡ Some p
     → string_bytes p.key ≡ slice_index_or (keys (stored_pairs ps)) i []
 key_there [] i p e = cc

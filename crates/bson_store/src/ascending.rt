@@ -1,4 +1,4 @@
-//! Pairs that have no index since their keys ascend: a key is found by halves.
+//! Binary search for a key in pairs that have no index, since their keys ascend.
 ghost use Rattle.std.specs.Prelude.{◌≡◌, ◌≤◌, [], ◌∷◌, ◌++◌, Some, None, length, take};
 ghost use Rattle.std.specs.Prelude.{IsTrue, false};
 ghost use Rattle.bson_store.specs.Ascending.{IsFirstAbove};
@@ -42,7 +42,7 @@ pub(crate) fn find_ascending<V>(pairs: &Vec<Pair<V>>, key: &str) -> Option<usize
     None
 }
 
-// Whether the key is above those of the first pairs, which ascend.
+// Whether the key is above the keys of the first `count` pairs, which ascend.
 fn is_above_first<V>(pairs: &Vec<Pair<V>>, count: usize, key: &str) -> bool
     requires within { count ≤ length (stored_pairs pairs.now.items) }
     requires ascending { HasAscendingKeys (take count (stored_pairs pairs.now.items)) }
@@ -66,7 +66,7 @@ pub(crate) fn ascends<V>(pairs: &Vec<Pair<V>>) -> bool
     count == pairs.len()
 }
 
-// Whether there need be no index with one more key behind the pairs: they are few, or their keys
+// Whether the pairs need no index once the key is pushed: there are few of them, or their keys
 // ascend.
 pub(crate) fn needs_no_index<V>(pairs: &Vec<Pair<V>>, key: &str) -> bool
     requires { IsPlaced (stored_pairs pairs.now.items) None }

@@ -1,5 +1,5 @@
-//! The places of the keys of a small store: how they are found, and how its index of them is made
-//! and kept.
+//! The index of a small store, from each key to its place: how a key is found, and how the index is
+//! made and updated.
 ghost use Rattle.std.specs.Prelude.{◌≡◌, ℕ, List, [], ◌∷◌, ◌++◌, Some, None, slice_get, remove};
 ghost use Rattle.std.specs.Prelude.{option_map, string_bytes, IfOk, OnOk, OnErr};
 ghost use Rattle.std.specs.Str.{bytes_eq};
@@ -15,19 +15,19 @@ use crate::sorted::{find_sorted, leave};
 use std::alloc::{AllocError, Global};
 use std::collections::BTreeMap;
 
-// So many pairs have no index.
+// Up to this number of pairs there is no index.
 pub(crate) const FEW: usize = 16;
 
-/// How the places of many keys are found that don't ascend.
+/// The index of many keys that do not ascend.
 #[derive(Drop)]
 pub(crate) enum Index {
-    /// The places by ascending key.
+    /// The places in ascending key order.
     Sorted(Vec<usize>),
     /// A copy of each key, with its place.
     Map(BTreeMap<String, usize>),
 }
 
-// The place of the key by an index.
+// The place of the key, found in the index.
 pub(crate) fn find_by<V>(index: &Index, pairs: &Vec<Pair<V>>, key: &str) -> Option<usize>
     requires { Indexes index.now (stored_pairs pairs.now.items) }
     ensures { result ≡ position_of key.now (stored_pairs pairs.now.items) }
@@ -38,7 +38,7 @@ pub(crate) fn find_by<V>(index: &Index, pairs: &Vec<Pair<V>>, key: &str) -> Opti
     }
 }
 
-// The place of the key where there is no index.
+// The place of the key if there is no index.
 pub(crate) fn find_in<V>(pairs: &Vec<Pair<V>>, key: &str) -> Option<usize>
     requires { IsIndexed (stored_pairs pairs.now.items) None }
     ensures { result ≡ position_of key.now (stored_pairs pairs.now.items) }
@@ -49,7 +49,7 @@ pub(crate) fn find_in<V>(pairs: &Vec<Pair<V>>, key: &str) -> Option<usize>
     find_by_walk(pairs, key)
 }
 
-// The place of the key, by a walk.
+// The place of the key, found by comparing each key.
 fn find_by_walk<V>(pairs: &Vec<Pair<V>>, key: &str) -> Option<usize>
     ensures { result ≡ position_of key.now (stored_pairs pairs.now.items) }
 {
@@ -61,7 +61,7 @@ fn find_by_walk<V>(pairs: &Vec<Pair<V>>, key: &str) -> Option<usize>
     None
 }
 
-// Puts a copy of the key in the map, at the place.
+// Inserts a copy of the key in the map, with its place.
 fn add(places: &mut BTreeMap<String, usize>, key: &String, at: usize) -> Result<(), AllocError>
     ensures ok { OnOk result ((k : List ℕ) → get_by_text places.new k
         ≡ update bytes_eq (get_by_text places.old) (string_bytes key.now) (Some at) k) }
@@ -73,7 +73,7 @@ fn add(places: &mut BTreeMap<String, usize>, key: &String, at: usize) -> Result<
     }
 }
 
-// A map of each key to its place and of one more key to the next, in order.
+// A map from each key to its place, and from one more key to the next place.
 fn index_all<V>(
     alloc: Global,
     pairs: &Vec<Pair<V>>,
@@ -92,7 +92,7 @@ fn index_all<V>(
     Ok(places)
 }
 
-// Puts one more key in the index.
+// Inserts one more key in the index.
 fn index_next<V>(
     alloc: Global,
     index: &mut Index,
@@ -115,8 +115,8 @@ fn index_next<V>(
     }
 }
 
-// Makes the place of one more key, where there is an index or begins to be. Sorted places give way to
-// a map.
+// Inserts one more key in the index, if there is one or if one is needed now. A map replaces sorted
+// places.
 pub(crate) fn place_next<V>(
     alloc: Global,
     places: &mut Option<Box<Index>>,
@@ -140,7 +140,7 @@ pub(crate) fn place_next<V>(
     Ok(())
 }
 
-// Lowers by one each place behind the one that was left.
+// Lowers each place after the removed one by one.
 fn lower<V>(places: &mut BTreeMap<String, usize>, pairs: &Vec<Pair<V>>, at: usize)
     requires distinct { HasDistinctKeys (stored_pairs pairs.now.items) }
     requires raised { (k : List ℕ) → get_by_text places.old k
@@ -155,7 +155,7 @@ fn lower<V>(places: &mut BTreeMap<String, usize>, pairs: &Vec<Pair<V>>, at: usiz
     }
 }
 
-// Takes the key out of the index, where it was at the place.
+// Removes the key, which was at the place, from the index.
 fn index_without<V>(index: &mut Index, pairs: &Vec<Pair<V>>, key: &str, at: usize)
     requires { (ps : List (List ℕ × V)) × (v : V) × (slice_get ps at ≡ Some (key.now, v))
         × (stored_pairs pairs.now.items ≡ remove ps at) × HasDistinctKeys ps × Indexes index.old ps }
@@ -170,7 +170,7 @@ fn index_without<V>(index: &mut Index, pairs: &Vec<Pair<V>>, key: &str, at: usiz
     }
 }
 
-// Takes out the place of a key that was taken out, and drops the index where sixteen keys are left.
+// Removes the place of a removed key, and drops the index if sixteen keys remain.
 pub(crate) fn take_place<V>(
     places: &mut Option<Box<Index>>,
     pairs: &Vec<Pair<V>>,

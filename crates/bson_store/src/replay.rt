@@ -18,11 +18,11 @@ use thiserror::Error;
 /// ```
 #[derive(Drop)]
 pub enum Command<V> {
-    /// Puts the value at the key; the reply is the one that was there.
+    /// Inserts the value at the key. The reply is the old value.
     Put(String, V),
-    /// Takes the value at the key; the reply is that value.
+    /// Removes the pair of the key. The reply is its value.
     Take(String),
-    /// Takes every pair out; the reply is None.
+    /// Removes every pair. The reply is `None`.
     Clear,
 }
 
@@ -55,7 +55,7 @@ fn run_one<V: Drop, S: PairStore<V>>(
     }
 }
 
-/// Runs the commands in turn, and returns their replies in the same order.
+/// Runs the commands one after another, and returns their replies in the same order.
 ///
 /// # Errors
 ///

@@ -1,4 +1,4 @@
-//! The store that indexes its keys only where there are many and they do not ascend.
+//! The store that indexes its keys only if there are many and they do not ascend.
 ghost use Rattle.std.specs.Prelude.{◌≡◌, [], refl, IfOk};
 ghost use Rattle.bson_store.specs.Pairs.{HasDistinctKeys, with_value};
 
@@ -14,7 +14,7 @@ pub use iter::Iter;
 use std::alloc::{AllocError, Global};
 use std::marker::Model;
 
-/// A key and its value. Where the keys of a list of pairs ascend, it becomes a store as it stands.
+/// A key and its value. A list of pairs whose keys ascend becomes a store without a copy.
 ///
 /// ```
 /// let mut pairs = Vec::new(alloc);
@@ -32,17 +32,16 @@ pub struct Pair<V> {
     pub value: V,
 }
 
-/// A store whose pairs stand in one `Vec`, and, where more than sixteen have keys that don't ascend,
-/// beside an index: their places by ascending key, or an ordered map from each key to its place.
+/// A store that keeps its pairs in one `Vec`, and has an index if more than sixteen pairs have keys
+/// that do not ascend: their places in ascending key order, or an ordered map from key to place.
 ///
-/// Up to sixteen pairs, and any number whose keys were pushed in ascending order, take one block of
-/// memory. Among sixteen a key is found by a walk, and among more that ascend by halves. Among n
-/// pairs with an index a key is found in the order of log n comparisons, whatever the keys are.
-/// `from_entries` sorts the places, which takes a word of memory for each. The first key pushed that
-/// doesn't ascend, or behind sorted places, makes the map, which holds a copy of each key. `push`
-/// takes as many comparisons, and n times as many where it makes the map, once until no more than
-/// sixteen pairs are left; `remove_at` takes as many for each pair behind the one it takes out, and
-/// no memory.
+/// Up to sixteen pairs, and any number whose keys were pushed in ascending order, need one block of
+/// memory. Up to sixteen pairs are searched one by one, and more that ascend by binary search. Among
+/// n pairs with an index, a key is found in the order of log n comparisons, whatever the keys are.
+/// `from_entries` sorts the places, which needs a word of memory for each. The first key pushed that
+/// does not ascend, or after sorted places, makes the map, which has a copy of each key. `push` needs
+/// as many comparisons, and n times as many if it makes the map, once until no more than sixteen
+/// pairs remain. `remove_at` needs as many for each pair after the removed one, and no memory.
 ///
 /// ```
 /// let mut pairs: SmallPairs<u32> = SmallPairs::new(alloc);
@@ -150,7 +149,7 @@ impl<V: Drop> PairStore<V> for SmallPairs<V> {
     }
 
     fn push(&mut self, key: String, value: V) -> Result<(), (String, V)> {
-        // With room for the pair and its place made, nothing can refuse.
+        // Once the pair and its place have capacity, nothing can fail.
         let alloc = *self.pairs.allocator();
         if self.pairs.reserve(1).is_err() {
             return Err((key, value));

@@ -1,4 +1,4 @@
-//! The places of pairs by ascending key: how they are sorted, and a key found among them by halves.
+//! The places of pairs in ascending key order: how they are sorted, and binary search for a key.
 ghost use Rattle.std.specs.Prelude.{◌≡◌, ◌==◌, [], Some, map, not, slice_index_or, IfOk, IfSome};
 ghost use Rattle.std.specs.List.{filter, range_with_len};
 ghost use Rattle.std.specs.Ordering.{is_lt};
@@ -21,7 +21,7 @@ fn key_at<V>(pairs: &Vec<Pair<V>>, at: usize) -> &str
     }
 }
 
-// Whether the key at one place is below that at the next.
+// Whether the key at one place is below the key at the next.
 fn is_below<V>(pairs: &Vec<Pair<V>>, one: usize, next: usize) -> bool
     ensures { result ≡ is_lt (key_cmp (slice_index_or (keys (stored_pairs pairs.now.items)) one [])
         (slice_index_or (keys (stored_pairs pairs.now.items)) next [])) }
@@ -29,7 +29,7 @@ fn is_below<V>(pairs: &Vec<Pair<V>>, one: usize, next: usize) -> bool
     key_at(pairs, one).cmp(key_at(pairs, next)).is_lt()
 }
 
-// Among the sorted places, that of the first key above the key, or their number.
+// The index, in the sorted places, of the first key above the key, or the number of places.
 fn first_above<V>(pairs: &Vec<Pair<V>>, places: &Vec<usize>, key: &str) -> usize
     requires { HasAscendingKeys (keyed places.now.items (stored_pairs pairs.now.items)) }
     ensures { IsFirstAbove (Some key.now) (keyed places.now.items (stored_pairs pairs.now.items)) result }
@@ -63,7 +63,7 @@ pub(crate) fn find_sorted<V>(pairs: &Vec<Pair<V>>, places: &Vec<usize>, key: &st
     None
 }
 
-// The places of the pairs by ascending key, or None where a key stands twice.
+// The places of the pairs in ascending key order, or None if a key is duplicated.
 pub(crate) fn sorted_places<V>(
     alloc: Global,
     pairs: &Vec<Pair<V>>,
@@ -73,7 +73,7 @@ pub(crate) fn sorted_places<V>(
 {
     let mut places = all_places(alloc, pairs.len())?;
 
-    // The first bytes of the keys tell most of them apart.
+    // The first bytes distinguish most keys.
     places.sort_by_cached_key(|place| prefix_of(key_at(pairs, *place).as_bytes()))?;
     if places.is_sorted_by(|one, next| is_below(pairs, *one, *next)) {
         return Ok(Some(places));
@@ -85,7 +85,7 @@ pub(crate) fn sorted_places<V>(
     Ok(None)
 }
 
-// The places from 0, so many.
+// The places from 0 up to the number of pairs.
 fn all_places(alloc: Global, count: usize) -> Result<Vec<usize>, AllocError>
     ensures { IfOk result (λ places. places.items ≡ range_with_len 0 count) }
 {
@@ -106,7 +106,7 @@ fn prefix_of(key: &[u8]) -> u128 {
     prefix
 }
 
-// Where the pair at the place is once the one at `at` is taken out.
+// The place of a pair after the pair at `at` is removed.
 fn after_removal(at: usize, place: usize) -> usize
     ensures { result ≡ place_after_removal at place }
 {
@@ -116,7 +116,7 @@ fn after_removal(at: usize, place: usize) -> usize
     place
 }
 
-// Takes out the place, and lowers by one each behind it.
+// Removes the place, and lowers each place after it by one.
 pub(crate) fn leave(places: &mut Vec<usize>, at: usize)
     ensures { places.new.items ≡ map (place_after_removal at) (filter (λ i. not (i == at)) places.old.items) }
 {

@@ -49,7 +49,7 @@ digits_in_turn (b ∷ id) are =
       low_digit b id,
     ) refl
 
--- the four hyphens stand between the groups
+-- the four hyphens are between the groups
 grouped : (id : List ℕ) → kit_text lower id ≡ in_groups (by_index 32 (digit_at id))
 unfolding by_index digit_at
 grouped id = refl

@@ -1,4 +1,4 @@
--- A vector's bytes tell what it holds.
+-- The bytes of a vector determine its data.
 use Rattle.std.proofs.Common.{◌≡◌, ◌<◌, ◌≤◌, ◌^◌, ◌%◌, ◌-◌, ℕ, ℤ, List, [], ◌∷◌, length, map, get_or, take, drop, false}
 use Rattle.std.proofs.Common.{refl, sym, ap, ap₂, ◌∙◌, arith, w8, w32, Fits, FitsSigned, suc}
 use Rattle.std.specs.Int.{cast_signed, cast_unsigned, from_le_bytes}

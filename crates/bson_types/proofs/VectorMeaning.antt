@@ -1,4 +1,4 @@
--- Bytes are those of a vector exactly if some data in range has them.
+-- Bytes are those of a vector if and only if some data in range has them.
 use Rattle.std.proofs.Common.{◌≡◌, ◌<◌, ◌^◌, ◌%◌, ◌==◌, ◌&&◌, ◌||◌, ◌↔◌, ℕ, zero, suc, List, [], ◌∷◌, ◌++◌, length, map}
 use Rattle.std.proofs.Common.{not, nat_lt, true, false, refl, ap, ap₂, inl, inr, arith, w8, w32}
 use Rattle.std.specs.Int.{cast_signed, from_le_bytes, to_le_bytes}
@@ -27,7 +27,7 @@ accepted (packed bs k) range =
     and_from _ _ (and_from _ _ (lt-ltb k 8 range.0) (no_bytes_no_padding bs k range.1))
     (eq-eqb (ignored_bits bs k) 0 range.2)
 
--- ---- bytes of a vector have such data
+-- ---- bytes of a vector have data in range
 
 four_bytes : (a b c d : ℕ) (rest : List ℕ) → IsBytes (a ∷ b ∷ c ∷ d ∷ rest) → IsBytes (a ∷ b ∷ c ∷ d ∷ [])
 four_bytes a b c d rest are zero = are 0

@@ -1,4 +1,4 @@
--- What a pointer into a collection holds.
+-- The parts of a pointer into a collection.
 use Rattle.std.specs.Prelude.{ℕ, List, string_bytes}
 use Rattle.bson_types.specs.declared.db_pointer.DbPointer.{DbPointer}
 

@@ -1,4 +1,4 @@
--- Which error it is.
+-- The errors of binaries and vectors.
 use Rattle.bson_types.specs.declared.binary.Error.{Error}
 use Rattle.bson_types.specs.declared.binary.Error.TheVariants.{DecodingError, Vector, OutOfMemory}
 

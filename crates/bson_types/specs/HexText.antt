@@ -1,8 +1,8 @@
--- Texts of hexadecimal digits, of either case (RFC 4648 section 8).
+-- Strings of hexadecimal digits, of either case (RFC 4648 section 8).
 use Rattle.std.specs.Prelude.{◌≡◌, ◌⊎◌, ◌<◌, ◌≤◌, ℕ, ◌+◌, ◌-◌, ◌*◌, List, [], ◌∷◌, codes, slice_index, Option}
 use Rattle.std.specs.Prelude.{Some, None, nat_lt, if◌then◌else◌}
 
--- the number of the character that is this text
+-- the number of the only character of a string
 abbrev pub code : List ℕ → ℕ
 code text = slice_index text 0
 
@@ -22,7 +22,7 @@ byte_of_digits (Some high) (Some low) = Some (high * 16 + low)
 byte_of_digits (Some high) None = None
 byte_of_digits None low = None
 
--- the text has two digits for each byte, the higher one first
+-- the string has two digits for each byte, the higher one first
 pub data IsHexText : List ℕ → List ℕ → Type 0 where
   nothing : IsHexText [] []
   pair : (high low c d : ℕ) (text bytes : List ℕ) → IsDigitOf high c → IsDigitOf low d → IsHexText text bytes

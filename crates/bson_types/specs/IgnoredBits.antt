@@ -1,12 +1,12 @@
--- The bits of packed bytes that their padding leaves out: the lowest ones of the last byte. The MongoDB BSON binary
--- vector format asks that they be zero.
+-- The ignored bits of packed bits: the lowest bits of the last byte, as many as the padding says. The MongoDB BSON
+-- binary vector format requires them to be zero.
 use Rattle.std.specs.Prelude.{ℕ, ◌-◌, ◌*◌, ◌/◌, ◌%◌, ◌^◌, List, length, slice_index, slice_set}
 
--- the last byte, 0 where there is none
+-- the last byte, 0 if there is none
 abbrev pub last_byte : List ℕ → ℕ
 last_byte bytes = slice_index bytes (length bytes - 1)
 
--- the ignored bits as a number, which is 0 where each of them is
+-- the ignored bits as a number, which is 0 if each of them is 0
 abbrev pub ignored_bits : List ℕ → ℕ → ℕ
 ignored_bits bytes padding = last_byte bytes % 2 ^ padding
 

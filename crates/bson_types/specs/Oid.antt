@@ -1,4 +1,4 @@
--- Object ids: twelve bytes, and their texts of 24 hexadecimal digits.
+-- Object ids: twelve bytes, and their strings of 24 hexadecimal digits.
 use Rattle.std.specs.Prelude.{◌≡◌, ℕ, ◌+◌, ◌*◌, ◌^◌, ◌%◌, ◌==◌, not, ℤ, pos, List, [], ◌∷◌, length, slice_index, Option}
 use Rattle.std.specs.Prelude.{Some, None, if◌then◌else◌, position, take, drop}
 use Rattle.std.specs.Int.{from_be_bytes, w32}
@@ -7,16 +7,16 @@ use Rattle.std.specs.declared.cmp.Ordering.{Ordering}
 pub use Rattle.hex.specs.Hex.{encode_lower, is_hex_digit, IsBytes}
 use Rattle.bson_types.specs.HexText.{IsHexText}
 
--- the text is 24 hexadecimal digits of either case, two for each of the twelve bytes
+-- the string is 24 hexadecimal digits of either case, two for each of the twelve bytes
 abbrev pub IsOidText : List ℕ → List ℕ → Type 0
 IsOidText text id = IsHexText text id × (length id ≡ 12)
 
--- why a text is no object id: its length, or a byte that is no digit, with its place
+-- why a string is not an object id: its length, or a byte that is not a digit, with its offset
 pub data OidFault : Type 0 where
   BadLength : ℕ → OidFault
   BadCharacter : ℕ → ℕ → OidFault
 
--- the place of the first byte that is no digit
+-- the offset of the first byte that is not a digit
 abbrev pub bad_place : List ℕ → Option ℕ
 bad_place text = position (λ c. not (is_hex_digit c)) text
 
@@ -28,7 +28,7 @@ fault_at text (Some i) = BadCharacter (slice_index text i) i
 abbrev pub oid_fault : List ℕ → OidFault
 oid_fault text = if length text % 2 == 1 then BadLength (length text) else fault_at text (bad_place text)
 
--- the seconds are the first four bytes
+-- the milliseconds of the id: the seconds are its first four bytes
 abbrev pub oid_millis : List ℕ → ℤ
 oid_millis id = pos (from_be_bytes w32 (take 4 id) * 1000)
 

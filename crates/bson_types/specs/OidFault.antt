@@ -1,4 +1,4 @@
--- Which fault an error tells.
+-- The error value of a string that is not an object id.
 use Rattle.std.specs.Prelude.{◌≡◌, ℕ, List}
 use Rattle.std.specs.String.{string_bytes}
 use Rattle.bson_types.specs.declared.oid.Error.{Error}
@@ -6,7 +6,7 @@ use Rattle.bson_types.specs.declared.oid.Error.TheVariants.{InvalidHexStringChar
 use Rattle.bson_types.specs.declared.oid.Error.TheVariants.{OutOfMemory}
 use Rattle.bson_types.specs.Oid.{BadLength, BadCharacter, oid_fault}
 
--- the error of a text is its fault with a copy of the text, or that memory was wanting
+-- the error has the fault of the string and a copy of the string, or it is `OutOfMemory`
 abbrev pub IsOidError : List ℕ → Error → Type 0
 IsOidError text (InvalidHexStringCharacter c index hex) =
     (oid_fault text ≡ BadCharacter c index) × (string_bytes hex ≡ text)

@@ -9,13 +9,13 @@ use Rattle.bson_types.specs.declared.uuid_value.Error.TheVariants.{InvalidUuidSt
 use Rattle.bson_types.specs.declared.uuid_value.Error.TheVariants.{InvalidLength}
 pub use Rattle.uuid.specs.Text.{parsed_hyphenated}
 
--- the place that each byte comes from: 0-3, 4-5 and 6-7 each reversed, or 0-7 and 8-15
+-- the index that each byte comes from: 0-3, 4-5 and 6-7 each reversed, or 0-7 and 8-15
 abbrev pub places_of : UuidRepresentation → List ℕ
 places_of CSharpLegacy = 3 ∷ 2 ∷ 1 ∷ 0 ∷ 5 ∷ 4 ∷ 7 ∷ 6 ∷ 8 ∷ 9 ∷ 10 ∷ 11 ∷ 12 ∷ 13 ∷ 14 ∷ 15 ∷ []
 places_of JavaLegacy = 7 ∷ 6 ∷ 5 ∷ 4 ∷ 3 ∷ 2 ∷ 1 ∷ 0 ∷ 15 ∷ 14 ∷ 13 ∷ 12 ∷ 11 ∷ 10 ∷ 9 ∷ 8 ∷ []
 places_of _ = 0 ∷ 1 ∷ 2 ∷ 3 ∷ 4 ∷ 5 ∷ 6 ∷ 7 ∷ 8 ∷ 9 ∷ 10 ∷ 11 ∷ 12 ∷ 13 ∷ 14 ∷ 15 ∷ []
 
--- the bytes in the order of a representation, which undoes itself
+-- the bytes in the order of a representation; reordering twice gives the same bytes
 abbrev pub bytes_in_order : UuidRepresentation → List ℕ → List ℕ
 bytes_in_order r xs = map (slice_index xs) (places_of r)
 
@@ -24,7 +24,7 @@ abbrev pub subtype_for : UuidRepresentation → BinarySubtype
 subtype_for Standard = Uuid
 subtype_for _ = UuidOld
 
--- which error it is, and what it tells
+-- the errors of UUIDs, with their fields
 abbrev pub IsInvalidUuidString : Error → Type 0
 IsInvalidUuidString (InvalidUuidString message) = Unit {0}
 IsInvalidUuidString _ = ⊥

@@ -1,4 +1,4 @@
--- What a packed vector holds.
+-- The bytes and the padding of a vector of packed bits.
 use Rattle.std.specs.Prelude.{ℕ, List}
 use Rattle.bson_types.specs.declared.packed.PackedBitVector.{PackedBitVector}
 
@@ -6,6 +6,6 @@ use Rattle.bson_types.specs.declared.packed.PackedBitVector.{PackedBitVector}
 abbrev pub packed_bytes : PackedBitVector → List ℕ
 packed_bytes v = v.bytes.items
 
--- how many of the lowest bits of the last byte don't count
+-- the number of lowest bits of the last byte that are ignored
 abbrev pub packed_padding : PackedBitVector → ℕ
 packed_padding v = v.padding

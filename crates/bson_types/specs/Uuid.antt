@@ -1,4 +1,4 @@
--- UUIDs: sixteen bytes, and the texts that spell them (RFC 9562 section 4, in either case of the digits).
+-- UUIDs: sixteen bytes, and the strings that denote them (RFC 9562 section 4, with digits of either case).
 use Rattle.std.specs.Prelude.{◌≡◌, ℕ, List, ◌++◌, length, take, drop, codes}
 use Rattle.std.specs.Str.{str_to_ascii_lowercase}
 use Rattle.hex.specs.Hex.{IsBytes, encode_lower}
@@ -22,11 +22,11 @@ in_groups digits =
 abbrev pub IsHyphenatedText : List ℕ → List ℕ → Type 0
 IsHyphenatedText text id = (digits : List ℕ) × AreUuidDigits digits id × (text ≡ in_groups digits)
 
--- the text that is written: its digits are lower-case ones (RFC 9562 section 4)
+-- the string that is written, with lower-case digits (RFC 9562 section 4)
 abbrev pub hyphenated_text : List ℕ → List ℕ
 hyphenated_text id = in_groups (encode_lower id)
 
--- what a URN of a UUID opens with, in either case (RFC 8141 section 3.1)
+-- the prefix of a URN of a UUID, in either case (RFC 8141 section 3.1)
 abbrev pub IsUrnPrefix : List ℕ → Type 0
 IsUrnPrefix prefix = str_to_ascii_lowercase prefix ≡ codes "urn:uuid:"
 

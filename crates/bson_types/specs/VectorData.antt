@@ -1,4 +1,4 @@
--- What a vector holds, and that its bytes tell it.
+-- The data of a vector, and that its bytes determine it.
 use Rattle.std.specs.Prelude.{◌≡◌, ◌<◌, ◌^◌, ℕ, ℤ, List, [], ◌∷◌, map, FitsSigned}
 use Rattle.std.specs.Int.{w8, cast_signed, cast_unsigned}
 use Rattle.std.specs.List.{AllByRecursion}
@@ -15,19 +15,19 @@ pub data VectorData : Type 0 where
   float32 : List ℕ → VectorData
   packed : List ℕ → ℕ → VectorData
 
--- what a vector holds
+-- the data of a vector
 abbrev pub vector_view : Vector → VectorData
 vector_view (vector.Int8 v) = int8 v.items
 vector_view (vector.Float32 v) = float32 v.items
 vector_view (vector.PackedBit v) = packed (packed_bytes v) (packed_padding v)
 
--- the same with each number of 8 bits as the one from -128 to 127 that has its byte: for a vector in range no other
+-- the same with each number of 8 bits as the number from -128 to 127 that has its byte; equal for a vector in range
 abbrev pub data_in_range : Vector → VectorData
 data_in_range (vector.Int8 v) = int8 (map (cast_signed w8) (map (cast_unsigned w8) v.items))
 data_in_range (vector.Float32 v) = float32 v.items
 data_in_range (vector.PackedBit v) = packed (packed_bytes v) (packed_padding v)
 
--- what packed bits hold
+-- the data of packed bits
 abbrev pub packed_view : PackedBitVector → VectorData
 packed_view v = packed (packed_bytes v) (packed_padding v)
 
@@ -37,8 +37,8 @@ data_bytes (int8 zs) = 0x03 ∷ 0 ∷ map (cast_unsigned w8) zs
 data_bytes (float32 ns) = 0x27 ∷ 0 ∷ le_bytes_of ns
 data_bytes (packed bs k) = 0x10 ∷ k ∷ bs
 
--- each number is in the range of its type; a padding is below 8, and 0 where there are no bytes, and the bits that it
--- leaves out are zero
+-- each number is in the range of its type; a padding is below 8, and 0 if there are no bytes, and the ignored bits are
+-- zero
 abbrev pub IsInRange : VectorData → Type 0
 IsInRange (int8 zs) = AllByRecursion (FitsSigned w8) zs
 IsInRange (float32 ns) = AllByRecursion (λ n. n < 2 ^ 32) ns
@@ -48,6 +48,6 @@ IsInRange (packed bs k) = (k < 8) × (bs ≡ [] → k ≡ 0) × (ignored_bits bs
 abbrev pub IsVectorBytes : List ℕ → Type 0
 IsVectorBytes bytes = (v : VectorData) × IsInRange v × (data_bytes v ≡ bytes)
 
--- bytes tell what the vector holds: whatever has these bytes is this
+-- the bytes determine the data: any data in range with these bytes is equal to it
 abbrev pub IsOnlyOne : List ℕ → VectorData → Type 0
 IsOnlyOne bytes v = (w : VectorData) → IsInRange w → data_bytes w ≡ bytes → w ≡ v

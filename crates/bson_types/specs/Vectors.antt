@@ -26,7 +26,7 @@ is_vector_of_any_bits (kind ∷ padding ∷ rest) =
     else (padding == 0) && ((kind == 0x03) || ((kind == 0x27) && (length rest % 4 == 0)))
 is_vector_of_any_bits _ = false
 
--- the ignored bits, which packed bits alone have, are zero
+-- the ignored bits, which only packed bits have, are zero
 abbrev pub has_zero_bits : List ℕ → Bool
 has_zero_bits (kind ∷ padding ∷ rest) = not (kind == 0x10) || (ignored_bits rest padding == 0)
 has_zero_bits _ = true

@@ -1,5 +1,5 @@
-//! Binaries: bytes with a subtype (BSON 1.1, type 0x05), their base64 texts (RFC 4648 section 4),
-//! and the UUIDs and vectors that they hold.
+//! Binaries: bytes with a subtype (BSON 1.1, type 0x05), their base64 (RFC 4648 section 4), and the
+//! UUIDs and vectors that they contain.
 ghost use Rattle.std.specs.Prelude.{◌≡◌, ◌≢◌, ◌⊎◌, ◌↔◌, ◌≤◌, ℕ, List, Some, IfErr, IfOk, IsOk};
 ghost use Rattle.std.specs.Prelude.{OnOk, length, true, unwrap_or, vec_len};
 ghost use Rattle.base64.specs.Engines.{standard};
@@ -20,7 +20,7 @@ use base64::engine::general_purpose::STANDARD;
 use std::alloc::{AllocError, Global};
 use std::fmt;
 
-/// Why a text or bytes give no binary or vector.
+/// Why a string or bytes are not a binary or vector.
 ///
 /// ```
 /// if let Err(error) = Binary::from_base64(alloc, "AQI", None) {
@@ -29,27 +29,27 @@ use std::fmt;
 /// ```
 #[derive(Debug, Drop, thiserror::Error)]
 pub enum Error {
-    /// The text is no padded base64.
+    /// The string is not padded base64.
     #[error("{message}")]
     DecodingError {
         /// What is wrong, in words.
         message: &'static str,
     },
-    /// The bytes, or the parts, are no vector's.
+    /// The bytes, or the parts, are not those of a vector.
     #[error("{message}")]
     Vector {
         /// What is wrong, in words.
         message: &'static str,
     },
-    /// No memory was found for the bytes or the text.
+    /// An allocation failed.
     #[error("out of memory")]
     OutOfMemory,
 }
 
-/// What a call on binaries and vectors answers.
+/// The result of a call on binaries and vectors.
 pub type Result<T, E = Error> = std::result::Result<T, E>;
 
-/// Bytes, and what they are.
+/// Bytes with a subtype, which says what they are.
 ///
 /// ```
 /// let binary = Binary::from_base64(alloc, "AQI=", None)?;
@@ -64,7 +64,7 @@ pub struct Binary {
 }
 
 impl Binary {
-    /// Decodes a base64 text (RFC 4648 section 4) with its padding. The bits that the last digit
+    /// Decodes a base64 string (RFC 4648 section 4) with its padding. The bits that the last digit
     /// leaves over must be zeros, and blanks or line ends are not accepted. The default subtype is
     /// Generic.
     ///
@@ -76,7 +76,7 @@ impl Binary {
         ensures subtype { IfOk result (λ b. b.subtype ≡ unwrap_or subtype BinarySubtype.Generic) }
         ensures ok { IfOk result (λ b. IsBase64 text.now b.bytes.items) }
 
-        // No text that is base64 is refused.
+        // A string that is base64 is not rejected.
         ensures err { IfErr result (λ e. IsAllocationError e
             ⊎ (IsDecodingError e × ((bytes : List ℕ) → ¬ (IsBase64 text.now bytes)))) }
     {
@@ -130,7 +130,7 @@ impl Binary {
         ensures subtype { IfOk result (λ b. b.subtype ≡ subtype_for representation) }
         ensures bytes { IfOk result (λ b. b.bytes.items ≡ bytes_in_order representation id) }
 
-        // What reading back asks for, and gives.
+        // Reading the UUID back needs this length, and returns the same UUID.
         ensures length { IfOk result (λ b. vec_len b.bytes ≡ 16) }
         ensures undone { IfOk result (λ b. bytes_in_order representation b.bytes.items ≡ id) }
     {
@@ -151,13 +151,13 @@ impl Binary {
         ensures subtype { IfOk result (λ b. b.subtype ≡ BinarySubtype.Vector) }
         ensures bytes { IfOk result (λ b. b.bytes.items ≡ vector_bytes vector.now) }
 
-        // What reading back asks for, and gives.
+        // Reading the vector back accepts these bytes, and returns the same vector.
         ensures readable { IfOk result (λ b. is_vector b.bytes.items ≡ true) }
         ensures only { IfOk result (λ b. IsInRange (vector_view vector.now)
             → IsOnlyOne b.bytes.items (vector_view vector.now)) }
 
-        // The same of any vector: `held` is `view` but for numbers of 8 bits that a clause has out
-        // of their range.
+        // The same for any vector. `data_in_range` differs from `vector_view` only for a number that a
+        // clause assumes to be outside the range of 8 bits.
         ensures ranged { OnOk result (IsInRange (data_in_range vector.now)) }
         ensures held { IfOk result (λ b. IsOnlyOne b.bytes.items (data_in_range vector.now)) }
     {
@@ -284,7 +284,7 @@ impl fmt::Display for Binary {
     }
 }
 
-// The base64 text of bytes, three at a time, which takes no memory.
+// The base64 of bytes, written in groups of three, without an allocation.
 #[derive(Clone, Copy)]
 struct Base64<'a> {
     bytes: &'a [u8],
@@ -316,7 +316,7 @@ fn group_text<'o>(bytes: &[u8], out: &'o mut [u8; 4]) -> &'o str
     }
 }
 
-// The text of at most three bytes, on the stack, as the engine writes it.
+// The base64 of at most three bytes, on the stack, as the engine writes it.
 fn group_bytes<'o>(bytes: &[u8], out: &'o mut [u8; 4]) -> &'o [u8]
     requires { length bytes.now ≤ 3 }
     ensures { result.now ≡ encode_of standard bytes.now }

@@ -1,7 +1,7 @@
-//! The scalar types of BSON 1.1 and what their bytes and texts mean: the tags of elements and the
+//! The scalar types of BSON 1.1, and what their bytes and strings mean: the tags of elements and the
 //! subtypes of binaries, object ids, UUIDs in four byte orders, binaries and the vectors that they
-//! hold, and the small kinds. Dates and decimals stand in crates of their own and are named here
-//! too.
+//! contain, timestamps, regular expressions and pointers. Dates and decimals have crates of their
+//! own, and are named here too.
 //!
 //! In reading order: `spec` (tags and subtypes), `oid`, `uuid_value` (the library's `uuid`),
 //! `binary` (base64, UUIDs in binaries), `vector` and `packed` (vectors and their bytes),

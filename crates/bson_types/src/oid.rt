@@ -1,4 +1,4 @@
-//! Object ids (BSON 1.1, type 0x07), and their texts of 24 hexadecimal digits.
+//! Object ids (BSON 1.1, type 0x07), and their strings of 24 hexadecimal digits.
 ghost use Rattle.std.specs.Prelude.{◌≡◌, ◌++◌, ℕ, List, Ok, Some, IfOk, IfErr, IfSome, length, not};
 ghost use Rattle.std.specs.Prelude.{string_bytes};
 ghost use Rattle.std.specs.Cmp.Lexicographic.{nat_list_cmp_total, slice_cmp, texts_po, texts_ties};
@@ -18,7 +18,7 @@ use std::cmp::Ordering;
 use std::fmt;
 use std::marker::Model;
 
-/// Why a text is no object id. `hex` is a copy of the text.
+/// Why a string is not an object id. `hex` is a copy of the string.
 ///
 /// ```
 /// if let Err(error) = ObjectId::parse_str(alloc, "53e3") {
@@ -27,13 +27,13 @@ use std::marker::Model;
 /// ```
 #[derive(Debug, Drop, thiserror::Error)]
 pub enum Error {
-    /// The first byte that is no hexadecimal digit: the character whose number is that byte, and
-    /// its place, counted in bytes from 0.
+    /// The first byte that is not a hexadecimal digit: the character with this code, and its offset
+    /// in bytes from 0.
     #[error("the character '{c}' at {index} in \"{hex}\" is no hexadecimal digit")]
     InvalidHexStringCharacter {
-        /// The character whose number is the byte.
+        /// The character whose code is the byte.
         c: char,
-        /// The byte's place, counted from 0.
+        /// The offset of the byte, from 0.
         index: usize,
         /// A copy of the text.
         hex: String,
@@ -46,12 +46,12 @@ pub enum Error {
         /// A copy of the text.
         hex: String,
     },
-    /// No memory was found for the copy of the text.
+    /// The allocation of the copy failed.
     #[error("out of memory")]
     OutOfMemory,
 }
 
-/// What a call on object ids answers.
+/// The result of a call on object ids.
 pub type Result<T, E = Error> = std::result::Result<T, E>;
 
 /// An object id of 12 bytes: 4 of seconds since 1970-01-01T00:00:00Z, 5 of process id and 3 of a
@@ -108,7 +108,7 @@ impl ObjectId {
         ensures ok { IfOk result (λ id. IsOidText text.now id) }
         ensures valid { (id : List ℕ) → IsOidText text.now id → result ≡ Ok id }
 
-        // No text that is an object id is refused, so the fault is there.
+        // A string that is an object id is not rejected, so the string has an error.
         ensures err { IfErr result (λ e. IsOidError text.now e) }
     {
         if text.len() % 2 != 0 {
@@ -223,7 +223,7 @@ fn digit_value(byte: u8) -> u8
     DIGIT_VALUES[byte as usize]
 }
 
-// The byte of two digits.
+// The byte of two hexadecimal digits.
 fn byte_of(high: u8, low: u8) -> Option<u8>
     ensures { result ≡ byte_of_digits (hex_digit_value high) (hex_digit_value low) }
 {
@@ -235,7 +235,7 @@ fn byte_of(high: u8, low: u8) -> Option<u8>
     Some(high * 16 + low)
 }
 
-// The bytes of a text, if it is 24 digits.
+// The bytes of a string, if it is 24 hexadecimal digits.
 fn bytes_of(text: &[u8]) -> Option<[u8; 12]>
     ensures some { IfSome result (λ id. IsOidText text.now id) }
     ensures every { (id : List ℕ) → IsOidText text.now id → result ≡ Some id }
@@ -271,7 +271,7 @@ fn length_error(alloc: Global, text: &str) -> Error
     }
 }
 
-// The fault of a text of an even number of bytes.
+// The error of a string with an even number of bytes.
 fn digit_error(alloc: Global, text: &str) -> Error
     requires { oid_fault text.now ≡ fault_at text.now (bad_place text.now) }
     ensures { IsOidError text.now result }
@@ -290,7 +290,7 @@ fn digit_error(alloc: Global, text: &str) -> Error
     }
 }
 
-// The place of the first byte that is no digit.
+// The offset of the first byte that is not a digit.
 fn bad_place_of(bytes: &[u8]) -> Option<usize>
     ensures { result ≡ bad_place bytes.now }
 {
@@ -303,7 +303,7 @@ fn is_bad(byte: u8) -> bool
     !matches!(byte, b'0'..=b'9' | b'a'..=b'f' | b'A'..=b'F')
 }
 
-// The three parts behind one another.
+// The three parts, concatenated.
 fn join(a: &[u8], b: &[u8], c: &[u8]) -> [u8; 12]
     requires first { length a.now ≡ 4 }
     requires second { length b.now ≡ 5 }

@@ -9,10 +9,10 @@ use std::alloc::{AllocError, Global};
 
 const WIDE: &str = "the padding of packed bits is above 7";
 
-/// Bits in bytes, from the highest bit of a byte down, of which the lowest `padding` bits of the
-/// last byte are ignored: 8 times the number of bytes, less the padding, bits.
+/// Bits in bytes, from the highest bit of a byte down. The lowest `padding` bits of the last byte
+/// are ignored, so there are 8 times the number of bytes, less the padding, bits.
 ///
-/// The padding is below 8, and 0 where there are no bytes. The ignored bits are zero.
+/// The padding is below 8, and 0 if there are no bytes. The ignored bits are zero.
 ///
 /// Twelve bits:
 ///
@@ -64,7 +64,7 @@ impl PackedBitVector {
         Ok(PackedBitVector { bytes, padding })
     }
 
-    // The vector of these bytes with the ignored bits made zero; a padding is refused as by `new`.
+    // The vector of these bytes with the ignored bits zero. A padding is rejected as by `new`.
     pub(crate) fn clearing(bytes: Vec<u8>, padding: u8) -> Result<PackedBitVector>
         ensures bytes { IfOk result (λ v. packed_bytes v ≡ cleared_bytes bytes.items padding) }
         ensures padding { IfOk result (λ v. packed_padding v ≡ padding) }

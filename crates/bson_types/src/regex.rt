@@ -7,8 +7,8 @@ ghost use Rattle.bson_types.specs.Regex.{sorted_text, ascending_numbers};
 use std::alloc::{AllocError, Global};
 use std::fmt;
 
-/// A pattern and its options, of which neither is tested. Extended JSON is written with the
-/// options sorted, whatever their order here.
+/// A pattern and its options. Neither is checked. Extended JSON is written with the options sorted,
+/// whatever their order here.
 ///
 /// ```
 /// let regex = Regex::new(alloc, "^a", "xi")?;
@@ -32,7 +32,7 @@ impl Regex {
         ensures pattern { IfOk result (λ r. string_bytes r.pattern ≡ pattern.now) }
         ensures options { IfOk result (λ r. string_bytes r.options ≡ sorted_text options.now) }
 
-        // What the options are sorted by: the same characters, none before a lower one.
+        // Sorting keeps the same characters, and none comes before a lower one.
         ensures ascending { (xs : List ℕ) → let ys = ascending_numbers xs in IsPermutation xs ys × IsNonDecreasing ys }
     {
         Ok(Regex {
@@ -67,7 +67,7 @@ impl fmt::Display for Regex {
     }
 }
 
-/// Returns the characters of the text in ascending order.
+/// Returns the characters of the string in ascending order.
 ///
 /// # Errors
 ///

@@ -17,7 +17,7 @@ use std::hash::{Hash, Hasher};
 pub enum ElementType {
     /// Tag 0x01: 64 bits of a binary floating point number.
     Double,
-    /// Tag 0x02: a text of UTF-8.
+    /// Tag 0x02: a string of UTF-8.
     String,
     /// Tag 0x03: a document inside another.
     EmbeddedDocument,
@@ -92,7 +92,7 @@ impl ElementType {
         })
     }
 
-    /// Returns the byte that stands for the type.
+    /// Returns the tag of the type.
     pub fn tag(&self) -> u8
         ensures { result ≡ tag_of self.now }
     {
@@ -124,9 +124,9 @@ impl ElementType {
 
 /// What the bytes of a binary are.
 ///
-/// Each byte names one subtype, and comes back from it. `Reserved` and `UserDefined` can be built
-/// with any byte, which they are then written as, while the byte reads as the subtype that it
-/// names: `UserDefined(0)` is written as 0x00, which reads as `Generic`. Hashing goes by the byte.
+/// Each byte is read as one subtype, which is written as the same byte. `Reserved` and `UserDefined`
+/// can be built with any byte, and are written as this byte, but it is read as its own subtype:
+/// `UserDefined(0)` is written as 0x00, which is read as `Generic`. Hashing uses the byte.
 ///
 /// ```
 /// let subtype = BinarySubtype::from(0x80);
@@ -223,7 +223,7 @@ impl fmt::LowerHex for BinarySubtype {
     }
 }
 
-// What `{:x}` asks for.
+// The bits that `{:x}` writes.
 impl fmt::HasDigits for BinarySubtype {
     ghost use Rattle.bson_types.specs.Subtype.{subtype_byte};
 

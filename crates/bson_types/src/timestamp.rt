@@ -4,7 +4,7 @@ ghost use Rattle.std.specs.Prelude.{Some};
 use std::fmt;
 
 /// Seconds since 1970-01-01T00:00:00Z, and a counter within that second. Ordered by time, then by
-/// increment. `DateTime` is the type for a date of one's own.
+/// increment. The type for other dates is `DateTime`.
 ///
 /// ```
 /// let time = 1_590_972_160;

@@ -1,4 +1,4 @@
-//! UUIDs and their texts (RFC 9562), which the library names `uuid`.
+//! UUIDs and their strings (RFC 9562): the module `uuid` of the library.
 ghost use Rattle.std.specs.Prelude.{◌≡◌, ℕ, List, Ok, Some, IfOk, IfErr};
 ghost use Rattle.bson_types.specs.Uuid.{IsUuid, IsUuidText, hyphenated_text};
 
@@ -6,7 +6,7 @@ use crate::spec::BinarySubtype;
 use std::fmt;
 use std::marker::Model;
 
-/// Why a text or a binary gives no UUID.
+/// Why a string or a binary is not a UUID.
 ///
 /// ```
 /// if let Err(error) = Uuid::parse_str("0011") {
@@ -15,7 +15,7 @@ use std::marker::Model;
 /// ```
 #[derive(Debug, Drop, thiserror::Error)]
 pub enum Error {
-    /// The text is no UUID.
+    /// The string is not a UUID.
     #[error("{message}")]
     InvalidUuidString {
         /// What is wrong, in words.
@@ -40,11 +40,11 @@ pub enum Error {
     },
 }
 
-/// What a call on UUIDs answers.
+/// The result of a call on UUIDs.
 pub type Result<T> = std::result::Result<T, Error>;
 
 /// The byte order of a UUID in a binary. Drivers wrote subtype 0x03 in orders of their own before
-/// subtype 0x04 settled on the order of the text.
+/// subtype 0x04 settled on the order of the string.
 ///
 /// ```
 /// if let Ok(id) = Uuid::parse_str("00112233-4455-6677-8899-aabbccddeeff") {
@@ -65,7 +65,7 @@ pub enum UuidRepresentation {
     PythonLegacy,
 }
 
-/// A UUID of 16 bytes, in the order of its text.
+/// A UUID of 16 bytes, in the order of its string.
 ///
 /// ```
 /// if let Ok(id) = Uuid::parse_str("00112233-4455-6677-8899-aabbccddeeff") {

@@ -25,7 +25,7 @@ const FLOAT32: u8 = 0x27;
 
 const HEAD: &str = "a vector has a type and a padding";
 
-/// A vector as a binary of subtype Vector holds it.
+/// A vector, as a binary of subtype Vector contains it.
 ///
 /// ```
 /// let vector = Vector::Int8(Vec::from_slice(alloc, &[-1, 2])?);
@@ -37,8 +37,8 @@ const HEAD: &str = "a vector has a type and a padding";
 pub enum Vector {
     /// Signed integers of 8 bits.
     Int8(Vec<i8>),
-    /// Floating point numbers of 32 bits, by their patterns. In the bytes of a vector each is four
-    /// bytes, the lowest first.
+    /// Floating point numbers of 32 bits, as their bit patterns. In the bytes of a vector each is
+    /// four bytes, the lowest first.
     Float32(Vec<u32>),
     /// Single bits.
     PackedBit(PackedBitVector),
@@ -67,7 +67,7 @@ impl Vector {
         ensures ranged { IfOk result (λ v. IsInRange (vector_view v)) }
         ensures only { IfOk result (λ v. IsOnlyOne bytes.now (vector_view v)) }
 
-        // Exactly the bytes of a vector are accepted: those that some data in range has.
+        // Bytes are accepted if and only if they are those of a vector with data in range.
         ensures accepted { OnOk result (is_vector bytes.now ≡ true) }
         ensures refused { IfErr result (λ e. IsAllocationError e ⊎ (IsVectorError e × (is_vector bytes.now ≡ false))) }
         ensures meaning { (is_vector bytes.now ≡ true) ↔ IsVectorBytes bytes.now }
@@ -92,11 +92,11 @@ impl Vector {
         ensures ranged { IfOk result (λ v. IsInRange (vector_view v)) }
         ensures only { IfOk result (λ v. IsOnlyOne (cleared_vector bytes.now) (vector_view v)) }
 
-        // What `from_bytes` reads in these bytes is the same.
+        // `from_bytes` reads the same vector in these bytes, if it accepts them.
         ensures same { IfOk result (λ v. IsOnlyOne bytes.now (vector_view v)) }
         ensures takes_more { is_vector bytes.now ≡ true → is_vector_of_any_bits bytes.now ≡ true }
 
-        // Exactly the bytes of a vector are accepted, whatever its ignored bits.
+        // Bytes are accepted if and only if they are those of a vector, whatever its ignored bits.
         ensures accepted { OnOk result (is_vector_of_any_bits bytes.now ≡ true) }
         ensures refused { IfErr result (λ e. IsAllocationError e
             ⊎ (IsVectorError e × (is_vector_of_any_bits bytes.now ≡ false))) }
@@ -255,7 +255,7 @@ fn words(alloc: Global, contents: &[u8]) -> Result<Vec<u32>>
     Ok(words)
 }
 
-// What the types say of numbers.
+// Each element is below 256, which its type gives.
 pub(crate) fn are_bytes(bytes: &[u8])
     ensures { IsBytes bytes.now }
 {
@@ -306,7 +306,7 @@ fn packed_bytes_of(alloc: Global, packed: &PackedBitVector) -> Result<Vec<u8>, A
     Ok(bytes)
 }
 
-// The type and the padding, with room for the data.
+// The type and the padding, with capacity for the data.
 fn head(alloc: Global, kind: u8, padding: u8, room: usize) -> Result<Vec<u8>, AllocError>
     ensures { IfOk result (λ v. v.items ≡ kind ∷ padding ∷ []) }
 {

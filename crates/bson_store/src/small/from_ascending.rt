@@ -1,4 +1,4 @@
-//! Pairs that come in ascending order become a store as they stand.
+//! Makes a store from pairs in ascending key order, without moving them.
 ghost use Rattle.std.specs.Prelude.{◌≡◌, IsOk, IfOk, IfErr};
 ghost use Rattle.bson_store.specs.Small.{stored_pairs, HasAscendingKeys};
 

@@ -1,4 +1,4 @@
-//! Pairs in any order become a store as they stand, where no key stands twice.
+//! Makes a store from pairs in any order. Without a duplicate key, they are not moved.
 ghost use Rattle.std.specs.Prelude.{◌≡◌, ◌<◌, [], length, IfOk};
 ghost use Rattle.bson_store.specs.Pairs.{put_pairs};
 ghost use Rattle.bson_store.specs.Small.{stored_pairs};
@@ -10,8 +10,8 @@ use crate::sorted::sorted_places;
 use std::alloc::{AllocError, Global};
 
 impl<V: Drop> SmallPairs<V> {
-    /// Makes a store of the pairs, which are put in turn. If a key is duplicated, its last value
-    /// wins, at its first position.
+    /// Makes a store of the pairs, inserted one after another. If a key is duplicated, its last
+    /// value wins, at its first position.
     ///
     /// Pairs in ascending key order become the store without a copy, in the memory that they have.
     /// More than sixteen pairs without a duplicate key do too: their places are sorted, and no key
@@ -55,7 +55,7 @@ fn of_many<V: Drop>(alloc: Global, mut pairs: Vec<Pair<V>>) -> Result<SmallPairs
     })
 }
 
-// Each is looked up.
+// Inserts one pair after another. Each key is looked up.
 fn in_turn<V: Drop>(alloc: Global, pairs: Vec<Pair<V>>) -> Result<SmallPairs<V>, AllocError>
     ensures { IfOk result (λ store. store ≡ put_pairs (stored_pairs pairs.items) []) }
 {

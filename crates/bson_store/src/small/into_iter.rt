@@ -24,7 +24,7 @@ pub struct IntoIter<V> {
     pairs: vec::IntoIter<Pair<V>>,
 }
 
-// The pairs that are still to come.
+// The pairs that remain.
 impl<V> Model for IntoIter<V> {
     ghost Value = { List (List ℕ × V) };
 

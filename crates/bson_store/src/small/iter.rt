@@ -1,4 +1,4 @@
-//! The walks over a small store: in its own order, and by ascending key.
+//! The iterators over a small store: in its own order, and in ascending key order.
 ghost use Rattle.std.specs.Prelude.{◌≡◌, ◌<◌, ℕ, List, length, slice_get, option_map, option_and_then};
 ghost use Rattle.std.specs.Prelude.{string_bytes, IfSome};
 ghost use Rattle.std.specs.Iterator.{at_most};
@@ -32,19 +32,20 @@ pub struct Iter<'a, V> {
     turn: Cursor<'a>,
 }
 
-// Which pairs are still to come.
+// Which pairs remain.
 #[derive(Drop)]
 enum Cursor<'a> {
-    // Those from the place on, as they stand.
+    // The pairs from this place on, in the order of the store.
     From(usize),
-    // Those at the places.
+    // The pairs at these places, of the sorted index.
     Sorted(slice::Iter<'a, usize>),
+    // The pairs at the places of the map, in ascending key order.
     Mapped(Values<'a, String, usize>),
-    // Those whose keys are above the last one, by ascending key.
+    // The pairs whose keys are above the last one, in ascending key order.
     Above(Option<&'a String>),
 }
 
-// The pairs that are still to come.
+// The pairs that remain.
 impl<'a, V> Model for Iter<'a, V> {
     ghost Value = { List (List ℕ × V) };
 
@@ -59,7 +60,7 @@ impl<V: Drop> SmallPairs<V> {
         ensures pairs { result ≡ self.now }
         ensures distinct { HasDistinctKeys self.now }
     {
-        // What holds of every store says that the keys differ.
+        // The invariant of the store says that the keys are distinct.
         let _ = &self.pairs;
         Iter {
             pairs: self,
@@ -69,8 +70,8 @@ impl<V: Drop> SmallPairs<V> {
 
     /// Iterates over the pairs in ascending order of the bytes of their keys.
     ///
-    /// The walk takes no memory. It goes by the index, or from pair to pair where the keys ascend.
-    /// Among sixteen pairs or fewer, whose keys don't, it looks at each for the next one.
+    /// The iterator allocates no memory. It uses the index, or goes from pair to pair if the keys
+    /// ascend. Up to sixteen pairs whose keys do not ascend are searched for each next key.
     pub fn by_key(&self) -> Iter<'_, V>
         ensures pairs { result ≡ in_order self.now }
         ensures distinct { HasDistinctKeys self.now }
@@ -130,7 +131,7 @@ fn next_place<'a, V: Drop>(pairs: &'a SmallPairs<V>, turn: &mut Cursor<'a>) -> O
     }
 }
 
-// The place of the least key above the last one, or of the least of all, by a look at each pair.
+// The place of the least key above the last one, or of the least key of all. Compares each pair.
 fn next_by_walk<V: Drop>(pairs: &SmallPairs<V>, last: Option<&String>) -> Option<usize>
     ensures in_bounds { IfSome result (λ i. i < length pairs.now) }
     ensures least { IsLeast (option_map (λ s. string_bytes s.now) last.entry) pairs.now

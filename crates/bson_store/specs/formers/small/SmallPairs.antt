@@ -1,4 +1,4 @@
--- `SmallPairs` as a type that may hold the type that holds it, by its values.
+-- `SmallPairs` as a type that may contain, by its values, a type that contains it.
 use Rattle.std.specs.Prelude.{◌≡◌, ℕ, suc, ◌<◌, cond, List, [], ◌∷◌, map, None, Some, option_map, string_bytes, String}
 use Rattle.std.specs.Prelude.{slice_index_or}
 use Rattle.std.specs.BTreeMap.{get_by_text}
@@ -73,7 +73,7 @@ seen-held : (X : Type 0) (ps : List (Pair X)) → held (the_former this) X (stor
 seen-held X [] = refl
 seen-held X (p ∷ ps) = λ i. (one_more (seen-held X ps i).0, (p.value, (seen-held X ps i).1))
 
--- the places of keys go by the keys alone
+-- the places of keys depend only on the keys
 keys-on : {X Y : Type 0} (h : X → Y) (ps : List (List ℕ × X)) → keys (map (on_value h) ps) ≡ keys ps
 keys-on h [] = refl
 keys-on h (p ∷ ps) = ap (λ l. p.0 ∷ l) (keys-on h ps)

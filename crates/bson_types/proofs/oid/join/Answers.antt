@@ -1,7 +1,7 @@
 use Rattle.std.proofs.Common.{◌≡◌, ℕ, List, [], ◌∷◌, ◌++◌, length, get_or, refl, sym, ap, ◌∙◌, arith, append_assoc}
 use Rattle.bson_types.proofs.oid.join.Goals as goal
 
--- the reads of four numbers stand for them
+-- the reads of four numbers are the numbers
 four : (a r : List ℕ) → length a ≡ 4 → get_or a 0 0 ∷ get_or a 1 0 ∷ get_or a 2 0 ∷ get_or a 3 0 ∷ r ≡ a ++ r
 four (w ∷ x ∷ y ∷ z ∷ []) r h = refl
 four [] r h = absurd (omega arith)

@@ -17,7 +17,7 @@ exact day time dr tr =
     let f2 : FitsSigned w64 (day *ℤ pos 86_400_000 +ℤ pos time) = omega (arith, signed_arith) in
     rw (to_z-of_z fd, to_z-of_z f1, et, to_z-of_z f2) refl
 
--- the date and time that was told exists
+-- the date and time that was set exists
 told_exists : goal.returns-clause-exists
 told_exists c =
     let fy : FitsSigned w32 c.args.self.year.number = search rules in
