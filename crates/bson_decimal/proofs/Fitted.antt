@@ -186,7 +186,7 @@ raised-digits-back ks y b rai h =
       ]
     ]
 
--- where nothing fits after a raise, nothing stored_pair before it
+-- if nothing fits after a raise, nothing fits before it
 raised-refuses : (ks : List ℕ) (y : ℕ) (b : Scaled) (e : ParseError) → IsRaised ks y b → Refuses b.0 b.1 e
     → Refuses ks y e
 raised-refuses ks y b e rai refuse digits large up down at c f fits =

@@ -61,7 +61,7 @@ fn doubles_of_texts(rt: HostRuntime) {
     );
     assert!(rt; read("9007199254740995", 0x4340_0000_0000_0002));
 
-    // A number below half of the least double is read as zero, with its sign.
+    // A number below half of the least double rounds to zero, with its sign.
     assert!(rt; read("1e-400", 0));
     assert!(rt; read("-1e-400", 0x8000_0000_0000_0000));
     assert!(rt; read("2e-324", 0));

@@ -115,7 +115,7 @@ module _ {V : Type 0} where
   above-at last (p ∷ ps) (suc m) zero k l up le e f a = absurd (omega (arith, le))
   above-at last (p ∷ ps) (suc m) (suc j) k l up le e f a = above-at last ps m j k l up.1 (omega (arith, le)) e f a
 
-  -- one step of the halves: from a key above the last one all are above it, and up to one that is not none is
+  -- one step of the search: from a key above the last one all are above it, and up to one that is not none is
   pub above-from : (last : List ℕ) (ps : List (List ℕ × V)) (m : ℕ) (k : List ℕ) → HasAscendingKeys ps
       → slice_get (keys ps) m ≡ Some k → is_lt (key_cmp last k) ≡ true → AllAbove (Some last) ps m
   above-from last ps m k up e a = λ j l le f. above-at last ps m j k l up le e f a
