@@ -24,7 +24,7 @@ pub struct Builder<'a> {
     pub needed: usize,
 }
 
-/// An element in its parts: the bytes of its value are the head, the body and the tail.
+/// An element: its type, its key, and the bytes of its value in three slices.
 #[derive(Clone, Copy)]
 pub struct Element<'a> {
     pub kind: ElementType,
