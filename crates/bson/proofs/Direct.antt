@@ -2,8 +2,8 @@
 use Rattle.std.proofs.Common.{◌≡◌, ℕ, ◌<◌, ◌^◌, ◌==◌, codes, List, [], ◌∷◌, ◌++◌, Bool, true, false, cond, Option, Some, None, Result, Ok, Err}
 use Rattle.std.proofs.Common.{from_bits, to_bits, refl, sym, subst, inr, arith, ◌+◌}
 use Rattle.std.specs.Float.{Float, binary64}
-use Rattle.bson_double.specs.Doubles.{is_finite}
-use Rattle.bson_double.specs.Text.{IsDoubleText}
+use Rattle.bson_double.specs.FiniteDoubles.{is_finite}
+use Rattle.bson_double.specs.DoubleText.{IsDoubleText}
 use Rattle.bson_double.proofs.Offered.{bits_back, one_text}
 use Rattle.std.specs.Prelude.{OnOk}
 use Rattle.json.specs.Filled.{UsesSpare}

@@ -6,7 +6,7 @@ use Rattle.std.specs.declared.cmp.Ordering.TheVariants.{Less, Equal, Greater}
 use Rattle.std.specs.FinMap.Entries.{put, by_order}
 use Rattle.std.specs.Hash.{HashWrites, usize, le_bytes, str}
 use Rattle.std.specs.Ordering.{match_ordering}
-use Rattle.bson_store.specs.Order.{in_order, key_cmp}
+use Rattle.bson_store.specs.AscendingOrder.{sorted_by_key, key_cmp}
 use Rattle.bson_store.specs.Pairs.{HasDistinctKeys}
 use Rattle.bson_store.proofs.Offered.{length-in_order}
 use Rattle.bson_model.specs.Value.{Value, array, document, pair}
@@ -35,10 +35,10 @@ put_in k v (e ∷ es) =
     ]
 
 -- the pairs by ascending key, in the store and in the model
-pub sorted-in_order : (ps : List Entry) → sorted_pairs (pairs_view ps) ≡ pairs_from_list (sorted_views (in_order ps))
+pub sorted-in_order : (ps : List Entry) → sorted_pairs (pairs_view ps) ≡ pairs_from_list (sorted_views (sorted_by_key ps))
 sorted-in_order [] = refl
 sorted-in_order (p ∷ ps) = ap (put_pair p.0 (sorted (bson_view p.1))) (sorted-in_order ps)
-    ∙ put_in p.0 p.1 (in_order ps)
+    ∙ put_in p.0 p.1 (sorted_by_key ps)
 
 -- the words of each pair in turn
 abbrev pub turn_words : List Entry → HashWrites
@@ -54,10 +54,10 @@ turn_count [] = refl
 turn_count (e ∷ es) = ap (λ n. n + 1) (turn_count es) ∙ omega arith
 
 pub document_words : (ps : List Entry) → HasDistinctKeys ps
-    → feed (document (pairs_view ps)) ≡ usize (length ps) ++ turn_words (in_order ps)
+    → feed (document (pairs_view ps)) ≡ usize (length ps) ++ turn_words (sorted_by_key ps)
 document_words ps d =
     ap (λ qs. usize (pairs_count qs) ++ pairs_words qs) (sorted-in_order ps)
-    ∙ (λ i. usize ((turn_count (in_order ps) ∙ length-in_order ps d) i) ++ turns (in_order ps) i)
+    ∙ (λ i. usize ((turn_count (sorted_by_key ps) ∙ length-in_order ps d) i) ++ turns (sorted_by_key ps) i)
 
 pub count-items : (vs : List Bson) → items_count (sorted_items (values_view vs)) ≡ length vs
 count-items [] = refl

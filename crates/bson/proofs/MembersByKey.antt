@@ -2,10 +2,10 @@
 use Rattle.std.proofs.Common.{◌≡◌, ℕ, List, [], ◌∷◌, Less, string_bytes, refl, sym, ap, ◌∙◌, subst}
 use Rattle.std.specs.List.{AllByRecursion}
 use Rattle.std.specs.List.Sorted.{IsStrictlySortedBy}
-use Rattle.bson_store.specs.Order.{key_cmp}
+use Rattle.bson_store.specs.AscendingOrder.{key_cmp}
 use Rattle.bson_store.specs.Pairs.{keys}
-use Rattle.bson_store.specs.Small as store
-use Rattle.bson_store.specs.Small.{stored_pairs}
+use Rattle.bson_store.specs.KeyIndex as store
+use Rattle.bson_store.specs.KeyIndex.{stored_pairs}
 use Rattle.bson_model.specs.Sorted.{put_pair, IsBelowKeys, KeysAscend}
 use Rattle.bson_model.specs.Stable.{pairs_of}
 use Rattle.bson_model.specs.Value.{Pairs, no_pairs, pair}

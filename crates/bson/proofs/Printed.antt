@@ -17,7 +17,7 @@ use Rattle.bson_scalar.specs.declared.form.Doubles.{Doubles}
 use Rattle.bson_scalar.specs.declared.form.Form.{Form}
 use Rattle.bson_scalar.specs.declared.write_error.WriteError.{WriteError}
 use Rattle.bson_scalar.specs.declared.write_error.WriteError.TheVariants.{FiniteDouble, OutOfMemory}
-use Rattle.bson_store.specs.Order.{key_cmp, in_order}
+use Rattle.bson_store.specs.AscendingOrder.{key_cmp, sorted_by_key}
 use Rattle.bson_store.specs.Pairs.{keys, HasDistinctKeys}
 use Rattle.bson_model.specs.Value.{Value, code_scope, Values, value, Pairs, no_pairs, pair}
 use Rattle.bson_model.specs.Normal.{InRange, PairsInRange}
@@ -164,12 +164,12 @@ module _ (D : Doubles) (f : Form) where
 
   -- the map of a document has its members by ascending key
   by_key_is : (ps : List Entry) → HasDistinctKeys ps
-      → writes_in_turn (writes_by Ascending D f) (pairs_view (in_order ps))
+      → writes_in_turn (writes_by Ascending D f) (pairs_view (sorted_by_key ps))
       ≡ writes_pairs_by Ascending D f (pairs_view ps)
   unfolding IsDistinct
   by_key_is [] d = refl
   by_key_is (p ∷ ps) d =
-      written_put p.0 p.1 (in_order ps) (find-in_order p.0 ps ∙ lacks p.0 ps d.0)
+      written_put p.0 p.1 (sorted_by_key ps) (find-in_order p.0 ps ∙ lacks p.0 ps d.0)
       ∙ bind_same (writes_by Ascending D f (bson_view p.1)) _ _ (λ x. ap (λ r. r >>= λ ms. Ok (put p.0 x ms))
       (by_key_is ps d.1))
 
@@ -187,12 +187,12 @@ module _ (P : Value → Type 0) where
       ] h r
 
   -- what holds of each value by ascending key holds of each
-  each_by_key : (ps : List Entry) → HasDistinctKeys ps → EachValue P (pairs_view (in_order ps))
+  each_by_key : (ps : List Entry) → HasDistinctKeys ps → EachValue P (pairs_view (sorted_by_key ps))
       → EachValue P (pairs_view ps)
   unfolding IsDistinct
   each_by_key [] d r = tt
   each_by_key (p ∷ ps) d r =
-      let both = each_put p.0 p.1 (in_order ps) (find-in_order p.0 ps ∙ lacks p.0 ps d.0) r in
+      let both = each_put p.0 p.1 (sorted_by_key ps) (find-in_order p.0 ps ∙ lacks p.0 ps d.0) r in
       (both.0, each_by_key ps d.1 both.1)
 
 each_ranged : (ps : Pairs) → PairsInRange ps → EachValue InRange ps

@@ -14,7 +14,7 @@ use Rattle.bson_model.specs.Value.{Pairs, no_pairs, pair}
 use Rattle.bson_scalar.specs.Scalar as kind
 use Rattle.bson_scalar.specs.Scalar.{Scalar}
 use Rattle.bson_store.specs.Pairs.{insert_pair}
-use Rattle.bson_store.specs.Small.{stored_pairs}
+use Rattle.bson_store.specs.KeyIndex.{stored_pairs}
 use Rattle.bson.proofs.Seen.{bson_view-Array, bson_view-Document}
 use Rattle.bson.specs.Collected.{Member, collected_pairs, put_members}
 use Rattle.bson.specs.Pushed.{value_by, pairs_by, document_by, put_turns, held, is_document, key_in, Pushed, ValuePushed}

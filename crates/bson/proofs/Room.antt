@@ -8,7 +8,7 @@ use Rattle.bson_scalar.specs.declared.form.Doubles.{Doubles}
 use Rattle.bson_scalar.specs.declared.form.Form.{Form}
 use Rattle.bson_scalar.specs.declared.write_error.WriteError.{WriteError}
 use Rattle.bson_scalar.specs.declared.write_error.WriteError.TheVariants.{FiniteDouble, OutOfMemory}
-use Rattle.bson_store.specs.Order.{key_cmp, in_order}
+use Rattle.bson_store.specs.AscendingOrder.{key_cmp, sorted_by_key}
 use Rattle.bson_store.specs.Pairs.{HasDistinctKeys}
 use Rattle.bson_store.proofs.Offered.{find-in_order, lacks}
 use Rattle.bson_model.specs.Value.{Value, Values, value, Pairs, pair}
@@ -105,11 +105,11 @@ module _ (D : Doubles) (f : Form) where
       ] h
 
   room_in_order : (ps : List Entry) → HasDistinctKeys ps
-      → pairs_room D f (pairs_view (in_order ps)) ≡ pairs_room D f (pairs_view ps)
+      → pairs_room D f (pairs_view (sorted_by_key ps)) ≡ pairs_room D f (pairs_view ps)
   unfolding IsDistinct
   room_in_order [] d = refl
   room_in_order (p ∷ ps) d =
-      let put = room_put p.0 p.1 (in_order ps) (find-in_order p.0 ps ∙ lacks p.0 ps d.0) in
+      let put = room_put p.0 p.1 (sorted_by_key ps) (find-in_order p.0 ps ∙ lacks p.0 ps d.0) in
       let rest = room_in_order ps d.1 in
       omega arith
 
@@ -125,11 +125,11 @@ module _ (D : Doubles) (f : Form) where
       ] h
 
   direct_in_order : (ps : List Entry) → HasDistinctKeys ps → PairsDirect f (pairs_view ps)
-      → PairsDirect f (pairs_view (in_order ps))
+      → PairsDirect f (pairs_view (sorted_by_key ps))
   unfolding IsDistinct
   direct_in_order [] d r = tt
   direct_in_order (p ∷ ps) d r =
-      direct_put p.0 p.1 (in_order ps) (find-in_order p.0 ps ∙ lacks p.0 ps d.0) r.0 (direct_in_order ps d.1 r.1)
+      direct_put p.0 p.1 (sorted_by_key ps) (find-in_order p.0 ps ∙ lacks p.0 ps d.0) r.0 (direct_in_order ps d.1 r.1)
 
   -- what the pairs cost in the order they cost in the document's own
   pub ordered_cost : (o : KeyOrder) (ps : List Entry) → HasDistinctKeys ps → (r : Result (Unit {0}) WriteError)

@@ -3,7 +3,7 @@
 use Rattle.std.specs.Prelude.{ℕ, List, Result, Ok}
 use Rattle.serde_json.specs.Data.{Data, Items, no_items, item, Members, no_members, member, put}
 use Rattle.serde_json.specs.Data as tree
-use Rattle.bson_store.specs.Order.{in_order}
+use Rattle.bson_store.specs.AscendingOrder.{sorted_by_key}
 use Rattle.bson_scalar.specs.Written.{writes_scalar_in, Refusal, ◌>>=◌}
 use Rattle.bson_scalar.specs.declared.form.Doubles.{Doubles}
 use Rattle.bson_scalar.specs.declared.form.Form.{Form}
@@ -15,7 +15,7 @@ use Rattle.bson.specs.declared.extjson.key_order.KeyOrder.TheVariants.{Ascending
 
 -- the pairs in the order
 abbrev pub ordered : {X : Type 0} → KeyOrder → List (List ℕ × X) → List (List ℕ × X)
-ordered Ascending ps = in_order ps
+ordered Ascending ps = sorted_by_key ps
 ordered AsGiven ps = ps
 
 -- where a member goes among those of the pairs after it: only here the orders differ

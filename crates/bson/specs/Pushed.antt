@@ -4,7 +4,7 @@ use Rattle.std.specs.declared.alloc.Global.{Global}
 use Rattle.bson_text.specs.Walked.{each_key_once}
 use Rattle.bson_model.specs.Sorted.{put_pair, sorted, sorted_pairs}
 use Rattle.bson_model.specs.Value.{Value, Pairs, no_pairs, pair}
-use Rattle.bson_store.specs.Small.{stored_pairs}
+use Rattle.bson_store.specs.KeyIndex.{stored_pairs}
 use Rattle.bson.specs.View.{bson_view, document_view}
 use Rattle.bson.specs.declared.bson.Bson.{Bson}
 use Rattle.bson.specs.declared.bson.Bson.TheVariants as bson

@@ -164,7 +164,7 @@ impl Bson {
     ghost use Rattle.std.specs.Iterator.{Drains, IsFinite};
     ghost use Rattle.bson_scalar.specs.Scalar as kind;
     ghost use Rattle.bson_model.specs.Value.{array, scalar};
-    ghost use Rattle.bson_types.specs.Vectors.{vector_bytes};
+    ghost use Rattle.bson_types.specs.VectorBytes.{vector_bytes};
     ghost use Rattle.bson.specs.View.{bson_view, values_view};
 
     /// Makes a `String` of a copy of this text.

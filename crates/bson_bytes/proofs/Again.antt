@@ -6,10 +6,10 @@ use Rattle.std.proofs.lemmas.Bool.{eq-eqb, ne_eqb}
 use Rattle.std.proofs.lemmas.List.{length-append}
 use Rattle.bson_types.specs.declared.spec.ElementType.{ElementType as Kind}
 use Rattle.bson_types.specs.declared.spec.ElementType.TheVariants as tag
-use Rattle.bson_types.specs.Subtype.{subtype_of}
+use Rattle.bson_types.specs.BinarySubtypes.{subtype_of}
 use Rattle.bson_scalar.specs.Scalar as kind
 use Rattle.bson_bytes.proofs.Tagged.{kind_again}
-use Rattle.bson_types.specs.Tags.{tag_of}
+use Rattle.bson_types.specs.ElementTags.{tag_of}
 use Rattle.bson_model.specs.Value.{Value, Pairs, no_pairs}
 use Rattle.bson_model.specs.Value as model
 use Rattle.bson_bytes.specs.Grammar.{le, IsName, IsDocument, is_document, IsList, is_empty, is_element, IsValue}

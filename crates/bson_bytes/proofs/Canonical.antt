@@ -13,8 +13,8 @@ use Rattle.std.proofs.lemmas.Int.{to_z-of_z, ints}
 use Rattle.std.proofs.lemmas.List.{length-append}
 use Rattle.std.proofs.lemmas.Str.{is_utf8-from_IsUtf8, IsUtf8-from_ascii}
 use Rattle.bson_types.specs.declared.spec.ElementType.TheVariants as tag
-use Rattle.bson_types.specs.Subtype.{subtype_byte, subtype_of}
-use Rattle.bson_types.specs.Tags.{tag_of}
+use Rattle.bson_types.specs.BinarySubtypes.{subtype_byte, subtype_of}
+use Rattle.bson_types.specs.ElementTags.{tag_of}
 use Rattle.bson_scalar.specs.ElementType.{scalar_type}
 use Rattle.bson_scalar.specs.Scalar.{Scalar, null, undefined, min_key, max_key, boolean, double, int32, int64, text}
 use Rattle.bson_scalar.specs.Scalar.{symbol, code, regex, timestamp, binary, object_id, date, decimal as decimal128}

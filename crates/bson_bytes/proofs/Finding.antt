@@ -7,7 +7,7 @@ use Rattle.std.specs.Result.{is_ok}
 use Rattle.std.specs.Str.{bytes_eq}
 use Rattle.std.proofs.lemmas.Bool.{le-ltb}
 use Rattle.std.proofs.lemmas.List.{drop-drop}
-use Rattle.bson_types.specs.Tags.{tag_of}
+use Rattle.bson_types.specs.ElementTags.{tag_of}
 use Rattle.bson_types.specs.declared.spec.ElementType.{ElementType}
 use Rattle.bson_model.specs.Value.{Value, Pairs, no_pairs, pair, value_at_key}
 use Rattle.bson_bytes.specs.declared.fault.Fault.{Fault}

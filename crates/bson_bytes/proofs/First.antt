@@ -1,6 +1,6 @@
 -- A document that has no bytes has none for one cause, that of its first part which has none.
 use Rattle.std.proofs.Common.{◌≡◌, ◌⊎◌, ℕ, ◌+◌, List, length, refl, sym, ◌∙◌, inl, inr}
-use Rattle.bson_types.specs.Subtype.{subtype_byte}
+use Rattle.bson_types.specs.BinarySubtypes.{subtype_byte}
 use Rattle.bson_scalar.specs.Scalar.{Scalar, null, undefined, min_key, max_key, boolean, double, int32, int64, text}
 use Rattle.bson_scalar.specs.Scalar.{symbol, code, regex, timestamp, binary, object_id, date, decimal as decimal128}
 use Rattle.bson_scalar.specs.Scalar.{db_pointer}

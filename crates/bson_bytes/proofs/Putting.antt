@@ -8,7 +8,7 @@ use Rattle.std.specs.Int.{w32}
 use Rattle.std.proofs.lemmas.Bool.{ltb-true, ltb-false}
 use Rattle.std.proofs.lemmas.List.{take_at, drop_at, length-append, append-nil}
 use Rattle.bson_types.specs.declared.spec.ElementType.{ElementType}
-use Rattle.bson_types.specs.Subtype.{subtype_byte}
+use Rattle.bson_types.specs.BinarySubtypes.{subtype_byte}
 use Rattle.bson_scalar.specs.Scalar.{Scalar, null, undefined, min_key, max_key, boolean, double, int32, int64, text}
 use Rattle.bson_scalar.specs.Scalar.{symbol, code, regex, timestamp, binary, object_id, date, decimal as decimal128}
 use Rattle.bson_scalar.specs.Scalar.{db_pointer}

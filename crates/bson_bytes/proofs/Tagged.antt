@@ -4,7 +4,7 @@ use Rattle.std.proofs.Common.{arith}
 use Rattle.std.proofs.lemmas.Bool.{eqb-true}
 use Rattle.bson_types.specs.declared.spec.ElementType.{ElementType}
 use Rattle.bson_types.specs.declared.spec.ElementType.TheVariants as kind
-use Rattle.bson_types.specs.Tags.{tag_of}
+use Rattle.bson_types.specs.ElementTags.{tag_of}
 use Rattle.bson_bytes.specs.Tags.{named, all_types, kind_of}
 use Rattle.bson_bytes.proofs.PartLaws.{chosen}
 

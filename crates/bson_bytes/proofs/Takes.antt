@@ -8,11 +8,11 @@ use Rattle.bson_bytes.specs.declared.fault.Fault.{Fault}
 use Rattle.bson_bytes.specs.declared.fault.FaultKind.TheVariants.{Length, Tag, Boolean}
 use Rattle.bson_types.specs.declared.spec.ElementType.{ElementType as Kind}
 use Rattle.bson_types.specs.declared.spec.ElementType.TheVariants as tag
-use Rattle.bson_types.specs.Subtype.{subtype_of}
+use Rattle.bson_types.specs.BinarySubtypes.{subtype_of}
 use Rattle.bson_scalar.specs.Scalar as kind
 use Rattle.bson_bytes.proofs.Tagged.{tag_from}
 use Rattle.bson_bytes.specs.Fault.{at, ◌>>=◌, or_fault}
-use Rattle.bson_types.specs.Tags.{tag_of}
+use Rattle.bson_types.specs.ElementTags.{tag_of}
 use Rattle.bson_bytes.specs.Tags.{kind_of}
 use Rattle.bson_model.specs.Value.{Value, Pairs, no_pairs, pair}
 use Rattle.bson_model.specs.Value as model

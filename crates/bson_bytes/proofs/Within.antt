@@ -6,7 +6,7 @@ use Rattle.std.specs.Str.{is_utf8}
 use Rattle.std.proofs.lemmas.List.{length-append, length-drop}
 use Rattle.bson_types.specs.declared.spec.ElementType.{ElementType}
 use Rattle.bson_types.specs.declared.spec.ElementType.TheVariants as tag
-use Rattle.bson_types.specs.Subtype.{subtype_of}
+use Rattle.bson_types.specs.BinarySubtypes.{subtype_of}
 use Rattle.bson_scalar.specs.Scalar as kind
 use Rattle.bson_model.specs.Value.{Value, Pairs, no_pairs, pair, scalar, code_scope, array, document}
 use Rattle.bson_bytes.specs.declared.fault.Fault.{Fault}

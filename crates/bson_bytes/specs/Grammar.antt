@@ -7,8 +7,8 @@ use Rattle.std.specs.List.{AllByRecursion}
 use Rattle.std.specs.Str.{bytes_eq, is_utf8}
 use Rattle.bson_types.specs.declared.spec.ElementType.{ElementType}
 use Rattle.bson_types.specs.declared.spec.ElementType.TheVariants as tag
-use Rattle.bson_types.specs.Subtype.{subtype_of}
-use Rattle.bson_types.specs.Tags.{tag_of}
+use Rattle.bson_types.specs.BinarySubtypes.{subtype_of}
+use Rattle.bson_types.specs.ElementTags.{tag_of}
 use Rattle.bson_scalar.specs.Scalar as kind
 use Rattle.bson_model.specs.Value.{Value, Values, no_values, value, Pairs, no_pairs, pair, scalar, code_scope, array}
 use Rattle.bson_model.specs.Value.{document}

@@ -3,7 +3,7 @@ use Rattle.std.specs.Prelude.{ℕ, ◌+◌, ◌-◌, ◌^◌, List, [], ◌∷�
 use Rattle.std.specs.Prelude.{◌≡◌, is_none, nat_lt, ◌&&◌, decimal}
 use Rattle.std.specs.Int.{w32}
 use Rattle.bson_types.specs.declared.spec.ElementType.{ElementType}
-use Rattle.bson_types.specs.Subtype.{subtype_byte}
+use Rattle.bson_types.specs.BinarySubtypes.{subtype_byte}
 use Rattle.bson_scalar.specs.Scalar.{Scalar, text, symbol, code, regex, binary, db_pointer}
 use Rattle.bson_model.specs.Value.{Value, Values, no_values, value, Pairs, no_pairs, pair, scalar, code_scope, array}
 use Rattle.bson_model.specs.Value.{document}

@@ -2,7 +2,7 @@
 use Rattle.std.specs.Prelude.{ℕ, ◌==◌, if◌then◌else◌, Option, Some, None, List, [], ◌∷◌}
 use Rattle.bson_types.specs.declared.spec.ElementType.{ElementType}
 use Rattle.bson_types.specs.declared.spec.ElementType.TheVariants as tag
-use Rattle.bson_types.specs.Tags.{tag_of}
+use Rattle.bson_types.specs.ElementTags.{tag_of}
 
 -- the first of these types whose tag the byte is
 abbrev pub named : ℕ → List ElementType → Option ElementType

@@ -7,8 +7,8 @@ use Rattle.std.specs.Int.{w32, w64, cast_unsigned}
 use Rattle.std.specs.Str.{is_utf8}
 use Rattle.bson_types.specs.declared.spec.ElementType.{ElementType}
 use Rattle.bson_types.specs.declared.spec.ElementType.TheVariants as tag
-use Rattle.bson_types.specs.Subtype.{subtype_byte, subtype_of}
-use Rattle.bson_types.specs.Tags.{tag_of}
+use Rattle.bson_types.specs.BinarySubtypes.{subtype_byte, subtype_of}
+use Rattle.bson_types.specs.ElementTags.{tag_of}
 use Rattle.bson_scalar.specs.Scalar.{Scalar, null, undefined, min_key, max_key, boolean, double, int32, int64, text}
 use Rattle.bson_scalar.specs.Scalar.{symbol, code, regex, timestamp, binary, object_id, date, decimal as decimal128}
 use Rattle.bson_scalar.specs.Scalar.{db_pointer}

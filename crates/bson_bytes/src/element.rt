@@ -3,7 +3,7 @@ ghost use Rattle.std.specs.Prelude.{◌≡◌, ◌<◌, ◌≤◌, ◌-◌, ℕ,
 ghost use Rattle.bson_bytes.specs.Grammar.{one_each};
 ghost use Rattle.bson_bytes.specs.Reading.{reads_bytes};
 ghost use Rattle.bson_model.specs.Value.{Pairs};
-ghost use Rattle.bson_types.specs.Tags.{tag_of};
+ghost use Rattle.bson_types.specs.ElementTags.{tag_of};
 ghost use Rattle.bson_types.specs.declared.spec.ElementType.{ElementType};
 ghost use Rattle.bson_bytes.specs.Raw.{BeginsWithElements, BeginsWithDocument};
 ghost use Rattle.bson_bytes.specs.Elements.{IsFirstElement};

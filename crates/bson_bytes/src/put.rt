@@ -7,7 +7,7 @@ ghost use Rattle.bson_bytes.specs.Putting.{put_room, put_length, put_end, PutsBy
 ghost use Rattle.bson_bytes.specs.Writing.{name_bytes, IsWellTypedScalar};
 ghost use Rattle.bson_scalar.specs.Scalar as kind;
 ghost use Rattle.bson_types.specs.DbPointer.{namespace_of, id_of};
-ghost use Rattle.bson_types.specs.Subtype.{subtype_byte};
+ghost use Rattle.bson_types.specs.BinarySubtypes.{subtype_byte};
 
 use crate::error::Error;
 use crate::parts::is_free;

@@ -1,7 +1,7 @@
 //! Sinks of values.
 ghost use Rattle.std.specs.Prelude.{◌≤◌, Bool, true, false, List, ℕ, length, IfOk, IfErr, OnOk};
 ghost use Rattle.bson_scalar.specs.Scalar as kind;
-ghost use Rattle.bson_types.specs.Subtype.{subtype_of};
+ghost use Rattle.bson_types.specs.BinarySubtypes.{subtype_of};
 ghost use Rattle.bson_bytes.specs.Grammar.{one_each, pair_values};
 ghost use Rattle.bson_bytes.specs.Reading.{key_at};
 ghost use Rattle.bson_bytes.specs.declared.keys.DuplicateKeys.{DuplicateKeys};

@@ -2,7 +2,7 @@
 ghost use Rattle.std.specs.Prelude.{◌≡◌, ◌+◌, ◌<◌, ◌≤◌, ◌^◌, ℕ, take, drop, length, option_map, IfSome};
 ghost use Rattle.bson_bytes.specs.Reading.{split_zero};
 ghost use Rattle.bson_model.specs.Value.{Pairs};
-ghost use Rattle.bson_types.specs.Tags.{tag_of};
+ghost use Rattle.bson_types.specs.ElementTags.{tag_of};
 ghost use Rattle.bson_types.specs.declared.spec.ElementType.{ElementType};
 ghost use Rattle.bson_bytes.specs.Raw.{BeginsWithElements};
 ghost use Rattle.bson_bytes.specs.Skip.{skip, length_at, skip_sized, skip_name, skip_regex, size_in, skip_by, IsPassed};

@@ -1,7 +1,7 @@
 -- Documents and arrays that are read into memory: for private clauses.
 use Rattle.std.specs.Prelude.{◌≡◌, ℕ, Bool, List, cond, true, false, is_some}
 use Rattle.bson_store.specs.Pairs.{get}
-use Rattle.bson_store.specs.Small.{stored_pairs}
+use Rattle.bson_store.specs.KeyIndex.{stored_pairs}
 use Rattle.bson_store.specs.declared.small.Pair.{Pair}
 use Rattle.bson_model.specs.Value.{Pairs}
 use Rattle.bson_bytes.specs.Reading.{is_new}

@@ -9,7 +9,7 @@ use Rattle.jiff_core.specs.Calendar.{days_of_years, days_of_months, day_count}
 use Rattle.jiff_core.proofs.CalendarLemmas.{days_from_civil-day_count, days_of_months_mono, day_of_year_bound}
 use Rattle.jiff_core.proofs.CalendarLemmas.{days_of_months-zero}
 use Rattle.jiff_core.proofs.DateLemmas.{civil}
-use Rattle.bson_datetime.specs.Moment.{year_and_rest, month_and_rest, civil_date}
+use Rattle.bson_datetime.specs.CivilTime.{year_and_day, month_and_day, civil_date}
 
 -- the days of the year that begins so many years after -10000
 abbrev pub year_len : ℕ → ℕ
@@ -29,16 +29,16 @@ days_of_years-later k (suc more) later e =
     let before = days_of_years-later k more (suc k + more) refl in
     rw same (omega (arith, before, days_of_years-step (suc k + more)))
 
-year_stops : (more k n : ℕ) → n < year_len k → year_and_rest more k n ≡ (k, n)
-unfolding year_and_rest
+year_stops : (more k n : ℕ) → n < year_len k → year_and_day more k n ≡ (k, n)
+unfolding year_and_day
 year_stops zero k n h = refl
 year_stops (suc more) k n h =
     let test : nat_lt n (year_len k) ≡ true = grind (arith, nat_tests) in
     rw test
 
 year_goes_on : (more k n : ℕ) → year_len k ≤ n
-    → year_and_rest (suc more) k n ≡ year_and_rest more (suc k) (n - year_len k)
-unfolding year_and_rest
+    → year_and_day (suc more) k n ≡ year_and_day more (suc k) (n - year_len k)
+unfolding year_and_day
 year_goes_on more k n h =
     let test : nat_lt n (year_len k) ≡ false = grind (arith, nat_tests) in
     rw test
@@ -46,7 +46,7 @@ year_goes_on more k n h =
 -- a walk from the year k to the year y
 year_walk : (lookahead more k y n r : ℕ) → y ≡ k + lookahead → lookahead ≤ more → days_of_years k + n ≡ days_of_years y + r
     → r < year_len y
-    → year_and_rest more k n ≡ (y, r)
+    → year_and_day more k n ≡ (y, r)
 year_walk zero more k y n r at h e s =
     let same : y ≡ k = omega arith in
     let e' = rw same at e in
@@ -67,16 +67,16 @@ pub days_of_months-step : (y : ℤ) (n : ℕ) → days_of_months y (suc n) ≡ d
 unfolding days_of_months
 days_of_months-step y n = refl
 
-month_stops : (y : ℤ) (more m n : ℕ) → n < days_in_month y m → month_and_rest y more m n ≡ (m, n)
-unfolding month_and_rest
+month_stops : (y : ℤ) (more m n : ℕ) → n < days_in_month y m → month_and_day y more m n ≡ (m, n)
+unfolding month_and_day
 month_stops y zero m n h = refl
 month_stops y (suc more) m n h =
     let test : nat_lt n (days_in_month y m) ≡ true = grind (arith, nat_tests) in
     rw test
 
 month_goes_on : (y : ℤ) (more m n : ℕ) → days_in_month y m ≤ n
-    → month_and_rest y (suc more) m n ≡ month_and_rest y more (suc m) (n - days_in_month y m)
-unfolding month_and_rest
+    → month_and_day y (suc more) m n ≡ month_and_day y more (suc m) (n - days_in_month y m)
+unfolding month_and_day
 month_goes_on y more m n h =
     let test : nat_lt n (days_in_month y m) ≡ false = grind (arith, nat_tests) in
     rw test
@@ -84,7 +84,7 @@ month_goes_on y more m n h =
 -- a walk from the month k + 1 to the month t + 1
 month_walk : (y : ℤ) (lookahead more k t n r : ℕ) → t ≡ k + lookahead → lookahead ≤ more
     → days_of_months y k + n ≡ days_of_months y t + r → r < days_in_month y (suc t)
-    → month_and_rest y more (suc k) n ≡ (suc t, r)
+    → month_and_day y more (suc k) n ≡ (suc t, r)
 month_walk y zero more k t n r at h e s =
     let same : t ≡ k = omega arith in
     let e' = rw same at e in
@@ -132,13 +132,13 @@ date_found d k count since is e =
     rw year (omega (arith, day_of_year_bound d.year d.month d.day (civil d), d.day_in)) in
     let total : days_of_years 0 + count ≡ days_of_years k + rest =
     rw days_of_years-none (omega (arith, e, parts d k since)) in
-    let y : year_and_rest 20000 0 count ≡ (k, rest) =
+    let y : year_and_day 20000 0 count ≡ (k, rest) =
     year_walk k 20000 0 k count rest (omega arith) bound total inside in
     let month : suc (d.month - 1) ≡ d.month = omega (arith, d.month_in) in
     let here : d.day - 1 < days_in_month d.year (suc (d.month - 1)) = rw month (omega (arith, d.day_in)) in
     let of_year : days_of_months d.year 0 + rest ≡ days_of_months d.year (d.month - 1) + (d.day - 1) =
     rw (days_of_months-zero d.year) (omega (arith, d.day_in)) in
-    let m : month_and_rest d.year 12 1 rest ≡ (suc (d.month - 1), d.day - 1) =
+    let m : month_and_day d.year 12 1 rest ≡ (suc (d.month - 1), d.day - 1) =
     month_walk d.year (d.month - 1) 12 0 (d.month - 1) rest (d.day - 1) (omega arith)
     (omega (arith, d.month_in)) of_year here in
     let day : d.day - 1 + 1 ≡ d.day = omega (arith, d.day_in) in

@@ -11,18 +11,18 @@ use Rattle.jiff.specs.Types.{Date}
 use Rattle.jiff_core.proofs.DateLemmas.{epoch_day_range}
 use Rattle.jiff_fmt.specs.Reader.{fraction_value}
 use Rattle.jiff_fmt.proofs.ReaderLemmas.{tenth, ten_pow-pos}
-use Rattle.bson_datetime.specs.Rfc3339.{nanos_of}
-use Rattle.bson_datetime.specs.Grammar.{Names, Offset, zulu, lookahead, behind, IsOffset, offset_seconds}
+use Rattle.bson_datetime.specs.Rfc3339Parser.{nanos_of}
+use Rattle.bson_datetime.specs.Rfc3339Grammar.{DenotesDateTime, Offset, utc, plus, minus, IsOffsetInRange, offset_seconds}
 
 day_range : (y m d : ℕ) → IsCivilDate (pos y) m d → IsEpochDay (days_from_civil (pos y) m d)
 day_range y m d is =
     let date : Date = record { year = pos y; month = m; day = d; year_in = is.0; month_in = is.1; day_in = is.2 } in
     epoch_day_range date
 
-offset_range : (o : Offset) → IsOffset o → IsWithin 86_399 (offset_seconds o)
-offset_range (zulu c) h = omega (arith, signed_arith)
-offset_range (lookahead h m) is = let a : h < 24 = is.0 in let b : m < 60 = is.1 in omega (arith, signed_arith)
-offset_range (behind h m) is = let a : h < 24 = is.0 in let b : m < 60 = is.1 in omega (arith, signed_arith)
+offset_range : (o : Offset) → IsOffsetInRange o → IsWithin 86_399 (offset_seconds o)
+offset_range (utc c) h = omega (arith, signed_arith)
+offset_range (plus h m) is = let a : h < 24 = is.0 in let b : m < 60 = is.1 in omega (arith, signed_arith)
+offset_range (minus h m) is = let a : h < 24 = is.0 in let b : m < 60 = is.1 in omega (arith, signed_arith)
 
 fits : (day o : ℤ) (s n : ℕ) → IsEpochDay day → s < 86_400 → n < 1_000_000_000 → IsWithin 86_399 o
     → FitsSigned w64 (int_div (nanos_of day s n o) (pos 1_000_000))
@@ -38,7 +38,7 @@ fraction_small (suc k) (d ∷ ds) are =
     let rest = fraction_small k ds (λ i x before. are (suc i) x (omega (arith, before))) in
     omega (arith, mul-add-lt (d - 48) (10 ^ k) (fraction_value k ds) 10 worth rest, tenth (suc k) k refl)
 
-pub named_fits : (s : List ℕ) (z : ℤ) → Names s z → FitsSigned w64 z
+pub named_fits : (s : List ℕ) (z : ℤ) → DenotesDateTime s z → FitsSigned w64 z
 named_fits s z n =
     let p = n.parts in
     let r = n.in_ranges in

@@ -7,9 +7,9 @@ use Rattle.jiff.specs.Types.{Time, DateTime}
 use Rattle.jiff.specs.Words.{epoch_day}
 use Rattle.jiff.proofs.Family.{civil_nanos-parts, time_nanos_bound, civil_nanos_range}
 use Rattle.jiff.proofs.SpanFacts.{signed_arith}
-use Rattle.bson_datetime.specs.JiffSteps.{IsJiffMoment, fields_of}
-use Rattle.bson_datetime.specs.Moment.{Civil, IsCivil, IsMoment, IsCivilMillis, civil_of, day_of, time_of}
-use Rattle.bson_datetime.specs.Displayed.{date_time_text, is_civil_millis, civil_text, rfc, rfc_text}
+use Rattle.bson_datetime.specs.JiffConversion.{HasJiffTime, fields_of}
+use Rattle.bson_datetime.specs.CivilTime.{Civil, IsCivil, HasCivilTime, IsCivilMillis, civil_of, day_of_millis, time_of_millis}
+use Rattle.bson_datetime.specs.DateTimeText.{date_time_text, is_civil_millis, civil_text, rfc3339_text, civil_rfc3339_text}
 use Rattle.bson_datetime.proofs.CivilLemmas.{date_of-date, size_of}
 use Rattle.bson_datetime.proofs.MomentExists.{moment_at}
 
@@ -17,16 +17,16 @@ use Rattle.bson_datetime.proofs.MomentExists.{moment_at}
 abbrev pub time_millis : Time → ℕ
 time_millis t = (t.hour * 3600 + t.minute * 60 + t.second) * 1000 + t.subsec_nanosecond / 1_000_000
 
-day_of-moment : (ms : ℤ) (at : DateTime) → IsJiffMoment ms at → day_of ms ≡ epoch_day at.date
-day_of-moment ms at is = omega (arith, signed_arith, civil_nanos-parts at, time_nanos_bound at.time)
+day_of_millis-moment : (ms : ℤ) (at : DateTime) → HasJiffTime ms at → day_of_millis ms ≡ epoch_day at.date
+day_of_millis-moment ms at is = omega (arith, signed_arith, civil_nanos-parts at, time_nanos_bound at.time)
 
 rem_natural : (ms : ℤ) → pos 0 ≤ℤ int_rem_euclid ms (pos 86_400_000)
 rem_natural ms = omega (arith, signed_arith)
 
-time_of-moment : (ms : ℤ) (at : DateTime) → IsJiffMoment ms at → time_of ms ≡ time_millis at.time
-time_of-moment ms at is =
+time_of_millis-moment : (ms : ℤ) (at : DateTime) → HasJiffTime ms at → time_of_millis ms ≡ time_millis at.time
+time_of_millis-moment ms at is =
     let size = size_of _ (rem_natural ms) in
-    omega (arith, signed_arith, civil_nanos-parts at, time_nanos_bound at.time, size, day_of-moment ms at is)
+    omega (arith, signed_arith, civil_nanos-parts at, time_nanos_bound at.time, size, day_of_millis-moment ms at is)
 
 in_range : (ms : ℤ) → IsCivilMillis ms → is_civil_millis ms ≡ true
 in_range ms h = grind (arith, ints)
@@ -38,7 +38,7 @@ pub display_text-outside : (ms : ℤ) → ¬ (IsCivilMillis ms) → date_time_te
 unfolding date_time_text
 display_text-outside ms h = rw (out_of_range ms h)
 
-moment-range : (ms : ℤ) (at : DateTime) → IsJiffMoment ms at → IsCivilMillis ms
+moment-range : (ms : ℤ) (at : DateTime) → HasJiffTime ms at → IsCivilMillis ms
 moment-range ms at is = let range = civil_nanos_range at in (omega (arith, signed_arith), omega (arith, signed_arith))
 
 -- the fields of a time
@@ -55,12 +55,12 @@ milli_is : (t : Time) → time_millis t % 1000 ≡ t.subsec_nanosecond / 1_000_0
 milli_is t = omega arith
 
 -- the function gives the fields of jiff's date and time
-pub civil_of-jiff : (ms : ℤ) (at : DateTime) → IsJiffMoment ms at → civil_of ms ≡ fields_of at
+pub civil_of-jiff : (ms : ℤ) (at : DateTime) → HasJiffTime ms at → civil_of ms ≡ fields_of at
 unfolding civil_of
 civil_of-jiff ms at is =
     rw (
-      day_of-moment ms at is,
-      time_of-moment ms at is,
+      day_of_millis-moment ms at is,
+      time_of_millis-moment ms at is,
       date_of-date at.date,
       hour_is at.time,
       minute_is at.time,
@@ -68,19 +68,19 @@ civil_of-jiff ms at is =
       milli_is at.time,
     ) refl
 
-pub display_text-moment : (ms : ℤ) (at : DateTime) → IsJiffMoment ms at → date_time_text ms ≡ civil_text (fields_of at)
+pub display_text-moment : (ms : ℤ) (at : DateTime) → HasJiffTime ms at → date_time_text ms ≡ civil_text (fields_of at)
 unfolding date_time_text
 display_text-moment ms at is = rw (in_range ms (moment-range ms at is), civil_of-jiff ms at is) refl
 
 -- jiff's date and time has the fields of the moment
-moment-fields : (ms : ℤ) (at : DateTime) → IsJiffMoment ms at → IsMoment ms (fields_of at)
+moment-fields : (ms : ℤ) (at : DateTime) → HasJiffTime ms at → HasCivilTime ms (fields_of at)
 moment-fields ms at is = (
   ((at.date.year_in, at.date.month_in, at.date.day_in), omega arith, omega arith, omega arith, omega arith),
   omega (arith, signed_arith, civil_nanos-parts at),
 )
 
 -- each moment of the years -9999 to 9999 has the fields that the function gives
-pub moment-civil_of : (ms : ℤ) → IsCivilMillis ms → IsMoment ms (civil_of ms)
+pub moment-civil_of : (ms : ℤ) → IsCivilMillis ms → HasCivilTime ms (civil_of ms)
 moment-civil_of ms h =
     let at = moment_at ms h in
     rw (civil_of-jiff ms at.0 at.1) (moment-fields ms at.0 at.1)
@@ -116,18 +116,18 @@ fields_of-jiff_of c is =
     let whole : c.millisecond * 1_000_000 / 1_000_000 ≡ c.millisecond = omega arith in
     rw whole refl
 
-jiff_of-moment : (ms : ℤ) (c : Civil) (is : IsMoment ms c) → IsJiffMoment ms (jiff_of c is.0)
+jiff_of-moment : (ms : ℤ) (c : Civil) (is : HasCivilTime ms c) → HasJiffTime ms (jiff_of c is.0)
 unfolding jiff_of
 jiff_of-moment ms c is = omega (arith, signed_arith, civil_nanos-parts (jiff_of c is.0), is.1)
 
 -- a moment has one date and time
-pub civil_of-moment : (ms : ℤ) (c : Civil) → IsMoment ms c → civil_of ms ≡ c
+pub civil_of-moment : (ms : ℤ) (c : Civil) → HasCivilTime ms c → civil_of ms ≡ c
 civil_of-moment ms c is = civil_of-jiff ms (jiff_of c is.0) (jiff_of-moment ms c is) ∙ fields_of-jiff_of c is.0
 
 -- and is in the years that the calendar has
-pub moment-within : (ms : ℤ) (c : Civil) → IsMoment ms c → IsCivilMillis ms
+pub moment-within : (ms : ℤ) (c : Civil) → HasCivilTime ms c → IsCivilMillis ms
 moment-within ms c is = moment-range ms (jiff_of c is.0) (jiff_of-moment ms c is)
 
-pub rfc-fields : (ms : ℤ) (c : Civil) → IsMoment ms c → rfc ms ≡ rfc_text c
-unfolding rfc
+pub rfc-fields : (ms : ℤ) (c : Civil) → HasCivilTime ms c → rfc3339_text ms ≡ civil_rfc3339_text c
+unfolding rfc3339_text
 rfc-fields ms c is = rw (civil_of-moment ms c is) refl

@@ -13,12 +13,12 @@ use Rattle.std.specs.List.{All, prefix_len}
 use Rattle.jiff.specs.Words.{days_in_month}
 use Rattle.jiff.proofs.SpanFacts.{signed_arith}
 use Rattle.jiff_core.specs.Calendar.{IsCivilDate, days_from_civil}
-use Rattle.bson_datetime.specs.Grammar.{Offset, zulu, lookahead, behind, offset_text, fraction_text, IsOffset}
-use Rattle.bson_datetime.specs.Grammar.{offset_seconds, Names}
-use Rattle.bson_datetime.specs.Rfc3339.{two_digits, four_digits, digits_below, after_byte, after_letter, day_number}
-use Rattle.bson_datetime.specs.Rfc3339.{date_part, time_part, fraction_part, fraction_value, hours_minutes, offset_part}
-use Rattle.bson_datetime.specs.Rfc3339.{named_moment}
-use Rattle.bson_datetime.specs.Displayed.{two_digit_text}
+use Rattle.bson_datetime.specs.Rfc3339Grammar.{Offset, utc, plus, minus, offset_text, fraction_text, IsOffsetInRange}
+use Rattle.bson_datetime.specs.Rfc3339Grammar.{offset_seconds, DenotesDateTime}
+use Rattle.bson_datetime.specs.Rfc3339Parser.{two_digits, four_digits, two_digits_below, after_byte, after_letter, day_number}
+use Rattle.bson_datetime.specs.Rfc3339Parser.{date_part, time_part, fraction_part, fraction_value, hours_minutes, offset_part}
+use Rattle.bson_datetime.specs.Rfc3339Parser.{parsed_rfc3339_millis}
+use Rattle.bson_datetime.specs.DateTimeText.{two_digit_text}
 use Rattle.bson_datetime.proofs.ReaderLemmas.{fraction_value-nil}
 use Rattle.bson_datetime.proofs.PartsRead.{found, un_some, un_then, digit_of, two_digits-read, four_digits-read}
 use Rattle.bson_datetime.proofs.PartsRead.{digits_below-read, after-read, after_letter-read, letter_of}
@@ -95,11 +95,11 @@ record TimeRead (s : List ℕ) (n : ℕ) (rest : List ℕ) : Type 0 where
 time_part-read : (s : List ℕ) (r : ℕ × List ℕ) → time_part s ≡ Some r → TimeRead s r.0 r.1
 unfolding time_part
 time_part-read s r h =
-    let x = un_then (digits_below 24 s) _ r h in
+    let x = un_then (two_digits_below 24 s) _ r h in
     let a = un_then (after_byte 58 x.0.1) _ r x.2 in
-    let y = un_then (digits_below 60 a.0) _ r a.2 in
+    let y = un_then (two_digits_below 60 a.0) _ r a.2 in
     let b = un_then (after_byte 58 y.0.1) _ r y.2 in
-    let z = un_then (digits_below 60 b.0) _ r b.2 in
+    let z = un_then (two_digits_below 60 b.0) _ r b.2 in
     let same = un_some _ _ z.2 in
     let hour = digits_below-read 24 s x.0 x.1 in
     let minute = digits_below-read 60 a.0 y.0 y.1 in
@@ -185,9 +185,9 @@ hours_minutes-read : (s : List ℕ) (r : ℕ × List ℕ) → hours_minutes s �
     × (s ≡ two_digit_text h ++ 58 ∷ two_digit_text m ++ r.1)
 unfolding hours_minutes
 hours_minutes-read s r h =
-    let x = un_then (digits_below 24 s) _ r h in
+    let x = un_then (two_digits_below 24 s) _ r h in
     let a = un_then (after_byte 58 x.0.1) _ r x.2 in
-    let y = un_then (digits_below 60 a.0) _ r a.2 in
+    let y = un_then (two_digits_below 60 a.0) _ r a.2 in
     let same = un_some _ _ y.2 in
     let hour = digits_below-read 24 s x.0 x.1 in
     let minute = digits_below-read 60 a.0 y.0 y.1 in (
@@ -211,12 +211,12 @@ counted count n = (count n.0, n.1)
 
 record OffsetRead (s : List ℕ) (z : ℤ) (rest : List ℕ) : Type 0 where
   offset : Offset
-  is : IsOffset offset
+  is : IsOffsetInRange offset
   value : offset_seconds offset ≡ z
   text : s ≡ offset_text offset ++ rest
 
 -- hours and minutes after a sign are an offset of this kind, with these seconds
-signed-read : (sign : ℕ) (way : ℕ → ℕ → Offset) (count : ℕ → ℤ) → ((h m : ℕ) → h < 24 → m < 60 → IsOffset (way h m))
+signed-read : (sign : ℕ) (way : ℕ → ℕ → Offset) (count : ℕ → ℤ) → ((h m : ℕ) → h < 24 → m < 60 → IsOffsetInRange (way h m))
     → ((h m : ℕ) → offset_seconds (way h m) ≡ count (h * 3600 + m * 60))
     → ((h m : ℕ) (t : List ℕ) → sign ∷ two_digit_text h ++ 58 ∷ two_digit_text m ++ t ≡ offset_text (way h m) ++ t)
     → (s : List ℕ) (r : ℤ × List ℕ) → option_map (counted count) (hours_minutes s) ≡ Some r
@@ -237,7 +237,7 @@ offset-behind : (c : ℕ) (s : List ℕ) (r : ℤ × List ℕ) (t : Bool) → (c
     → OffsetRead (c ∷ s) r.0 r.1
 offset-behind c s r true e h =
     let sign : c ≡ 45 = grind (arith, nat_tests, e) in
-    rw sign (signed-read 45 behind (λ k. neg_ℤ (pos k)) (λ h m p q. (p, q)) (λ h m. refl) (λ h m t. refl) s r h)
+    rw sign (signed-read 45 minus (λ k. neg_ℤ (pos k)) (λ h m p q. (p, q)) (λ h m. refl) (λ h m t. refl) s r h)
 offset-behind c s r false e h = cc
 
 offset-lookahead : (c : ℕ) (s : List ℕ) (r : ℤ × List ℕ) (t : Bool) → (c == 43) ≡ t
@@ -246,22 +246,22 @@ offset-lookahead : (c : ℕ) (s : List ℕ) (r : ℤ × List ℕ) (t : Bool) →
     → OffsetRead (c ∷ s) r.0 r.1
 offset-lookahead c s r true e h =
     let sign : c ≡ 43 = grind (arith, nat_tests, e) in
-    rw sign (signed-read 43 lookahead pos (λ h m p q. (p, q)) (λ h m. refl) (λ h m t. refl) s r h)
+    rw sign (signed-read 43 plus pos (λ h m p q. (p, q)) (λ h m. refl) (λ h m t. refl) s r h)
 offset-lookahead c s r false e h = offset-behind c s r (c == 45) refl h
 
-offset-zulu : (c : ℕ) (s : List ℕ) (r : ℤ × List ℕ) (t : Bool) → ((c == 90) || (c == 122)) ≡ t
+offset-utc : (c : ℕ) (s : List ℕ) (r : ℤ × List ℕ) (t : Bool) → ((c == 90) || (c == 122)) ≡ t
     → (if t then found (pos 0) s else if c == 43 then option_map (counted pos) (hours_minutes s)
     else if c == 45 then option_map (counted (λ k. neg_ℤ (pos k))) (hours_minutes s) else None) ≡ Some r
     → OffsetRead (c ∷ s) r.0 r.1
-offset-zulu c s r true e h =
+offset-utc c s r true e h =
     let same = un_some _ _ h in
-    record { offset = zulu c; is = letter_of 90 c e; value = ap (λ q. q.0) same; text = ap (λ q. c ∷ q.1) same }
-offset-zulu c s r false e h = offset-lookahead c s r (c == 43) refl h
+    record { offset = utc c; is = letter_of 90 c e; value = ap (λ q. q.0) same; text = ap (λ q. c ∷ q.1) same }
+offset-utc c s r false e h = offset-lookahead c s r (c == 43) refl h
 
 offset_part-read : (s : List ℕ) (r : ℤ × List ℕ) → offset_part s ≡ Some r → OffsetRead s r.0 r.1
 unfolding offset_part
 offset_part-read [] r h = cc
-offset_part-read (c ∷ s) r h = offset-zulu c s r ((c == 90) || (c == 122)) refl h
+offset_part-read (c ∷ s) r h = offset-utc c s r ((c == 90) || (c == 122)) refl h
 
 end-test : (s : List ℕ) (x z : ℤ) (t : Bool) → (length s == 0) ≡ t → (if t then Some x else None) ≡ Some z
     → (s ≡ []) × (x ≡ z)
@@ -272,8 +272,8 @@ end-test (c ∷ s) x z true e h =
 end-test s x z false e h = cc
 
 -- a text that denotes a moment has parts that name it
-pub named_moment-names : (text : List ℕ) (ms : ℤ) → named_moment text ≡ Some ms → Names text ms
-unfolding named_moment
+pub named_moment-names : (text : List ℕ) (ms : ℤ) → parsed_rfc3339_millis text ≡ Some ms → DenotesDateTime text ms
+unfolding parsed_rfc3339_millis
 named_moment-names text ms h =
     let x = un_then (date_part text) _ ms h in
     let a = un_then (after_letter 84 x.0.1) _ ms x.2 in

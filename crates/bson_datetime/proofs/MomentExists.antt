@@ -9,8 +9,8 @@ use Rattle.jiff.proofs.SpanFacts.{signed_arith}
 use Rattle.std.specs.Int.{int_rem_euclid}
 use Rattle.jiff_core.specs.Calendar.{days_of_years, days_of_months, day_count}
 use Rattle.jiff_core.proofs.CalendarLemmas.{days_from_civil-day_count, days_of_months-zero, days_of_months_all}
-use Rattle.bson_datetime.specs.JiffSteps.{IsJiffMoment}
-use Rattle.bson_datetime.specs.Moment.{IsCivilMillis, day_of, time_of}
+use Rattle.bson_datetime.specs.JiffConversion.{HasJiffTime}
+use Rattle.bson_datetime.specs.CivilTime.{IsCivilMillis, day_of_millis, time_of_millis}
 use Rattle.bson_datetime.proofs.CivilLemmas.{year_len, days_of_years-step, days_of_months-step, size_of, unfold_count}
 
 -- a number of days is in a year
@@ -112,16 +112,16 @@ unfolding time_at
 time_nanos-time_at n h = omega arith
 
 -- a millisecond is a day and the milliseconds of the day
-split : (ms : ℤ) → (ms ≡ day_of ms *ℤ pos 86_400_000 +ℤ pos (time_of ms)) × (time_of ms < 86_400_000)
+split : (ms : ℤ) → (ms ≡ day_of_millis ms *ℤ pos 86_400_000 +ℤ pos (time_of_millis ms)) × (time_of_millis ms < 86_400_000)
 split ms =
     let natural : pos 0 ≤ℤ int_rem_euclid ms (pos 86_400_000) = omega (arith, signed_arith) in
     let size = size_of _ natural in
     (omega (arith, signed_arith, size), omega (arith, signed_arith, size))
 
-pub moment_at : (ms : ℤ) → IsCivilMillis ms → (at : DateTime) × IsJiffMoment ms at
+pub moment_at : (ms : ℤ) → IsCivilMillis ms → (at : DateTime) × HasJiffTime ms at
 moment_at ms h =
     let parts = split ms in
-    let date = date_of_day (day_of ms) (omega (arith, signed_arith, parts), omega (arith, signed_arith, parts)) in
-    let time = time_at (time_of ms) parts.1 in
+    let date = date_of_day (day_of_millis ms) (omega (arith, signed_arith, parts), omega (arith, signed_arith, parts)) in
+    let time = time_at (time_of_millis ms) parts.1 in
     let at : DateTime = record { date = date.0; time = time } in
-    (at, omega (arith, signed_arith, civil_nanos-parts at, date.1, time_nanos-time_at (time_of ms) parts.1, parts.0))
+    (at, omega (arith, signed_arith, civil_nanos-parts at, date.1, time_nanos-time_at (time_of_millis ms) parts.1, parts.0))

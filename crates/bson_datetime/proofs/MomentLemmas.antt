@@ -5,7 +5,7 @@ use Rattle.jiff.specs.Words.{epoch_day}
 use Rattle.jiff.proofs.Family.{epoch_day-lt, civil_nanos-parts, time_nanos_bound}
 use Rattle.jiff.proofs.SpanFacts.{signed_arith}
 use Rattle.jiff_core.specs.Calendar.{days_from_civil, day_count, days_of_years, days_of_months}
-use Rattle.bson_datetime.specs.JiffSteps.{IsJiffMoment}
+use Rattle.bson_datetime.specs.JiffConversion.{HasJiffTime}
 
 -- the last day before the year 0000
 last_before : Date
@@ -44,12 +44,12 @@ year-natural d h =
     omega (arith, signed_arith, epoch_day-lt last_before d (inl before), epoch_day-last_before)
 
 -- a moment before the year 0 is a millisecond before -62167219200000
-pub moment-negative : (ms : ℤ) (at : DateTime) → IsJiffMoment ms at → at.date.year <ℤ pos 0
+pub moment-negative : (ms : ℤ) (at : DateTime) → HasJiffTime ms at → at.date.year <ℤ pos 0
     → ms <ℤ neg_ℤ (pos 62_167_219_200_000)
 moment-negative ms at is h =
     omega (arith, signed_arith, civil_nanos-parts at, time_nanos_bound at.time, year-negative at.date h)
 
-pub moment-natural : (ms : ℤ) (at : DateTime) → IsJiffMoment ms at → pos 0 ≤ℤ at.date.year
+pub moment-natural : (ms : ℤ) (at : DateTime) → HasJiffTime ms at → pos 0 ≤ℤ at.date.year
     → neg_ℤ (pos 62_167_219_200_000) ≤ℤ ms
 moment-natural ms at is h =
     omega (arith, signed_arith, civil_nanos-parts at, time_nanos_bound at.time, year-natural at.date h)
@@ -63,7 +63,7 @@ pub natural_year : (z : ℤ) → pos 0 ≤ℤ z → (n : ℕ) × (z ≡ pos n)
 natural_year z h = natural z (λ low. omega (arith, signed_arith))
 
 -- from -62167219200000 on the year is a natural number
-pub moment-not_negative : (ms : ℤ) (at : DateTime) → IsJiffMoment ms at → neg_ℤ (pos 62_167_219_200_000) ≤ℤ ms
+pub moment-not_negative : (ms : ℤ) (at : DateTime) → HasJiffTime ms at → neg_ℤ (pos 62_167_219_200_000) ≤ℤ ms
     → (y : ℕ) × (at.date.year ≡ pos y)
 moment-not_negative ms at is h =
     natural at.date.year (λ low. omega (arith, signed_arith, moment-negative ms at is low))

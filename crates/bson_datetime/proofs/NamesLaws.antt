@@ -6,11 +6,11 @@ use Rattle.std.specs.Char.{IsAsciiDigit, is_ascii_digit}
 use Rattle.std.specs.List.{All, prefix_len}
 use Rattle.jiff.specs.Types.{Date, Time}
 use Rattle.jiff_core.specs.Calendar.{IsCivilDate, days_from_civil}
-use Rattle.bson_datetime.specs.Grammar.{Offset, zulu, lookahead, behind, offset_text, fraction_text, IsLetter, IsOffset}
-use Rattle.bson_datetime.specs.Grammar.{offset_seconds, Names}
-use Rattle.bson_datetime.specs.Rfc3339.{after_byte, after_letter, date_part, time_part, fraction_part, fraction_value}
-use Rattle.bson_datetime.specs.Rfc3339.{hours_minutes, offset_part, named_moment}
-use Rattle.bson_datetime.specs.Displayed.{two_digit_text}
+use Rattle.bson_datetime.specs.Rfc3339Grammar.{Offset, utc, plus, minus, offset_text, fraction_text, IsLetterOfEitherCase, IsOffsetInRange}
+use Rattle.bson_datetime.specs.Rfc3339Grammar.{offset_seconds, DenotesDateTime}
+use Rattle.bson_datetime.specs.Rfc3339Parser.{after_byte, after_letter, date_part, time_part, fraction_part, fraction_value}
+use Rattle.bson_datetime.specs.Rfc3339Parser.{hours_minutes, offset_part, parsed_rfc3339_millis}
+use Rattle.bson_datetime.specs.DateTimeText.{two_digit_text}
 use Rattle.bson_datetime.proofs.ReaderLemmas.{fraction_value-nil}
 use Rattle.bson_datetime.proofs.RoundTrip.{digits_below-pad2, date_part-text, time_part-text}
 use Rattle.bson_datetime.proofs.PartsRead.{un_some, some_none, digit_test}
@@ -39,7 +39,7 @@ time-parts h m s rest hour minute second =
     } in
     time_part-text time rest
 
-letter-parts : (upper c : ℕ) (rest : List ℕ) → IsLetter upper c → after_letter upper (c ∷ rest) ≡ Some rest
+letter-parts : (upper c : ℕ) (rest : List ℕ) → IsLetterOfEitherCase upper c → after_letter upper (c ∷ rest) ≡ Some rest
 unfolding after_letter
 letter-parts upper c rest (inl e) =
     let test : (c == upper) ≡ true = grind (arith, nat_tests, e) in
@@ -80,28 +80,28 @@ unfolding fraction_part
 fraction-parts [] c rest are none point = rw point (ap (λ n. Some (n, c ∷ rest)) (sym (fraction_value-nil 9)))
 fraction-parts (d ∷ ds) c rest are none point = fraction-some (d ∷ ds) c rest (omega arith) are none
 
-offset-parts : (o : Offset) → IsOffset o → offset_part (offset_text o) ≡ Some (offset_seconds o, [])
+offset-parts : (o : Offset) → IsOffsetInRange o → offset_part (offset_text o) ≡ Some (offset_seconds o, [])
 unfolding offset_part hours_minutes after_byte
-offset-parts (zulu c) (inl e) = rw e refl
-offset-parts (zulu c) (inr e) = rw e refl
-offset-parts (lookahead h m) is =
+offset-parts (utc c) (inl e) = rw e refl
+offset-parts (utc c) (inr e) = rw e refl
+offset-parts (plus h m) is =
     rw (digits_below-pad2 24 h (58 ∷ two_digit_text m) is.0 (omega arith), digits_below-pad2 60 m [] is.1 (omega arith))
     refl
-offset-parts (behind h m) is =
+offset-parts (minus h m) is =
     rw (digits_below-pad2 24 h (58 ∷ two_digit_text m) is.0 (omega arith), digits_below-pad2 60 m [] is.1 (omega arith))
     refl
 
 -- the fraction before an offset
-fraction-offset : (ds : List ℕ) (o : Offset) → All IsAsciiDigit ds → IsOffset o
+fraction-offset : (ds : List ℕ) (o : Offset) → All IsAsciiDigit ds → IsOffsetInRange o
     → fraction_part (fraction_text ds ++ offset_text o) ≡ Some (fraction_value 9 ds, offset_text o)
-fraction-offset ds (zulu c) are (inl e) = rw e (fraction-parts ds 90 [] are refl refl)
-fraction-offset ds (zulu c) are (inr e) = rw e (fraction-parts ds 122 [] are refl refl)
-fraction-offset ds (lookahead h m) are is = fraction-parts ds 43 (two_digit_text h ++ 58 ∷ two_digit_text m) are refl refl
-fraction-offset ds (behind h m) are is = fraction-parts ds 45 (two_digit_text h ++ 58 ∷ two_digit_text m) are refl refl
+fraction-offset ds (utc c) are (inl e) = rw e (fraction-parts ds 90 [] are refl refl)
+fraction-offset ds (utc c) are (inr e) = rw e (fraction-parts ds 122 [] are refl refl)
+fraction-offset ds (plus h m) are is = fraction-parts ds 43 (two_digit_text h ++ 58 ∷ two_digit_text m) are refl refl
+fraction-offset ds (minus h m) are is = fraction-parts ds 45 (two_digit_text h ++ 58 ∷ two_digit_text m) are refl refl
 
-names-named_moment : (text : List ℕ) (ms : ℤ) → Names text ms → named_moment text ≡ Some ms
-unfolding named_moment
-names-named_moment text ms n =
+names-parsed_rfc3339_millis : (text : List ℕ) (ms : ℤ) → DenotesDateTime text ms → parsed_rfc3339_millis text ≡ Some ms
+unfolding parsed_rfc3339_millis
+names-parsed_rfc3339_millis text ms n =
     let p = n.parts in
     let r = n.in_ranges in
     let after_second = fraction_text p.fraction ++ offset_text p.offset in
@@ -117,13 +117,13 @@ names-named_moment text ms n =
     ) (ap (λ z. Some z) (sym n.moment))
 
 -- what is read from the front of a text is the moment that its parts name
-pub denotes-names : (text : List ℕ) (ms : ℤ) → (named_moment text ≡ Some ms) ↔ Names text ms
-denotes-names text ms = (named_moment-names text ms, names-named_moment text ms)
+pub denotes-names : (text : List ℕ) (ms : ℤ) → (parsed_rfc3339_millis text ≡ Some ms) ↔ DenotesDateTime text ms
+denotes-names text ms = (named_moment-names text ms, names-parsed_rfc3339_millis text ms)
 
 -- where a text names none, none is read
-pub denotes-none : (text : List ℕ) → named_moment text ≡ None → (ms : ℤ) → ¬ (Names text ms)
-denotes-none text none ms n = some_none ms (sym (names-named_moment text ms n) ∙ none)
+pub denotes-none : (text : List ℕ) → parsed_rfc3339_millis text ≡ None → (ms : ℤ) → ¬ (DenotesDateTime text ms)
+denotes-none text none ms n = some_none ms (sym (names-parsed_rfc3339_millis text ms n) ∙ none)
 
 -- a text names one moment
-pub names-one : (text : List ℕ) (a b : ℤ) → Names text a → Names text b → a ≡ b
-names-one text a b n m = un_some a b (sym (names-named_moment text a n) ∙ names-named_moment text b m)
+pub names-one : (text : List ℕ) (a b : ℤ) → DenotesDateTime text a → DenotesDateTime text b → a ≡ b
+names-one text a b n m = un_some a b (sym (names-parsed_rfc3339_millis text a n) ∙ names-parsed_rfc3339_millis text b m)

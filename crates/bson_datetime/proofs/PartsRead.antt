@@ -5,12 +5,12 @@ use Rattle.std.specs.Prelude.{if◌then◌else◌, unwrap_or}
 use Rattle.std.proofs.lemmas.Bool.{and_parts}
 use Rattle.std.proofs.lemmas.Bool.Decides.{nat_tests}
 use Rattle.std.specs.Char.{IsAsciiDigit, is_ascii_digit}
-use Rattle.bson_datetime.specs.Grammar.{IsLetter}
-use Rattle.bson_datetime.specs.Rfc3339.{Read, ◌>>=◌, two_digits, four_digits, digits_below, after_byte, after_letter}
-use Rattle.bson_datetime.specs.Displayed.{two_digit_text}
+use Rattle.bson_datetime.specs.Rfc3339Grammar.{IsLetterOfEitherCase}
+use Rattle.bson_datetime.specs.Rfc3339Parser.{Parsed, ◌>>=◌, two_digits, four_digits, two_digits_below, after_byte, after_letter}
+use Rattle.bson_datetime.specs.DateTimeText.{two_digit_text}
 
 -- a value read from the front of a text, and the text after it
-abbrev pub found : {A : Type 0} → A → List ℕ → Read A
+abbrev pub found : {A : Type 0} → A → List ℕ → Parsed A
 found x rest = Some (x, rest)
 
 pub un_some : {A : Type 0} (x y : A) → Some x ≡ Some y → x ≡ y
@@ -80,20 +80,20 @@ four_digits-read s r h =
     four_digits-text century.0.0 year.0.0 r.0 s century.0.1 year.0.1 r.1 c.0 y.0 c.1 y.1 (ap (λ q. q.0) same)
     (ap (λ q. q.1) same)
 
-digits_below-test : (bound : ℕ) (x r : ℕ × List ℕ) (t : Bool) → nat_le bound x.0 ≡ t
+two_digits_below-test : (bound : ℕ) (x r : ℕ × List ℕ) (t : Bool) → nat_le bound x.0 ≡ t
     → (if t then None else Some x) ≡ Some r → (r.0 < bound) × (x ≡ r)
-digits_below-test bound x r true e h = cc
-digits_below-test bound x r false e h =
+two_digits_below-test bound x r true e h = cc
+two_digits_below-test bound x r false e h =
     let same = un_some x r h in
     let below : x.0 < bound = grind (arith, nat_tests, e) in
     (rw (← same) below, same)
 
-pub digits_below-read : (bound : ℕ) (s : List ℕ) (r : ℕ × List ℕ) → digits_below bound s ≡ Some r
+pub digits_below-read : (bound : ℕ) (s : List ℕ) (r : ℕ × List ℕ) → two_digits_below bound s ≡ Some r
     → (r.0 < bound) × (s ≡ two_digit_text r.0 ++ r.1)
-unfolding digits_below
+unfolding two_digits_below
 digits_below-read bound s r h =
     let n = un_then (two_digits s) _ r h in
-    let below = digits_below-test bound n.0 r (nat_le bound n.0.0) refl n.2 in
+    let below = two_digits_below-test bound n.0 r (nat_le bound n.0.0) refl n.2 in
     (below.0, rw (← below.1) (two_digits-read s n.0 n.1).1)
 
 after-test : (byte c : ℕ) (s rest : List ℕ) (t : Bool) → (c == byte) ≡ t → (if t then Some s else None) ≡ Some rest
@@ -108,21 +108,21 @@ unfolding after_byte
 after-read byte [] rest h = cc
 after-read byte (c ∷ s) rest h = after-test byte c s rest (c == byte) refl h
 
-letter-test : (upper c : ℕ) (t : Bool) → (c == upper) ≡ t → (t || (c == upper + 32)) ≡ true → IsLetter upper c
+letter-test : (upper c : ℕ) (t : Bool) → (c == upper) ≡ t → (t || (c == upper + 32)) ≡ true → IsLetterOfEitherCase upper c
 letter-test upper c true e h = inl (grind (arith, nat_tests, e))
 letter-test upper c false e h = inr (grind (arith, nat_tests, h))
 
-pub letter_of : (upper c : ℕ) → ((c == upper) || (c == upper + 32)) ≡ true → IsLetter upper c
+pub letter_of : (upper c : ℕ) → ((c == upper) || (c == upper + 32)) ≡ true → IsLetterOfEitherCase upper c
 letter_of upper c e = letter-test upper c (c == upper) refl e
 
 after_letter-test : (upper c : ℕ) (s rest : List ℕ) (t : Bool) → ((c == upper) || (c == upper + 32)) ≡ t
     → (if t then Some s else None) ≡ Some rest
-    → IsLetter upper c × (s ≡ rest)
+    → IsLetterOfEitherCase upper c × (s ≡ rest)
 after_letter-test upper c s rest true e h = (letter_of upper c e, un_some s rest h)
 after_letter-test upper c s rest false e h = cc
 
 pub after_letter-read : (upper : ℕ) (s rest : List ℕ) → after_letter upper s ≡ Some rest
-    → (c : ℕ) × IsLetter upper c × (s ≡ c ∷ rest)
+    → (c : ℕ) × IsLetterOfEitherCase upper c × (s ≡ c ∷ rest)
 unfolding after_letter
 after_letter-read upper [] rest h = cc
 after_letter-read upper (c ∷ s) rest h =

@@ -11,8 +11,8 @@ use Rattle.jiff.proofs.SpanFacts.{signed_arith}
 use Rattle.jiff_fmt.specs.Text.{places, fraction, fraction_part, significant, trailing_zeros}
 use Rattle.jiff_fmt.proofs.TextLemmas.{trailing_zeros-step, trailing_zeros-stop, trailing_zeros-end, places-step}
 use Rattle.jiff_fmt.proofs.TextLemmas.{places-end, significant-not_zero}
-use Rattle.bson_datetime.specs.JiffSteps.{IsJiffMoment}
-use Rattle.bson_datetime.specs.Displayed.{rfc, thousandths_text}
+use Rattle.bson_datetime.specs.JiffConversion.{HasJiffTime}
+use Rattle.bson_datetime.specs.DateTimeText.{rfc3339_text, thousandths_text}
 use Rattle.bson_datetime.proofs.DisplayedLemmas.{civil_of-jiff}
 
 -- the six zeros of a whole millisecond, in nanoseconds
@@ -131,9 +131,9 @@ fraction_part-millis k small =
     ]
 
 -- jiff's text of the date and time, and `Z`
-pub rfc-jiff : (ms : ℤ) (at : DateTime) (y : ℕ) → IsJiffMoment ms at → at.date.year ≡ pos y
-    → rfc ms ≡ iso_datetime_text at ++ 90 ∷ []
-unfolding rfc
+pub rfc-jiff : (ms : ℤ) (at : DateTime) (y : ℕ) → HasJiffTime ms at → at.date.year ≡ pos y
+    → rfc3339_text ms ≡ iso_datetime_text at ++ 90 ∷ []
+unfolding rfc3339_text
 rfc-jiff ms at y is year =
     let k = at.time.subsec_nanosecond / 1_000_000 in
     let whole : k * 1_000_000 ≡ at.time.subsec_nanosecond = omega (arith, signed_arith, civil_nanos-parts at) in

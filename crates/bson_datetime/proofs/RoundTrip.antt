@@ -17,11 +17,11 @@ use Rattle.jiff_fmt.specs.Reader.{fraction_value}
 use Rattle.jiff_fmt.proofs.TextLemmas.{places-read, trailing_zeros-le, trailing_zeros-mod, significant-not_zero}
 use Rattle.jiff_core.specs.Time.{time_seconds}
 use Rattle.jiff_core.proofs.CalendarLemmas.{days_in_month_bounds}
-use Rattle.bson_datetime.specs.JiffSteps.{IsJiffMoment}
-use Rattle.bson_datetime.specs.Rfc3339.{two_digits, four_digits, digits_below, after_byte, after_letter, day_number}
-use Rattle.bson_datetime.specs.Rfc3339.{date_part, time_part, fraction_part, offset_part, named_moment, nanos_of}
-use Rattle.bson_datetime.specs.Moment.{IsRfcMillis}
-use Rattle.bson_datetime.specs.Displayed.{rfc}
+use Rattle.bson_datetime.specs.JiffConversion.{HasJiffTime}
+use Rattle.bson_datetime.specs.Rfc3339Parser.{two_digits, four_digits, two_digits_below, after_byte, after_letter, day_number}
+use Rattle.bson_datetime.specs.Rfc3339Parser.{date_part, time_part, fraction_part, offset_part, parsed_rfc3339_millis, nanos_of}
+use Rattle.bson_datetime.specs.CivilTime.{IsRfc3339Millis}
+use Rattle.bson_datetime.specs.DateTimeText.{rfc3339_text}
 use Rattle.bson_datetime.proofs.MomentExists.{moment_at}
 use Rattle.bson_datetime.proofs.RfcLemmas.{rfc-jiff}
 use Rattle.bson_datetime.proofs.MomentLemmas.{moment-not_negative}
@@ -43,8 +43,8 @@ four_digits-pad4 n rest h =
     rw (a, b, value)
 
 pub digits_below-pad2 : (bound n : ℕ) (rest : List ℕ) → n < bound → bound ≤ 100
-    → digits_below bound (pad2 n ++ rest) ≡ Some (n, rest)
-unfolding digits_below
+    → two_digits_below bound (pad2 n ++ rest) ≡ Some (n, rest)
+unfolding two_digits_below
 digits_below-pad2 bound n rest h k =
     let below : nat_le bound n ≡ false = grind (arith, nat_tests) in
     rw (two_digits-pad2 n rest (omega arith), below)
@@ -124,10 +124,10 @@ nanos_of-moment : (at : DateTime)
     → nanos_of (epoch_day at.date) (time_seconds at.time) at.time.subsec_nanosecond (pos 0) ≡ civil_nanos at
 nanos_of-moment at = omega (arith, signed_arith, civil_nanos-parts at)
 
-named_moment-parts : (at : DateTime) (y : ℕ) (ms : ℤ) → at.date.year ≡ pos y → y < 10_000 → IsJiffMoment ms at
-    → named_moment (iso_datetime_text at ++ 90 ∷ []) ≡ Some ms
-unfolding named_moment after_letter offset_part
-named_moment-parts at y ms year small is =
+parsed_rfc3339_millis-parts : (at : DateTime) (y : ℕ) (ms : ℤ) → at.date.year ≡ pos y → y < 10_000 → HasJiffTime ms at
+    → parsed_rfc3339_millis (iso_datetime_text at ++ 90 ∷ []) ≡ Some ms
+unfolding parsed_rfc3339_millis after_letter offset_part
+parsed_rfc3339_millis-parts at y ms year small is =
     let d = at.date in
     let t = at.time in
     let after_second = fraction_text None t.subsec_nanosecond ++ 90 ∷ [] in
@@ -145,14 +145,14 @@ named_moment-parts at y ms year small is =
     )
 
 -- the text of a millisecond of the years 0000 to 9999 denotes it, where jiff has its moment
-pub denoted_moment : (ms : ℤ) (at : DateTime) → IsJiffMoment ms at → IsRfcMillis ms → named_moment (rfc ms) ≡ Some ms
+pub denoted_moment : (ms : ℤ) (at : DateTime) → HasJiffTime ms at → IsRfc3339Millis ms → parsed_rfc3339_millis (rfc3339_text ms) ≡ Some ms
 denoted_moment ms at is h =
     let year = moment-not_negative ms at is h.0 in
     rw (rfc-jiff ms at year.0 is year.1)
-    (named_moment-parts at year.0 ms year.1 (omega (arith, signed_arith, at.date.year_in, year.1)) is)
+    (parsed_rfc3339_millis-parts at year.0 ms year.1 (omega (arith, signed_arith, at.date.year_in, year.1)) is)
 
 -- every millisecond of the years 0000 to 9999 comes back from its text
-pub named_moment-rfc : (ms : ℤ) → IsRfcMillis ms → named_moment (rfc ms) ≡ Some ms
+pub named_moment-rfc : (ms : ℤ) → IsRfc3339Millis ms → parsed_rfc3339_millis (rfc3339_text ms) ≡ Some ms
 named_moment-rfc ms h =
     let at = moment_at ms (omega (arith, signed_arith, h.0), h.1) in
     denoted_moment ms at.0 at.1 h

@@ -4,7 +4,7 @@ ghost use Rattle.std.specs.Prelude.{◌≡◌, ◌↔◌, IsOk, IfOk, IfErr};
 ghost use Rattle.jiff.specs.Words.{IsEpochDay};
 ghost use Rattle.jiff_core.specs.Calendar.{IsCivilDate, days_from_civil};
 ghost use Rattle.bson_datetime.specs.Errors.{IsInvalidFor, IsInvalidTimestamp};
-ghost use Rattle.bson_datetime.specs.Moment.{IsCivil, IsMoment, IsTimeOfDay, civil_of};
+ghost use Rattle.bson_datetime.specs.CivilTime.{IsCivil, HasCivilTime, IsTimeOfDay, civil_of};
 
 use crate::error::Message;
 use crate::{DateTime, Error, Result};
@@ -68,9 +68,9 @@ struct TimeOfDay {
 }
 
 impl Default for DateTimeBuilder<NoYear, NoMonth, NoDay> {
-    ghost use Rattle.bson_datetime.specs.Builder.{unset};
+    ghost use Rattle.bson_datetime.specs.Builder.{empty_builder};
 
-    ghost is_default = { λ builder. builder ≡ unset };
+    ghost is_default = { λ builder. builder ≡ empty_builder };
 
     fn default() -> Self {
         DateTimeBuilder {
@@ -185,7 +185,7 @@ impl DateTimeBuilder<Year, Month, Day> {
     ///   range or does not exist.
     pub fn build(self) -> Result<DateTime>
         ensures exists { IsOk result ↔ IsCivil (civil_fields self) }
-        ensures value { IfOk result (λ ms. IsMoment ms (civil_fields self)) }
+        ensures value { IfOk result (λ ms. HasCivilTime ms (civil_fields self)) }
         ensures fields { IfOk result (λ ms. civil_of ms ≡ civil_fields self) }
         ensures err { IfErr result IsInvalidTimestamp }
         ensures time { ¬ (IsTimeOfDay (civil_fields self)) → IfErr result (IsInvalidFor Message.NoSuchTime) }

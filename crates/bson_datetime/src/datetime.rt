@@ -3,9 +3,9 @@
 ghost use Rattle.std.specs.Prelude.{◌≡◌, ◌↔◌, pos, ℤ, ◌+ℤ◌, ◌-ℤ◌, ◌<ℤ◌, IsSome, IsNone, IfSome};
 ghost use Rattle.std.specs.Int.{saturate_signed, w64};
 ghost use Rattle.std.specs.Duration.{as_nanos};
-ghost use Rattle.bson_datetime.specs.Moment.{Civil, IsMoment, IsCivilMillis, civil_of};
-ghost use Rattle.bson_datetime.specs.Sums.{sum_with, millis_since, nanos_of_millis};
-ghost use Rattle.bson_datetime.specs.JiffSteps.{IsJiffMoment};
+ghost use Rattle.bson_datetime.specs.CivilTime.{Civil, HasCivilTime, IsCivilMillis, civil_of};
+ghost use Rattle.bson_datetime.specs.DateTimeSums.{saturating_sum, millis_since, nanos_of_millis};
+ghost use Rattle.bson_datetime.specs.JiffConversion.{HasJiffTime};
 
 use crate::builder::{DateTimeBuilder, NoDay, NoMonth, NoYear};
 use crate::display::CivilText;
@@ -40,7 +40,7 @@ impl Model for DateTime {
 }
 
 impl DateTime {
-    ghost use Rattle.bson_datetime.specs.Builder.{unset};
+    ghost use Rattle.bson_datetime.specs.Builder.{empty_builder};
 
     /// The last date-time: 2^63 - 1 milliseconds after 1970-01-01T00:00:00Z.
     pub const MAX: DateTime = DateTime { millis: i64::MAX };
@@ -50,7 +50,7 @@ impl DateTime {
 
     /// Makes a builder with no field set.
     pub fn builder() -> DateTimeBuilder<NoYear, NoMonth, NoDay>
-        ensures { result ≡ unset }
+        ensures { result ≡ empty_builder }
     {
         DateTimeBuilder::default()
     }
@@ -69,8 +69,8 @@ impl DateTime {
 
         // A date-time of the years -9999 to 9999 has one date and time, which its strings show.
         // No other date-time has one.
-        ensures exists { IsCivilMillis self → IsMoment self (civil_of self) }
-        ensures only { (c : Civil) → IsMoment self c → IsCivilMillis self × (civil_of self ≡ c) }
+        ensures exists { IsCivilMillis self → HasCivilTime self (civil_of self) }
+        ensures only { (c : Civil) → HasCivilTime self c → IsCivilMillis self × (civil_of self ≡ c) }
     {
         self.millis
     }
@@ -89,7 +89,7 @@ impl DateTime {
     /// Adds the whole milliseconds of a duration exactly, but returns no date-time later than
     /// `MAX`.
     pub fn saturating_add_duration(self, duration: Duration) -> DateTime
-        ensures { result ≡ sum_with self duration }
+        ensures { result ≡ saturating_sum self duration }
     {
         let sum = self.millis as i128 + duration.as_millis() as i128;
         DateTime {
@@ -121,8 +121,8 @@ impl DateTime {
     // The date and time, if the year is -9999 to 9999.
     pub(crate) fn civil(self) -> Option<civil::DateTime>
         ensures exists { IsSome result ↔ IsCivilMillis self }
-        ensures value { IfSome result (IsJiffMoment self) }
-        ensures fields { IsCivilMillis self → IsMoment self (civil_of self) }
+        ensures value { IfSome result (HasJiffTime self) }
+        ensures fields { IsCivilMillis self → HasCivilTime self (civil_of self) }
     {
         match jiff_core::civil::DateTime::from_nanosecond(self.millis as i128 * 1_000_000) {
             Ok(at) => Some(civil::DateTime::from_plain(at)),
@@ -133,10 +133,10 @@ impl DateTime {
 
 impl DateTime {
     ghost use Rattle.std.specs.Prelude.{Ok, Some, OnOk, IfOk, IfErr, string_bytes, ◌⊎◌};
-    ghost use Rattle.bson_datetime.specs.Moment.{IsRfcMillis};
-    ghost use Rattle.bson_datetime.specs.Rfc3339.{named_moment};
-    ghost use Rattle.bson_datetime.specs.Grammar.{Names};
-    ghost use Rattle.bson_datetime.specs.Displayed.{rfc, rfc_text};
+    ghost use Rattle.bson_datetime.specs.CivilTime.{IsRfc3339Millis};
+    ghost use Rattle.bson_datetime.specs.Rfc3339Parser.{parsed_rfc3339_millis};
+    ghost use Rattle.bson_datetime.specs.Rfc3339Grammar.{DenotesDateTime};
+    ghost use Rattle.bson_datetime.specs.DateTimeText.{rfc3339_text, civil_rfc3339_text};
     ghost use Rattle.bson_datetime.specs.Errors.{IsCannotFormat, IsInvalidFor, IsInvalidTimestamp};
     ghost use Rattle.bson_datetime.specs.Errors.{IsOutOfMemory};
 
@@ -149,12 +149,12 @@ impl DateTime {
     /// - `CannotFormat`: the date-time is outside the years 0000 to 9999.
     /// - `OutOfMemory`: a request for memory was refused.
     pub fn try_to_rfc3339_string(self, alloc: Global) -> Result<String>
-        ensures ok { IfOk result (λ text. string_bytes text ≡ rfc self) }
-        ensures fields { IfOk result (λ text. (c : Civil) → IsMoment self c → string_bytes text ≡ rfc_text c) }
-        ensures reads_back { IfOk result (λ text. Names (string_bytes text) self) }
+        ensures ok { IfOk result (λ text. string_bytes text ≡ rfc3339_text self) }
+        ensures fields { IfOk result (λ text. (c : Civil) → HasCivilTime self c → string_bytes text ≡ civil_rfc3339_text c) }
+        ensures reads_back { IfOk result (λ text. DenotesDateTime (string_bytes text) self) }
 
-        ensures in_years { OnOk result (IsRfcMillis self) }
-        ensures err { IfErr result (λ e. (IsCannotFormat e × ¬ (IsRfcMillis self)) ⊎ IsOutOfMemory e) }
+        ensures in_years { OnOk result (IsRfc3339Millis self) }
+        ensures err { IfErr result (λ e. (IsCannotFormat e × ¬ (IsRfc3339Millis self)) ⊎ IsOutOfMemory e) }
     {
         let Some(at) = self.civil() else {
             return Err(CANNOT_FORMAT);
@@ -179,17 +179,17 @@ impl DateTime {
     /// - `InvalidTimestamp` with `NotRfc3339`: the string has another form, or one of its parts is
     ///   out of range. A second of 60 is out of range.
     pub fn parse_rfc3339_str(text: &str) -> Result<DateTime>
-        ensures ok { IfOk result (λ ms. Names text.now ms) }
-        ensures refused { IfErr result (λ e. IsInvalidTimestamp e × ((ms : ℤ) → ¬ (Names text.now ms))) }
+        ensures ok { IfOk result (λ ms. DenotesDateTime text.now ms) }
+        ensures refused { IfErr result (λ e. IsInvalidTimestamp e × ((ms : ℤ) → ¬ (DenotesDateTime text.now ms))) }
         ensures message { IfErr result (IsInvalidFor Message.NotRfc3339) }
 
-        // A string denotes at most one date-time. `named_moment`, which reads it from its start,
+        // A string denotes at most one date-time. `parsed_rfc3339_millis`, which reads it from its start,
         // returns this one.
-        ensures one { (a b : ℤ) → Names text.now a → Names text.now b → a ≡ b }
-        ensures grammar { (ms : ℤ) → (named_moment text.now ≡ Some ms) ↔ Names text.now ms }
+        ensures one { (a b : ℤ) → DenotesDateTime text.now a → DenotesDateTime text.now b → a ≡ b }
+        ensures grammar { (ms : ℤ) → (parsed_rfc3339_millis text.now ≡ Some ms) ↔ DenotesDateTime text.now ms }
 
         // Every date-time of the years 0000 to 9999 round-trips through its string.
-        ensures round_trip { (ms : ℤ) → IsRfcMillis ms → text.now ≡ rfc ms → result ≡ Ok ms }
+        ensures round_trip { (ms : ℤ) → IsRfc3339Millis ms → text.now ≡ rfc3339_text ms → result ≡ Ok ms }
     {
         match rfc3339::parse(text.as_bytes()) {
             Some(millis) => Ok(DateTime::from_millis(millis)),
@@ -210,7 +210,7 @@ const NOT_RFC3339: Error = Error::InvalidTimestamp {
 /// 9999 as the milliseconds in decimal.
 impl fmt::Display for DateTime {
     ghost use Rattle.std.specs.Prelude.{Some};
-    ghost use Rattle.bson_datetime.specs.Displayed.{date_time_text};
+    ghost use Rattle.bson_datetime.specs.DateTimeText.{date_time_text};
 
     ghost output = { λ ms. Some (date_time_text ms) };
 

@@ -1,8 +1,8 @@
 //! Writes the parts of a date and time, and the whole as `Display` writes it.
 ghost use Rattle.std.specs.Prelude.{◌≡◌, ◌<◌, Some, ℤ};
-ghost use Rattle.bson_datetime.specs.JiffSteps.{fields_of};
-ghost use Rattle.bson_datetime.specs.Displayed.{two_digit_text, year_text, hour_text};
-ghost use Rattle.bson_datetime.specs.Displayed.{thousandths_text, civil_text};
+ghost use Rattle.bson_datetime.specs.JiffConversion.{fields_of};
+ghost use Rattle.bson_datetime.specs.DateTimeText.{two_digit_text, year_text, hour_text};
+ghost use Rattle.bson_datetime.specs.DateTimeText.{thousandths_text, civil_text};
 ghost use Rattle.jiff.specs.Words.{IsWithin};
 
 use jiff::civil::DateTime;
@@ -10,17 +10,17 @@ use std::fmt;
 
 // A number below 100, in two digits.
 #[derive(Clone, Copy)]
-pub(crate) struct Two {
-    pub n: u8,
-    pub ghost small: { n < 100 },
+pub(crate) struct TwoDigits {
+    pub value: u8,
+    pub ghost small: { value < 100 },
 }
 
-impl fmt::Display for Two {
-    ghost output = { λ x. Some (two_digit_text x.n) };
+impl fmt::Display for TwoDigits {
+    ghost output = { λ x. Some (two_digit_text x.value) };
 
     fn fmt<W: fmt::Write>(&self, f: &mut fmt::Formatter<W>) -> fmt::Result {
-        let high = (b'0' + self.n / 10) as char;
-        let low = (b'0' + self.n % 10) as char;
+        let high = (b'0' + self.value / 10) as char;
+        let low = (b'0' + self.value % 10) as char;
         write!(f, "{high}{low}")
     }
 }
@@ -28,17 +28,17 @@ impl fmt::Display for Two {
 // An hour without a leading zero.
 #[derive(Clone, Copy)]
 pub(crate) struct Hour {
-    pub n: u8,
-    pub ghost small: { n < 100 },
+    pub value: u8,
+    pub ghost small: { value < 100 },
 }
 
 impl fmt::Display for Hour {
-    ghost output = { λ x. Some (hour_text x.n) };
+    ghost output = { λ x. Some (hour_text x.value) };
 
     fn fmt<W: fmt::Write>(&self, f: &mut fmt::Formatter<W>) -> fmt::Result {
-        let high = (b'0' + self.n / 10) as char;
-        let low = (b'0' + self.n % 10) as char;
-        if self.n < 10 {
+        let high = (b'0' + self.value / 10) as char;
+        let low = (b'0' + self.value % 10) as char;
+        if self.value < 10 {
             return write!(f, "{low}");
         }
         write!(f, "{high}{low}")
@@ -48,21 +48,21 @@ impl fmt::Display for Hour {
 // A fraction in thousandths: at least one digit, and no further zeros at the end.
 #[derive(Clone, Copy)]
 pub(crate) struct Fraction {
-    pub n: u16,
-    pub ghost small: { n < 1000 },
+    pub value: u16,
+    pub ghost small: { value < 1000 },
 }
 
 impl fmt::Display for Fraction {
-    ghost output = { λ x. Some (thousandths_text x.n) };
+    ghost output = { λ x. Some (thousandths_text x.value) };
 
     fn fmt<W: fmt::Write>(&self, f: &mut fmt::Formatter<W>) -> fmt::Result {
-        let first = (b'0' + (self.n / 100) as u8) as char;
-        let second = (b'0' + (self.n / 10 % 10) as u8) as char;
-        let third = (b'0' + (self.n % 10) as u8) as char;
-        if self.n % 100 == 0 {
+        let first = (b'0' + (self.value / 100) as u8) as char;
+        let second = (b'0' + (self.value / 10 % 10) as u8) as char;
+        let third = (b'0' + (self.value % 10) as u8) as char;
+        if self.value % 100 == 0 {
             return write!(f, "{first}");
         }
-        if self.n % 10 == 0 {
+        if self.value % 10 == 0 {
             return write!(f, "{first}{second}");
         }
         write!(f, "{first}{second}{third}")
@@ -72,22 +72,22 @@ impl fmt::Display for Fraction {
 // A year in four digits, after a minus sign if it is negative.
 #[derive(Clone, Copy)]
 pub(crate) struct Year {
-    pub n: i16,
-    pub ghost small: { IsWithin 9999 n },
+    pub value: i16,
+    pub ghost small: { IsWithin 9999 value },
 }
 
 impl fmt::Display for Year {
-    ghost output = { λ x. Some (year_text x.n) };
+    ghost output = { λ x. Some (year_text x.value) };
 
     fn fmt<W: fmt::Write>(&self, f: &mut fmt::Formatter<W>) -> fmt::Result {
-        let size = self.n.unsigned_abs();
-        let high = Two {
-            n: (size / 100) as u8,
+        let size = self.value.unsigned_abs();
+        let high = TwoDigits {
+            value: (size / 100) as u8,
         };
-        let low = Two {
-            n: (size % 100) as u8,
+        let low = TwoDigits {
+            value: (size % 100) as u8,
         };
-        if self.n < 0 {
+        if self.value < 0 {
             return write!(f, "-{high}{low}");
         }
         write!(f, "{high}{low}")
@@ -105,14 +105,14 @@ impl fmt::Display for CivilText {
 
     fn fmt<W: fmt::Write>(&self, f: &mut fmt::Formatter<W>) -> fmt::Result {
         let at = self.at.to_plain();
-        let year = Year { n: at.date.year };
-        let month = Two { n: at.date.month };
-        let day = Two { n: at.date.day };
-        let hour = Hour { n: at.time.hour };
-        let minute = Two { n: at.time.minute };
-        let second = Two { n: at.time.second };
+        let year = Year { value: at.date.year };
+        let month = TwoDigits { value: at.date.month };
+        let day = TwoDigits { value: at.date.day };
+        let hour = Hour { value: at.time.hour };
+        let minute = TwoDigits { value: at.time.minute };
+        let second = TwoDigits { value: at.time.second };
         let fraction = Fraction {
-            n: (at.time.subsec_nanosecond / 1_000_000) as u16,
+            value: (at.time.subsec_nanosecond / 1_000_000) as u16,
         };
         write!(
             f,

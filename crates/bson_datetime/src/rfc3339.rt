@@ -5,16 +5,16 @@ ghost use Rattle.std.specs.Prelude.{int_div, ◌^◌};
 ghost use Rattle.std.specs.Char.{IsAsciiDigit, is_ascii_digit};
 ghost use Rattle.std.specs.List.{prefix_len};
 ghost use Rattle.jiff.specs.Words.{IsEpochDay, IsWithin, IsBetween};
-ghost use Rattle.bson_datetime.specs.Rfc3339 as spec;
+ghost use Rattle.bson_datetime.specs.Rfc3339Parser as spec;
 
 use jiff::civil::Date;
 
-#[tactic(auto, unfolding(crate::specs::Rfc3339::two_digits))]
-fn two_digits(s: &[u8]) -> Option<(u8, &[u8])>
-    ensures value { spec.read_view result ≡ spec.two_digits s.now }
+#[tactic(auto, unfolding(crate::specs::Rfc3339Parser::two_digits))]
+fn two_digits(input: &[u8]) -> Option<(u8, &[u8])>
+    ensures value { spec.parsed_view result ≡ spec.two_digits input.now }
     ensures bound { IfSome result (λ p. p.0 < 100) }
 {
-    match s {
+    match input {
         [high @ b'0'..=b'9', low @ b'0'..=b'9', rest @ ..] => {
             Some(((*high - b'0') * 10 + (*low - b'0'), rest))
         }
@@ -22,50 +22,50 @@ fn two_digits(s: &[u8]) -> Option<(u8, &[u8])>
     }
 }
 
-#[tactic(auto, unfolding(crate::specs::Rfc3339::four_digits))]
-fn four_digits(s: &[u8]) -> Option<(u16, &[u8])>
-    ensures value { spec.read_view result ≡ spec.four_digits s.now }
+#[tactic(auto, unfolding(crate::specs::Rfc3339Parser::four_digits))]
+fn four_digits(input: &[u8]) -> Option<(u16, &[u8])>
+    ensures value { spec.parsed_view result ≡ spec.four_digits input.now }
     ensures bound { IfSome result (λ p. p.0 < 10_000) }
 {
-    let (century, s) = two_digits(s)?;
-    let (year, s) = two_digits(s)?;
-    Some((century as u16 * 100 + year as u16, s))
+    let (century, input) = two_digits(input)?;
+    let (year, input) = two_digits(input)?;
+    Some((century as u16 * 100 + year as u16, input))
 }
 
-#[tactic(auto, unfolding(crate::specs::Rfc3339::digits_below))]
-fn digits_below(s: &[u8], bound: u8) -> Option<(u8, &[u8])>
-    ensures value { spec.read_view result ≡ spec.digits_below bound s.now }
+#[tactic(auto, unfolding(crate::specs::Rfc3339Parser::two_digits_below))]
+fn two_digits_below(input: &[u8], bound: u8) -> Option<(u8, &[u8])>
+    ensures value { spec.parsed_view result ≡ spec.two_digits_below bound input.now }
     ensures bound { IfSome result (λ p. p.0 < bound) }
 {
-    let (n, s) = two_digits(s)?;
+    let (n, input) = two_digits(input)?;
     if n >= bound {
         return None;
     }
-    Some((n, s))
+    Some((n, input))
 }
 
-#[tactic(auto, unfolding(crate::specs::Rfc3339::after_byte))]
-fn after(s: &[u8], byte: u8) -> Option<&[u8]>
-    ensures { spec.rest_view result ≡ spec.after_byte byte s.now }
+#[tactic(auto, unfolding(crate::specs::Rfc3339Parser::after_byte))]
+fn after_byte(input: &[u8], byte: u8) -> Option<&[u8]>
+    ensures { spec.remaining_view result ≡ spec.after_byte byte input.now }
 {
-    match s {
+    match input {
         [first, rest @ ..] if *first == byte => Some(rest),
         _ => None,
     }
 }
 
-#[tactic(auto, unfolding(crate::specs::Rfc3339::after_letter))]
-fn after_letter(s: &[u8], upper: u8) -> Option<&[u8]>
+#[tactic(auto, unfolding(crate::specs::Rfc3339Parser::after_letter))]
+fn after_letter(input: &[u8], upper: u8) -> Option<&[u8]>
     requires { upper < 128 }
-    ensures { spec.rest_view result ≡ spec.after_letter upper s.now }
+    ensures { spec.remaining_view result ≡ spec.after_letter upper input.now }
 {
-    match s {
+    match input {
         [first, rest @ ..] if *first == upper || *first == upper + 32 => Some(rest),
         _ => None,
     }
 }
 
-#[tactic(auto, unfolding(crate::specs::Rfc3339::day_number))]
+#[tactic(auto, unfolding(crate::specs::Rfc3339Parser::day_number))]
 fn day_number(year: u16, month: u8, day: u8) -> Option<i64>
     requires year { year < 10_000 }
     requires month { month < 100 }
@@ -79,31 +79,31 @@ fn day_number(year: u16, month: u8, day: u8) -> Option<i64>
     }
 }
 
-#[tactic(auto, unfolding(crate::specs::Rfc3339::date_part))]
-fn date_part(s: &[u8]) -> Option<(i64, &[u8])>
-    ensures value { spec.read_view result ≡ spec.date_part s.now }
+#[tactic(auto, unfolding(crate::specs::Rfc3339Parser::date_part))]
+fn date_part(input: &[u8]) -> Option<(i64, &[u8])>
+    ensures value { spec.parsed_view result ≡ spec.date_part input.now }
     ensures bound { IfSome result (λ p. IsEpochDay p.0) }
 {
-    let (year, s) = four_digits(s)?;
-    let s = after(s, b'-')?;
-    let (month, s) = two_digits(s)?;
-    let s = after(s, b'-')?;
-    let (day, s) = two_digits(s)?;
+    let (year, input) = four_digits(input)?;
+    let input = after_byte(input, b'-')?;
+    let (month, input) = two_digits(input)?;
+    let input = after_byte(input, b'-')?;
+    let (day, input) = two_digits(input)?;
     let number = day_number(year, month, day)?;
-    Some((number, s))
+    Some((number, input))
 }
 
-#[tactic(auto, unfolding(crate::specs::Rfc3339::time_part))]
-fn time_part(s: &[u8]) -> Option<(u32, &[u8])>
-    ensures value { spec.read_view result ≡ spec.time_part s.now }
+#[tactic(auto, unfolding(crate::specs::Rfc3339Parser::time_part))]
+fn time_part(input: &[u8]) -> Option<(u32, &[u8])>
+    ensures value { spec.parsed_view result ≡ spec.time_part input.now }
     ensures bound { IfSome result (λ p. p.0 < 86_400) }
 {
-    let (hour, s) = digits_below(s, 24)?;
-    let s = after(s, b':')?;
-    let (minute, s) = digits_below(s, 60)?;
-    let s = after(s, b':')?;
-    let (second, s) = digits_below(s, 60)?;
-    Some((hour as u32 * 3600 + minute as u32 * 60 + second as u32, s))
+    let (hour, input) = two_digits_below(input, 24)?;
+    let input = after_byte(input, b':')?;
+    let (minute, input) = two_digits_below(input, 60)?;
+    let input = after_byte(input, b':')?;
+    let (second, input) = two_digits_below(input, 60)?;
+    Some((hour as u32 * 3600 + minute as u32 * 60 + second as u32, input))
 }
 
 // The nanoseconds of the digits of a fraction, of which nine count.
@@ -113,29 +113,29 @@ fn nanoseconds(digits: &[u8]) -> u32
     ensures bound { result < 1_000_000_000 }
 {
     let mut nanosecond = 0;
-    let mut place = 1_000_000_000;
+    let mut place_value = 1_000_000_000;
     let counted = &digits[..digits.len().min(9)];
     'digits: for digit in counted {
-        place /= 10;
-        nanosecond += (digit - b'0') as u32 * place;
+        place_value /= 10;
+        nanosecond += (digit - b'0') as u32 * place_value;
     }
     nanosecond
 }
 
-fn digits_len(s: &[u8]) -> usize
-    ensures len { result ≡ prefix_len is_ascii_digit s.now }
-    ensures within { result ≤ length s.now }
-    ensures digits { (k : ℕ) → k < result → IsAsciiDigit (slice_index s.now k) }
+fn digits_len(input: &[u8]) -> usize
+    ensures len { result ≡ prefix_len is_ascii_digit input.now }
+    ensures within { result ≤ length input.now }
+    ensures digits { (k : ℕ) → k < result → IsAsciiDigit (slice_index input.now k) }
 {
-    s.iter().take_while(|b| b.is_ascii_digit()).count()
+    input.iter().take_while(|b| b.is_ascii_digit()).count()
 }
 
-#[tactic(auto, unfolding(crate::specs::Rfc3339::fraction_part))]
-fn fraction_part(s: &[u8]) -> Option<(u32, &[u8])>
-    ensures value { spec.read_view result ≡ spec.fraction_part s.now }
+#[tactic(auto, unfolding(crate::specs::Rfc3339Parser::fraction_part))]
+fn fraction_part(input: &[u8]) -> Option<(u32, &[u8])>
+    ensures value { spec.parsed_view result ≡ spec.fraction_part input.now }
     ensures bound { IfSome result (λ p. p.0 < 1_000_000_000) }
 {
-    match s {
+    match input {
         [b'.', rest @ ..] => {
             let len = digits_len(rest);
             if len == 0 {
@@ -144,27 +144,27 @@ fn fraction_part(s: &[u8]) -> Option<(u32, &[u8])>
             let (digits, rest) = rest.split_at(len);
             Some((nanoseconds(digits), rest))
         }
-        _ => Some((0, s)),
+        _ => Some((0, input)),
     }
 }
 
-#[tactic(auto, unfolding(crate::specs::Rfc3339::hours_minutes))]
-fn hours_minutes(s: &[u8]) -> Option<(i32, &[u8])>
-    ensures value { spec.read_view result ≡ option_map (λ n. (pos n.0, n.1)) (spec.hours_minutes s.now) }
+#[tactic(auto, unfolding(crate::specs::Rfc3339Parser::hours_minutes))]
+fn hours_minutes(input: &[u8]) -> Option<(i32, &[u8])>
+    ensures value { spec.parsed_view result ≡ option_map (λ n. (pos n.0, n.1)) (spec.hours_minutes input.now) }
     ensures bound { IfSome result (λ p. IsBetween (pos 0) (pos 86_399) p.0) }
 {
-    let (hour, s) = digits_below(s, 24)?;
-    let s = after(s, b':')?;
-    let (minute, s) = digits_below(s, 60)?;
-    Some((hour as i32 * 3600 + minute as i32 * 60, s))
+    let (hour, input) = two_digits_below(input, 24)?;
+    let input = after_byte(input, b':')?;
+    let (minute, input) = two_digits_below(input, 60)?;
+    Some((hour as i32 * 3600 + minute as i32 * 60, input))
 }
 
-#[tactic(auto, unfolding(crate::specs::Rfc3339::offset_part))]
-fn offset_part(s: &[u8]) -> Option<(i32, &[u8])>
-    ensures value { spec.read_view result ≡ spec.offset_part s.now }
+#[tactic(auto, unfolding(crate::specs::Rfc3339Parser::offset_part))]
+fn offset_part(input: &[u8]) -> Option<(i32, &[u8])>
+    ensures value { spec.parsed_view result ≡ spec.offset_part input.now }
     ensures bound { IfSome result (λ p. IsWithin 86_399 p.0) }
 {
-    match s {
+    match input {
         [b'Z' | b'z', rest @ ..] => Some((0, rest)),
         [b'+', rest @ ..] => hours_minutes(rest),
         [b'-', rest @ ..] => {
@@ -196,16 +196,16 @@ fn whole_millis(nanos: i128) -> i64
 }
 
 /// Returns the milliseconds that a string denotes.
-#[tactic(auto, unfolding(crate::specs::Rfc3339::named_moment))]
+#[tactic(auto, unfolding(crate::specs::Rfc3339Parser::parsed_rfc3339_millis))]
 pub(crate) fn parse(text: &[u8]) -> Option<i64>
-    ensures { result ≡ spec.named_moment text.now }
+    ensures { result ≡ spec.parsed_rfc3339_millis text.now }
 {
-    let (day, s) = date_part(text)?;
-    let s = after_letter(s, b'T')?;
-    let (seconds, s) = time_part(s)?;
-    let (nanos, s) = fraction_part(s)?;
-    let (offset, s) = offset_part(s)?;
-    if !s.is_empty() {
+    let (day, input) = date_part(text)?;
+    let input = after_letter(input, b'T')?;
+    let (seconds, input) = time_part(input)?;
+    let (nanos, input) = fraction_part(input)?;
+    let (offset, input) = offset_part(input)?;
+    if !input.is_empty() {
         return None;
     }
     Some(whole_millis(nanos_of(day, seconds, nanos, offset)))

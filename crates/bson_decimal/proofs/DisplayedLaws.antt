@@ -3,9 +3,9 @@ use Rattle.std.proofs.Common.{◌≡◌, ℕ, zero, suc, ◌+◌, ◌-◌, ◌*�
 use Rattle.std.proofs.Common.{eqb, ltb, List, [], ◌∷◌, ◌++◌, length, take, drop, replicate, pos, neg_ℤ, ◌-ℤ◌}
 use Rattle.std.proofs.Common.{Option, Some, None, refl, sym, ap, subst, ◌∙◌, arith, length-append, length-drop}
 use Rattle.std.specs.Prelude.{codes, int_le, int_lt, unsigned_abs, Result, Ok, Err, ◌↔◌, IsOkAnd}
-use Rattle.bson_decimal.specs.FromStr.{ParsesTo}
+use Rattle.bson_decimal.specs.ParseResult.{IsParseResult}
 use Rattle.bson_decimal.specs.declared.ParseError.{ParseError}
-use Rattle.bson_decimal.specs.Steps as Steps
+use Rattle.bson_decimal.specs.ParseSteps as Steps
 use Rattle.bson_decimal.proofs.Bytes.{from_le_bytes-to_le_bytes_16}
 use Rattle.bson_decimal.proofs.PatternLaws.{IsDecoded, number_meaning-within, number_meaning-first_form, first_form-lt}
 use Rattle.bson_decimal.proofs.Parsing.{word-off, no-word, special-parses, finite-parses, refused-parses}
@@ -21,15 +21,15 @@ use Rattle.std.specs.List.{prefix_len}
 use Rattle.std.specs.Str.Parse.{AllDigits, digits_value, without_leading_sign}
 use Rattle.bson_decimal.specs.declared.bits.Decoded.{Decoded}
 use Rattle.bson_decimal.specs.declared.bits.Decoded.TheVariants.{Nan, Infinity, Finite}
-use Rattle.bson_decimal.specs.Exponents.{exponent_at}
-use Rattle.bson_decimal.specs.Pattern.{number_meaning, bytes_meaning, first_form, sign_weight, normal_decimal}
-use Rattle.bson_decimal.specs.Pattern.{normal_number}
-use Rattle.bson_decimal.specs.Displayed.{meaning_text, decimal128_text, finite_text, plain_text, scientific_text}
-use Rattle.bson_decimal.specs.Displayed.{scientific_exponent, power_text}
-use Rattle.bson_decimal.specs.Numeral.{Sign, none, plus, minus, sign_bytes, is_minus, Exponent, unwritten, written}
-use Rattle.bson_decimal.specs.Numeral.{exponent_bytes, fraction_bytes, fraction_digits, IsExponent, Numeral, is_zero}
-use Rattle.bson_decimal.specs.Numeral.{without_leading_zeros}
-use Rattle.bson_decimal.specs.Text.{Parses, special, nan, infinity, finite}
+use Rattle.bson_decimal.specs.Exponents.{unbiased_exponent}
+use Rattle.bson_decimal.specs.DecimalBits.{decoded_number, decoded_decimal, encoded_finite, sign_bit, canonical_decimal}
+use Rattle.bson_decimal.specs.DecimalBits.{canonical_number}
+use Rattle.bson_decimal.specs.DecimalText.{meaning_text, decimal128_text, finite_text, plain_text, scientific_text}
+use Rattle.bson_decimal.specs.DecimalText.{scientific_exponent, power_text}
+use Rattle.bson_decimal.specs.NumeralGrammar.{Sign, none, plus, minus, sign_bytes, is_minus, Exponent, unwritten, written}
+use Rattle.bson_decimal.specs.NumeralGrammar.{exponent_bytes, fraction_bytes, fraction_digits, IsExponent, Numeral, is_zero}
+use Rattle.bson_decimal.specs.NumeralGrammar.{without_leading_zeros}
+use Rattle.bson_decimal.specs.DecimalStrings.{DenotesDecimal, special, nan, infinity, finite}
 use Rattle.bson_decimal.proofs.Shifted.{IsNearestShifted, written_up, written_down, up, down, within16, nearest}
 use Rattle.bson_decimal.proofs.NearestLaws.{nearest-same}
 use Rattle.bson_decimal.proofs.Zeros.{value-before, AllDigits-append, AllDigits-zeros}
@@ -50,26 +50,26 @@ is_minus-is false = refl
 
 -- the parts of a printed number
 record Prints (c e : ℕ) (body : List ℕ) : Type 0 where
-  whole : List ℕ
+  integer_digits : List ℕ
   fraction : Option (List ℕ)
   exponent : Exponent
-  is : body ≡ whole ++ (fraction_bytes fraction ++ exponent_bytes exponent)
-  digits : AllDigits 10 (whole ++ fraction_digits fraction)
-  some : 0 < length (whole ++ fraction_digits fraction)
+  is : body ≡ integer_digits ++ (fraction_bytes fraction ++ exponent_bytes exponent)
+  digits : AllDigits 10 (integer_digits ++ fraction_digits fraction)
+  some : 0 < length (integer_digits ++ fraction_digits fraction)
   ok : IsExponent exponent
-  value : digits_value 10 (whole ++ fraction_digits fraction) ≡ c
+  value : digits_value 10 (integer_digits ++ fraction_digits fraction) ≡ c
   high : written_up exponent ≤ 7000
   low : written_down exponent ≤ 7000
   short : length (fraction_digits fraction) ≤ 7000
-  few : length (without_leading_zeros (whole ++ fraction_digits fraction)) ≤ 34
+  few : length (without_leading_zeros (integer_digits ++ fraction_digits fraction)) ≤ 34
   at : e + (length (fraction_digits fraction) + written_down exponent) ≡ written_up exponent + 6176
 
 from-prints : (negative : Bool) (c e : ℕ) (body : List ℕ) → c < 10 ^ 34 → e < 12288 → Prints c e body
-    → Parses (sign_text negative ++ body) (to_le_bytes w128 (first_form negative c e))
+    → DenotesDecimal (sign_text negative ++ body) (to_le_bytes w128 (encoded_finite negative c e))
 from-prints negative c e body small within p =
     let n : Numeral = record {
       sign = sign_of negative;
-      whole = p.whole;
+      integer_digits = p.integer_digits;
       fraction = p.fraction;
       exponent = p.exponent;
     } in
@@ -95,7 +95,7 @@ from-prints negative c e body small within p =
     }))
     (nearest n c e (subst (λ m. IsNearestShifted m (up n) (down n) c e) (sym p.value)
     (nearest-same c (up n) (down n) e small within p.at)))
-    (ap (λ b. to_le_bytes w128 (first_form b c e)) (sym (is_minus-is negative)))
+    (ap (λ b. to_le_bytes w128 (encoded_finite b c e)) (sym (is_minus-is negative)))
 
 stripped-le : (ds : List ℕ) → length ds ≤ 34 → length (without_leading_zeros ds) ≤ 34
 stripped-le ds h = omega (arith, length-drop (prefix_len is_zero ds) ds)
@@ -185,7 +185,7 @@ module _ (c e : ℕ) (small : c < 10 ^ 34) (within : e < 12288) where
         | inl a ↦
             let zero-p = eqb-true (6176 - e) 0 a in
             rw a (record {
-              whole = ds;
+              integer_digits = ds;
               fraction = None;
               exponent = unwritten;
               is = sym (append-nil ds);
@@ -206,7 +206,7 @@ module _ (c e : ℕ) (small : c < 10 ^ 34) (within : e < 12288) where
               let size : length (drop (length ds - (6176 - e)) ds) ≡ 6176 - e =
               omega (arith, length-drop (length ds - (6176 - e)) ds) in
               rw (a, b) (record {
-                whole = take (length ds - (6176 - e)) ds;
+                integer_digits = take (length ds - (6176 - e)) ds;
                 fraction = Some (drop (length ds - (6176 - e)) ds);
                 exponent = unwritten;
                 is = ap (λ t. take (length ds - (6176 - e)) ds ++ 46 ∷ t)
@@ -227,7 +227,7 @@ module _ (c e : ℕ) (small : c < 10 ^ 34) (within : e < 12288) where
               let size : length (replicate k 48 ++ ds) ≡ 6176 - e =
               omega (arith, length-append (replicate k 48) ds, length-replicate {A = ℕ} k 48) in
               rw (a, b) (record {
-                whole = 48 ∷ [];
+                integer_digits = 48 ∷ [];
                 fraction = Some (replicate k 48 ++ ds);
                 exponent = unwritten;
                 is = ap (λ t. 48 ∷ 46 ∷ t) (sym (append-nil (replicate k 48 ++ ds)));
@@ -259,7 +259,7 @@ module _ (c e : ℕ) (small : c < 10 ^ 34) (within : e < 12288) where
             let one = eqb-true (length ds) 1 a in
             let all = take_all 1 ds (omega arith) in
             rw (a, all) (record {
-              whole = ds;
+              integer_digits = ds;
               fraction = None;
               exponent = p.exponent;
               is = ap (λ t. ds ++ t) p.is;
@@ -277,7 +277,7 @@ module _ (c e : ℕ) (small : c < 10 ^ 34) (within : e < 12288) where
             let joined = take-append-drop 1 ds in
             let size : length (drop 1 ds) ≡ length ds - 1 = length-drop 1 ds in
             rw a (record {
-              whole = take 1 ds;
+              integer_digits = take 1 ds;
               fraction = Some (drop 1 ds);
               exponent = p.exponent;
               is = ap (λ t. take 1 ds ++ (46 ∷ drop 1 ds ++ t)) p.is;
@@ -294,23 +294,23 @@ module _ (c e : ℕ) (small : c < 10 ^ 34) (within : e < 12288) where
       ]
 
 -- the tests on an exponent, of the stored one
-pub at-most-zero : (e : ℕ) → int_le (exponent_at e) (pos 0) ≡ true → e ≤ 6176
+pub at-most-zero : (e : ℕ) → int_le (unbiased_exponent e) (pos 0) ≡ true → e ≤ 6176
 at-most-zero e h = grind (arith, ints, h)
 
-pub at-least-six : (ds : List ℕ) (e : ℕ) → int_le (neg_ℤ (pos 6)) (scientific_exponent ds (exponent_at e)) ≡ true
+pub at-least-six : (ds : List ℕ) (e : ℕ) → int_le (neg_ℤ (pos 6)) (scientific_exponent ds (unbiased_exponent e)) ≡ true
     → 6171 ≤ e + length ds
 at-least-six ds e h = grind (arith, ints, h)
 
-pub places : (e : ℕ) → e ≤ 6176 → unsigned_abs (exponent_at e) ≡ 6176 - e
+pub places : (e : ℕ) → e ≤ 6176 → unsigned_abs (unbiased_exponent e) ≡ 6176 - e
 places e low = omega (arith, ints, clamps)
 
-pub first-digit : (ds : List ℕ) (e : ℕ) → scientific_exponent ds (exponent_at e) ≡ pos (e + length ds) -ℤ pos 6177
+pub first-digit : (ds : List ℕ) (e : ℕ) → scientific_exponent ds (unbiased_exponent e) ≡ pos (e + length ds) -ℤ pos 6177
 first-digit ds e = omega (arith, ints)
 
-finite-prints : (c e : ℕ) → c < 10 ^ 34 → e < 12288 → Prints c e (finite_text (decimal c) (exponent_at e))
+finite-prints : (c e : ℕ) → c < 10 ^ 34 → e < 12288 → Prints c e (finite_text (decimal c) (unbiased_exponent e))
 finite-prints c e small within =
     let ds = decimal c in
-    let x = exponent_at e in
+    let x = unbiased_exponent e in
     elim (cases_Bool (int_le x (pos 0) && int_le (neg_ℤ (pos 6)) (scientific_exponent ds x))) [
       | inl a ↦
           let tests = and_parts (int_le x (pos 0)) _ a in
@@ -319,22 +319,22 @@ finite-prints c e small within =
       | inr a ↦ rw (a, first-digit ds e) (scientific-prints c e small within)
     ]
 
-meaning_text-parses : (d : Decoded) → IsDecoded d → Parses (meaning_text d) (to_le_bytes w128 (normal_number d))
+meaning_text-parses : (d : Decoded) → IsDecoded d → DenotesDecimal (meaning_text d) (to_le_bytes w128 (canonical_number d))
 meaning_text-parses (Nan s q) h = special none (codes "NaN") (124 * 2 ^ 120) refl (nan refl) refl
 meaning_text-parses (Infinity s) h =
     special (sign_of s) (codes "Infinity") (120 * 2 ^ 120) (ap (λ t. t ++ codes "Infinity") (sign_bytes-is s))
     (infinity refl)
-    (ap (λ b. to_le_bytes w128 (sign_weight b + 120 * 2 ^ 120)) (sym (is_minus-is s)))
+    (ap (λ b. to_le_bytes w128 (sign_bit b + 120 * 2 ^ 120)) (sym (is_minus-is s)))
 meaning_text-parses (Finite s c e) h =
-    from-prints s c e (finite_text (decimal c) (exponent_at e)) h.0 h.1 (finite-prints c e h.0 h.1)
+    from-prints s c e (finite_text (decimal c) (unbiased_exponent e)) h.0 h.1 (finite-prints c e h.0 h.1)
 
 -- a printed text parses to the canonical pattern
-pub display_text-parses : (b : List ℕ) → Parses (decimal128_text b) (normal_decimal b)
-unfolding decimal128_text normal_decimal
-display_text-parses b = meaning_text-parses (bytes_meaning b) (number_meaning-within (from_le_bytes w128 b))
+pub display_text-parses : (b : List ℕ) → DenotesDecimal (decimal128_text b) (canonical_decimal b)
+unfolding decimal128_text canonical_decimal
+display_text-parses b = meaning_text-parses (decoded_decimal b) (number_meaning-within (from_le_bytes w128 b))
 
 -- a text parses to one pattern
-pub parses-one : (text a b : List ℕ) → Parses text a → Parses text b → a ≡ b
+pub parses-one : (text a b : List ℕ) → DenotesDecimal text a → DenotesDecimal text b → a ≡ b
 parses-one text a b (special s word n is w a-is) other =
     let off = word-off s word n w in
     let rest = ap without_leading_sign is ∙ off.0 in
@@ -348,36 +348,36 @@ parses-one text a b (finite n c e t l near a-is) other = by-steps (Steps.finite 
         one a (finite n c e t l near a-is) ∙ sym (one b other)
     by-steps (Err k) is = absurd (refused-parses text k (λ m. no-word text n m t) is a (finite n c e t l near a-is))
 
-canon-lt : (d : Decoded) → IsDecoded d → normal_number d < 2 ^ 128
+canon-lt : (d : Decoded) → IsDecoded d → canonical_number d < 2 ^ 128
 canon-lt (Nan s q) h = omega arith
 canon-lt (Infinity true) h = omega arith
 canon-lt (Infinity false) h = omega arith
 canon-lt (Finite s c e) h = first_form-lt s c e h.0 h.1
 
-meaning_text-canon : (d : Decoded) → IsDecoded d → meaning_text (number_meaning (normal_number d)) ≡ meaning_text d
+meaning_text-canon : (d : Decoded) → IsDecoded d → meaning_text (decoded_number (canonical_number d)) ≡ meaning_text d
 meaning_text-canon (Nan s q) h = refl
 meaning_text-canon (Infinity true) h = refl
 meaning_text-canon (Infinity false) h = refl
 meaning_text-canon (Finite s c e) h = ap meaning_text (number_meaning-first_form s c e h.0 h.1)
 
-pub display_text-canon : (b : List ℕ) → decimal128_text (normal_decimal b) ≡ decimal128_text b
-unfolding decimal128_text normal_decimal
+pub display_text-canon : (b : List ℕ) → decimal128_text (canonical_decimal b) ≡ decimal128_text b
+unfolding decimal128_text canonical_decimal
 display_text-canon b =
     let h = number_meaning-within (from_le_bytes w128 b) in
-    ap (λ n. meaning_text (number_meaning n))
-    (from_le_bytes-to_le_bytes_16 (normal_number (bytes_meaning b)) (canon-lt (bytes_meaning b) h))
-    ∙ meaning_text-canon (bytes_meaning b) h
+    ap (λ n. meaning_text (decoded_number n))
+    (from_le_bytes-to_le_bytes_16 (canonical_number (decoded_decimal b)) (canon-lt (decoded_decimal b) h))
+    ∙ meaning_text-canon (decoded_decimal b) h
 
 -- two patterns print the same string if and only if their canonical patterns are equal
-pub display_text-same : (a b : List ℕ) → (decimal128_text a ≡ decimal128_text b) ↔ (normal_decimal a ≡ normal_decimal b)
+pub display_text-same : (a b : List ℕ) → (decimal128_text a ≡ decimal128_text b) ↔ (canonical_decimal a ≡ canonical_decimal b)
 display_text-same a b = (
-  λ e. parses-one (decimal128_text b) (normal_decimal a) (normal_decimal b) (rw e at (display_text-parses a))
+  λ e. parses-one (decimal128_text b) (canonical_decimal a) (canonical_decimal b) (rw e at (display_text-parses a))
       (display_text-parses b),
   λ e. sym (display_text-canon a) ∙ ap decimal128_text e ∙ display_text-canon b,
 )
 
 -- so a printed text is answered by its canonical pattern
-pub reads-display_text : (text : List ℕ) (r : Result (List ℕ) ParseError) → ParsesTo text r → (b : List ℕ)
-    → text ≡ decimal128_text b → IsOkAnd r (λ d. d ≡ normal_decimal b)
-reads-display_text text (Ok d) h b e = sym (h.1 (normal_decimal b) (rw e (display_text-parses b)))
-reads-display_text text (Err k) h b e = absurd (h.0 (normal_decimal b) (rw e (display_text-parses b)))
+pub reads-display_text : (text : List ℕ) (r : Result (List ℕ) ParseError) → IsParseResult text r → (b : List ℕ)
+    → text ≡ decimal128_text b → IsOkAnd r (λ d. d ≡ canonical_decimal b)
+reads-display_text text (Ok d) h b e = sym (h.1 (canonical_decimal b) (rw e (display_text-parses b)))
+reads-display_text text (Err k) h b e = absurd (h.0 (canonical_decimal b) (rw e (display_text-parses b)))

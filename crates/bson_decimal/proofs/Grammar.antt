@@ -15,11 +15,11 @@ use Rattle.std.specs.Str.Parse.{AllDigits, digits_value, without_leading_sign, s
 use Rattle.bson_decimal.specs.declared.ParseError.{ParseError}
 use Rattle.std.specs.Option.{ok_or}
 use Rattle.bson_decimal.specs.declared.ParseError.TheVariants.{EmptyExponent, InvalidExponent}
-use Rattle.bson_decimal.specs.Numeral.{Sign, none, plus, minus, sign_bytes, is_minus, Exponent, unwritten, written}
-use Rattle.bson_decimal.specs.Numeral.{exponent_bytes, fraction_bytes, fraction_digits, IsExponent}
+use Rattle.bson_decimal.specs.NumeralGrammar.{Sign, none, plus, minus, sign_bytes, is_minus, Exponent, unwritten, written}
+use Rattle.bson_decimal.specs.NumeralGrammar.{exponent_bytes, fraction_bytes, fraction_digits, IsExponent}
 use Rattle.bson_decimal.proofs.Shifted.{written_up, written_down}
-use Rattle.bson_decimal.specs.Steps.{is_mark, is_point, has, is_exponent, written_place, exponent_value}
-use Rattle.bson_decimal.specs.Steps.{written_exponent_place, scaled_exponent, stored_pair, finite, bind}
+use Rattle.bson_decimal.specs.ParseSteps.{is_exponent_mark, is_decimal_point, has_byte, is_exponent, shifted_written_value, exponent_value}
+use Rattle.bson_decimal.specs.ParseSteps.{shifted_written_exponent, scaled_exponent, coefficient_and_exponent, finite, bind}
 use Rattle.bson_decimal.proofs.StepLaws.{if-cases, not-true, not-false}
 use Rattle.bson_decimal.proofs.Zeros.{AllDigits-parts}
 use Rattle.bson_decimal.proofs.DigitTests.{AllDigits-from_test, test-from_AllDigits}
@@ -28,7 +28,7 @@ past : (xs : List ℕ) (y : ℕ) (ys : List ℕ) → drop (length xs + 1) (xs ++
 past [] y ys = refl
 past (x ∷ xs) y ys = rw add-one (rw add-one at (past xs y ys))
 
-is-mark : (b : ℕ) → (b ≡ 101) ⊎ (b ≡ 69) → is_mark b ≡ true
+is-mark : (b : ℕ) → (b ≡ 101) ⊎ (b ≡ 69) → is_exponent_mark b ≡ true
 is-mark b (inl e) = rw e refl
 is-mark b (inr e) = rw e refl
 
@@ -50,17 +50,17 @@ pub first-none : (p : ℕ → Bool) (xs : List ℕ) → Fails p xs → position_
 first-none p [] h = refl
 first-none p (x ∷ xs) h = rw (h.0, one-add, first-none p xs h.1) refl
 
-mark-no-digit : (b : ℕ) → 48 ≤ b → b ≤ 57 → is_mark b ≡ false
+mark-no-digit : (b : ℕ) → 48 ≤ b → b ≤ 57 → is_exponent_mark b ≡ false
 mark-no-digit b low high = grind (arith, nat_tests)
 
-point-no-digit : (b : ℕ) → 48 ≤ b → b ≤ 57 → is_point b ≡ false
+point-no-digit : (b : ℕ) → 48 ≤ b → b ≤ 57 → is_decimal_point b ≡ false
 point-no-digit b low high = grind (arith, nat_tests)
 
-pub digits-fail-mark : (ds : List ℕ) → AllDigits 10 ds → Fails is_mark ds
+pub digits-fail-mark : (ds : List ℕ) → AllDigits 10 ds → Fails is_exponent_mark ds
 digits-fail-mark [] h = tt
 digits-fail-mark (d ∷ ds) h = let r = digit_from_value d h.0 in (mark-no-digit d r.0 r.1, digits-fail-mark ds h.1)
 
-pub digits-fail-point : (ds : List ℕ) → AllDigits 10 ds → Fails is_point ds
+pub digits-fail-point : (ds : List ℕ) → AllDigits 10 ds → Fails is_decimal_point ds
 digits-fail-point [] h = tt
 digits-fail-point (d ∷ ds) h = let r = digit_from_value d h.0 in (point-no-digit d r.0 r.1, digits-fail-point ds h.1)
 
@@ -96,24 +96,24 @@ bias false v e = let low = leb-true v 32767 e in (omega arith, omega arith, omeg
 -- the written exponent that the steps find
 pub record ReadsExponent (rest : List ℕ) (w : ℕ) : Type 0 where
   pub part : Exponent
-  pub is : rest ≡ before_first is_mark rest ++ exponent_bytes part
+  pub is : rest ≡ before_first is_exponent_mark rest ++ exponent_bytes part
   pub ok : IsExponent part
   pub value : w + written_down part ≡ 32768 + written_up part
   pub high : written_up part ≤ 32767
   pub low : written_down part ≤ 32768
 
-mark-cases : (b : ℕ) → is_mark b ≡ true → (b ≡ 101) ⊎ (b ≡ 69)
+mark-cases : (b : ℕ) → is_exponent_mark b ≡ true → (b ≡ 101) ⊎ (b ≡ 69)
 mark-cases b e = elim (or_cases (eqb b 101) (eqb b 69) e) [
   | inl t ↦ inl (eqb-true b 101 t)
   | inr t ↦ inr (eqb-true b 69 t)
 ]
 
-pub reads-exponent : (rest : List ℕ) → MatchResult (written_exponent_place rest) (ReadsExponent rest) (λ _. ⊤)
-unfolding written_exponent_place exponent_value
+pub reads-exponent : (rest : List ℕ) → MatchResult (shifted_written_exponent rest) (ReadsExponent rest) (λ _. ⊤)
+unfolding shifted_written_exponent exponent_value
 reads-exponent rest =
-    let tail = after_first is_mark rest in
-    let place = position_or_len is_mark rest in
-    if-cases (ReadsExponent rest) (λ _. ⊤) (not (has is_mark rest)) _ _
+    let tail = after_first is_exponent_mark rest in
+    let place = position_or_len is_exponent_mark rest in
+    if-cases (ReadsExponent rest) (λ _. ⊤) (not (has_byte is_exponent_mark rest)) _ _
     (λ e. let past = ltb-false place (length rest) (not-true _ e) in
     record {
       part = unwritten;
@@ -136,10 +136,10 @@ reads-exponent rest =
           let fits = bias (starts_with_minus tail) v b.1 in
           rw f (record {
             part = written (get_or rest place 0) s.0 (without_leading_sign tail);
-            is = split_at_first is_mark rest 0 within
-                ∙ ap (λ t. before_first is_mark rest ++ get_or rest place 0 ∷ t) s.1;
-            ok = (mark-cases _ (passes_at_first is_mark rest 0 within), ltb-true 0 _ a.0, AllDigits-from_test _ b.0);
-            value = subst (λ (m : Bool). written_place tail + cond m v 0 ≡ 32768 + cond m 0 v) s.2 fits.0;
+            is = split_at_first is_exponent_mark rest 0 within
+                ∙ ap (λ t. before_first is_exponent_mark rest ++ get_or rest place 0 ∷ t) s.1;
+            ok = (mark-cases _ (passes_at_first is_exponent_mark rest 0 within), ltb-true 0 _ a.0, AllDigits-from_test _ b.0);
+            value = subst (λ (m : Bool). shifted_written_value tail + cond m v 0 ≡ 32768 + cond m 0 v) s.2 fits.0;
             high = subst (λ (m : Bool). cond m 0 v ≤ 32767) s.2 fits.1;
             low = subst (λ (m : Bool). cond m v 0 ≤ 32768) s.2 fits.2;
           })
@@ -148,19 +148,19 @@ reads-exponent rest =
 -- a point
 pub record ReadsPoint (bs : List ℕ) : Type 0 where
   pub part : Option (List ℕ)
-  pub is : bs ≡ before_first is_point bs ++ fraction_bytes part
-  pub digits : fraction_digits part ≡ after_first is_point bs
+  pub is : bs ≡ before_first is_decimal_point bs ++ fraction_bytes part
+  pub digits : fraction_digits part ≡ after_first is_decimal_point bs
 
 pub reads-point : (bs : List ℕ) → ReadsPoint bs
 reads-point bs =
-    let place = position_or_len is_point bs in
+    let place = position_or_len is_decimal_point bs in
     elim (cases_lt place (length bs)) [
       | inl within ↦
-          let dot : get_or bs place 0 ≡ 46 = eqb-true _ 46 (passes_at_first is_point bs 0 within) in
+          let dot : get_or bs place 0 ≡ 46 = eqb-true _ 46 (passes_at_first is_decimal_point bs 0 within) in
           record {
-            part = Some (after_first is_point bs);
-            is = split_at_first is_point bs 0 within
-                ∙ ap (λ d. before_first is_point bs ++ d ∷ after_first is_point bs) dot;
+            part = Some (after_first is_decimal_point bs);
+            is = split_at_first is_decimal_point bs 0 within
+                ∙ ap (λ d. before_first is_decimal_point bs ++ d ∷ after_first is_decimal_point bs) dot;
             digits = refl;
           }
       | inr past ↦ record {
@@ -170,30 +170,30 @@ reads-point bs =
       }
     ]
 
-no-mark-fraction : (f : Option (List ℕ)) → AllDigits 10 (fraction_digits f) → Fails is_mark (fraction_bytes f)
+no-mark-fraction : (f : Option (List ℕ)) → AllDigits 10 (fraction_digits f) → Fails is_exponent_mark (fraction_bytes f)
 no-mark-fraction None h = tt
 no-mark-fraction (Some ds) h = (refl, digits-fail-mark ds h)
 
-before-point : (whole : List ℕ) (f : Option (List ℕ)) → AllDigits 10 whole
-    → before_first is_point (whole ++ fraction_bytes f) ≡ whole
-before-point whole None h =
-    rw (append-nil, first-none is_point whole (digits-fail-point whole h)) (take_all (length whole) whole (omega arith))
-before-point whole (Some ds) h =
-    rw (first-here is_point whole 46 ds (digits-fail-point whole h) refl) (take_at whole (46 ∷ ds) (length whole) refl)
+before-point : (integer_digits : List ℕ) (f : Option (List ℕ)) → AllDigits 10 integer_digits
+    → before_first is_decimal_point (integer_digits ++ fraction_bytes f) ≡ integer_digits
+before-point integer_digits None h =
+    rw (append-nil, first-none is_decimal_point integer_digits (digits-fail-point integer_digits h)) (take_all (length integer_digits) integer_digits (omega arith))
+before-point integer_digits (Some ds) h =
+    rw (first-here is_decimal_point integer_digits 46 ds (digits-fail-point integer_digits h) refl) (take_at integer_digits (46 ∷ ds) (length integer_digits) refl)
 
-after-point : (whole : List ℕ) (f : Option (List ℕ)) → AllDigits 10 whole
-    → after_first is_point (whole ++ fraction_bytes f) ≡ fraction_digits f
-after-point whole None h =
-    rw (append-nil, first-none is_point whole (digits-fail-point whole h))
-    (drop_all (length whole + 1) whole (omega arith))
-after-point whole (Some ds) h =
-    rw (first-here is_point whole 46 ds (digits-fail-point whole h) refl) (past whole 46 ds)
+after-point : (integer_digits : List ℕ) (f : Option (List ℕ)) → AllDigits 10 integer_digits
+    → after_first is_decimal_point (integer_digits ++ fraction_bytes f) ≡ fraction_digits f
+after-point integer_digits None h =
+    rw (append-nil, first-none is_decimal_point integer_digits (digits-fail-point integer_digits h))
+    (drop_all (length integer_digits + 1) integer_digits (omega arith))
+after-point integer_digits (Some ds) h =
+    rw (first-here is_decimal_point integer_digits 46 ds (digits-fail-point integer_digits h) refl) (past integer_digits 46 ds)
 
-before-mark : (cs : List ℕ) (ex : Exponent) → Fails is_mark cs → IsExponent ex
-    → before_first is_mark (cs ++ exponent_bytes ex) ≡ cs
-before-mark cs unwritten h ok = rw (append-nil, first-none is_mark cs h) (take_all (length cs) cs (omega arith))
+before-mark : (cs : List ℕ) (ex : Exponent) → Fails is_exponent_mark cs → IsExponent ex
+    → before_first is_exponent_mark (cs ++ exponent_bytes ex) ≡ cs
+before-mark cs unwritten h ok = rw (append-nil, first-none is_exponent_mark cs h) (take_all (length cs) cs (omega arith))
 before-mark cs (written m s ds) h ok =
-    rw (first-here is_mark cs m (sign_bytes s ++ ds) h (is-mark m ok.0))
+    rw (first-here is_exponent_mark cs m (sign_bytes s ++ ds) h (is-mark m ok.0))
     (take_at cs (m ∷ (sign_bytes s ++ ds)) (length cs) refl)
 
 digits-no-sign : (ds : List ℕ) → 0 < length ds → AllDigits 10 ds → (get_or ds 0 0 ≢ 43) × (get_or ds 0 0 ≢ 45)
@@ -241,62 +241,62 @@ written_from tail marked =
     cond (not marked) (Ok 32768)
     (cond (eqb (length tail) 0) (Err EmptyExponent) (ok_or (exponent_value tail) InvalidExponent))
 
-written-is : (cs : List ℕ) (ex : Exponent) (w : ℕ) → Fails is_mark cs → IsExponent ex → written_up ex ≤ 32767
+written-is : (cs : List ℕ) (ex : Exponent) (w : ℕ) → Fails is_exponent_mark cs → IsExponent ex → written_up ex ≤ 32767
     → written_down ex ≤ 32768 → w + written_down ex ≡ 32768 + written_up ex
-    → written_exponent_place (cs ++ exponent_bytes ex) ≡ Ok w
-unfolding written_exponent_place written_from
+    → shifted_written_exponent (cs ++ exponent_bytes ex) ≡ Ok w
+unfolding shifted_written_exponent written_from
 written-is cs unwritten w h ok high low at =
-    let none : ltb (position_or_len is_mark cs) (length cs) ≡ false =
-    rw (first-none is_mark cs h) (grind (arith, nat_tests)) in
+    let none : ltb (position_or_len is_exponent_mark cs) (length cs) ≡ false =
+    rw (first-none is_exponent_mark cs h) (grind (arith, nat_tests)) in
     let w-is : w ≡ 32768 = omega arith in
     rw (append-nil, none, w-is) refl
 written-is cs (written m s ds) w h ok high low at =
     let rest = cs ++ m ∷ (sign_bytes s ++ ds) in
-    let place = first-here is_mark cs m (sign_bytes s ++ ds) h (is-mark m ok.0) in
-    let tail : after_first is_mark rest ≡ sign_bytes s ++ ds = rw place (past cs m (sign_bytes s ++ ds)) in
-    let marked : has is_mark rest ≡ true =
+    let place = first-here is_exponent_mark cs m (sign_bytes s ++ ds) h (is-mark m ok.0) in
+    let tail : after_first is_exponent_mark rest ≡ sign_bytes s ++ ds = rw place (past cs m (sign_bytes s ++ ds)) in
+    let marked : has_byte is_exponent_mark rest ≡ true =
     rw place (search (rules, tests, length-append cs (m ∷ (sign_bytes s ++ ds)))) in
     let some : eqb (length (sign_bytes s ++ ds)) 0 ≡ false =
     grind (arith, nat_tests, length-append (sign_bytes s) ds, ok.1) in
-    let first : written_exponent_place rest ≡ written_from (after_first is_mark rest) (has is_mark rest) = refl in
-    first ∙ ap (λ t. written_from t (has is_mark rest)) tail ∙ ap (λ b. written_from (sign_bytes s ++ ds) b) marked
+    let first : shifted_written_exponent rest ≡ written_from (after_first is_exponent_mark rest) (has_byte is_exponent_mark rest) = refl in
+    first ∙ ap (λ t. written_from t (has_byte is_exponent_mark rest)) tail ∙ ap (λ b. written_from (sign_bytes s ++ ds) b) marked
     ∙ rw (some, exponent-is s ds w ok.1 ok.2 high low at) refl
 
 -- the steps, from the parts of a text
 finite_from : Result ℕ ParseError → List ℕ → List ℕ → Result (ℕ × ℕ) ParseError
-finite_from w fraction whole = bind w (λ v. bind (scaled_exponent v fraction) (λ x. stored_pair (whole ++ fraction) x))
+finite_from w fraction integer_digits = bind w (λ v. bind (scaled_exponent v fraction) (λ x. coefficient_and_exponent (integer_digits ++ fraction) x))
 
 -- the steps on a text that is put together of its parts
-module _ (whole : List ℕ) (f : Option (List ℕ)) (ex : Exponent) (digits : AllDigits 10 (whole ++ fraction_digits f))
+module _ (integer_digits : List ℕ) (f : Option (List ℕ)) (ex : Exponent) (digits : AllDigits 10 (integer_digits ++ fraction_digits f))
     (ok : IsExponent ex) (high : written_up ex ≤ 32767) (low : written_down ex ≤ 32768) where
   coefficient_bytes : List ℕ
-  coefficient_bytes = whole ++ fraction_bytes f
+  coefficient_bytes = integer_digits ++ fraction_bytes f
 
-  no-mark : Fails is_mark (whole ++ fraction_bytes f)
+  no-mark : Fails is_exponent_mark (integer_digits ++ fraction_bytes f)
   no-mark =
-      let parts = AllDigits-parts whole (fraction_digits f) digits in
-      Fails-append is_mark whole (fraction_bytes f) (digits-fail-mark whole parts.0) (no-mark-fraction f parts.1)
+      let parts = AllDigits-parts integer_digits (fraction_digits f) digits in
+      Fails-append is_exponent_mark integer_digits (fraction_bytes f) (digits-fail-mark integer_digits parts.0) (no-mark-fraction f parts.1)
 
-  before-is : before_first is_mark ((whole ++ fraction_bytes f) ++ exponent_bytes ex) ≡ whole ++ fraction_bytes f
-  before-is = before-mark (whole ++ fraction_bytes f) ex no-mark ok
+  before-is : before_first is_exponent_mark ((integer_digits ++ fraction_bytes f) ++ exponent_bytes ex) ≡ integer_digits ++ fraction_bytes f
+  before-is = before-mark (integer_digits ++ fraction_bytes f) ex no-mark ok
 
   pub finite-is : (w x : ℕ) → w + written_down ex ≡ 32768 + written_up ex → length (fraction_digits f) ≤ 32767
       → w ≡ x + length (fraction_digits f)
-      → finite ((whole ++ fraction_bytes f) ++ exponent_bytes ex) ≡ stored_pair (whole ++ fraction_digits f) x
+      → finite ((integer_digits ++ fraction_bytes f) ++ exponent_bytes ex) ≡ coefficient_and_exponent (integer_digits ++ fraction_digits f) x
   unfolding finite scaled_exponent finite_from
   finite-is w x at short sum =
-      let rest = (whole ++ fraction_bytes f) ++ exponent_bytes ex in
-      let parts = AllDigits-parts whole (fraction_digits f) digits in
-      let point = ap (after_first is_point) before-is ∙ after-point whole f parts.0 in
-      let front = ap (before_first is_point) before-is ∙ before-point whole f parts.0 in
-      let first : finite rest ≡ finite_from (written_exponent_place rest) (after_first is_point (before_first is_mark rest))
-      (before_first is_point (before_first is_mark rest)) = refl in
+      let rest = (integer_digits ++ fraction_bytes f) ++ exponent_bytes ex in
+      let parts = AllDigits-parts integer_digits (fraction_digits f) digits in
+      let point = ap (after_first is_decimal_point) before-is ∙ after-point integer_digits f parts.0 in
+      let front = ap (before_first is_decimal_point) before-is ∙ before-point integer_digits f parts.0 in
+      let first : finite rest ≡ finite_from (shifted_written_exponent rest) (after_first is_decimal_point (before_first is_exponent_mark rest))
+      (before_first is_decimal_point (before_first is_exponent_mark rest)) = refl in
       let a : ltb 32767 (length (fraction_digits f)) ≡ false = grind (arith, nat_tests) in
       let b : ltb w (length (fraction_digits f)) ≡ false = grind (arith, nat_tests) in
       let c : w - length (fraction_digits f) ≡ x = omega arith in
-      first ∙ ap (λ t. finite_from t (after_first is_point (before_first is_mark rest))
-      (before_first is_point (before_first is_mark rest)))
-      (written-is (whole ++ fraction_bytes f) ex w no-mark ok high low at)
-      ∙ ap (λ t. finite_from (Ok w) t (before_first is_point (before_first is_mark rest))) point
+      first ∙ ap (λ t. finite_from t (after_first is_decimal_point (before_first is_exponent_mark rest))
+      (before_first is_decimal_point (before_first is_exponent_mark rest)))
+      (written-is (integer_digits ++ fraction_bytes f) ex w no-mark ok high low at)
+      ∙ ap (λ t. finite_from (Ok w) t (before_first is_decimal_point (before_first is_exponent_mark rest))) point
       ∙ ap (λ t. finite_from (Ok w) (fraction_digits f) t) front
       ∙ rw (a, b, c) refl

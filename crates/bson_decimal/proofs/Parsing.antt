@@ -11,15 +11,15 @@ use Rattle.std.specs.Int.{w128, to_le_bytes}
 use Rattle.std.specs.List.{before_first, after_first}
 use Rattle.std.specs.Str.Parse.{AllDigits, without_leading_sign, starts_with_minus}
 use Rattle.bson_decimal.specs.declared.ParseError.{ParseError}
-use Rattle.bson_decimal.specs.Pattern.{first_form, sign_weight}
+use Rattle.bson_decimal.specs.DecimalBits.{encoded_finite, sign_bit}
 use Rattle.bson_decimal.proofs.Shifted.{FitsShifted, IsNearestShifted}
-use Rattle.bson_decimal.specs.Numeral.{Sign, sign_bytes, is_minus, Exponent, exponent_bytes, fraction_bytes}
-use Rattle.bson_decimal.specs.Numeral.{fraction_digits, IsExponent, Numeral, digits_of, IsFiniteText, number}
-use Rattle.bson_decimal.specs.Text.{SpecialWord, nan, snan, infinity, inf, Parses, special, finite as finite_text}
-use Rattle.bson_decimal.specs.Text.{lowercase}
+use Rattle.bson_decimal.specs.NumeralGrammar.{Sign, sign_bytes, is_minus, Exponent, exponent_bytes, fraction_bytes}
+use Rattle.bson_decimal.specs.NumeralGrammar.{fraction_digits, IsExponent, Numeral, digits_of, IsFiniteText, number}
+use Rattle.bson_decimal.specs.DecimalStrings.{IsSpecialWord, nan, snan, infinity, inf, DenotesDecimal, special, finite as finite_text}
+use Rattle.bson_decimal.specs.DecimalStrings.{lowercase}
 use Rattle.bson_decimal.proofs.Shifted.{written_up, written_down, up, down, IsWithin16Shifted, within16}
 use Rattle.bson_decimal.proofs.Shifted.{within16-shifted, nearest, nearest-shifted}
-use Rattle.bson_decimal.specs.Steps.{last_place, is_mark, is_point, scaled_exponent, stored_pair, finite}
+use Rattle.bson_decimal.specs.ParseSteps.{shifted_i16_max, is_exponent_mark, is_decimal_point, scaled_exponent, coefficient_and_exponent, finite}
 use Rattle.bson_decimal.proofs.StepLaws.{if-cases}
 use Rattle.bson_decimal.proofs.Fitted.{bind-by, IsFitted, FittedRefuses, stored_pair-cases}
 use Rattle.bson_decimal.proofs.NearestLaws.{nearest-one}
@@ -27,17 +27,17 @@ use Rattle.bson_decimal.proofs.Grammar.{ReadsExponent, reads-exponent, reads-poi
 
 -- the parts of a finite text without its sign, and its pair
 pub record ReadsFinite (rest : List ℕ) (r : ℕ × ℕ) : Type 0 where
-  pub whole : List ℕ
+  pub integer_digits : List ℕ
   pub fraction : Option (List ℕ)
   pub exponent : Exponent
-  pub is : rest ≡ (whole ++ fraction_bytes fraction) ++ exponent_bytes exponent
+  pub is : rest ≡ (integer_digits ++ fraction_bytes fraction) ++ exponent_bytes exponent
   pub ok : IsExponent exponent
   pub high : written_up exponent ≤ 32767
   pub low : written_down exponent ≤ 32768
   pub short : length (fraction_digits fraction) ≤ 32767
   pub scaled : ℕ
   pub scaled_is : scaled + length (fraction_digits fraction) + written_down exponent ≡ 32768 + written_up exponent
-  pub fitted_is : IsFitted (whole ++ fraction_digits fraction) scaled r
+  pub fitted_is : IsFitted (integer_digits ++ fraction_digits fraction) scaled r
 
 scaled-cases : (w : ℕ) (f : List ℕ)
     → MatchResult (scaled_exponent w f) (λ x. (x + length f ≡ w) × (length f ≤ 32767)) (λ _. ⊤)
@@ -48,8 +48,8 @@ scaled-cases w f =
     (λ e. if-cases (λ x. (x + length f ≡ w) × (length f ≤ 32767)) (λ _. ⊤) (ltb w (length f)) _ _ (λ _. tt)
     (λ g. let a = ltb-false 32767 (length f) e in let b = ltb-false w (length f) g in (omega arith, a)))
 
-stored_pair-ok : (bs : List ℕ) (x : ℕ) → x ≤ last_place → MatchResult (stored_pair bs x) (IsFitted bs x) (λ _. ⊤)
-stored_pair-ok bs x low = weaker (stored_pair bs x) (stored_pair-cases bs x low)
+coefficient_and_exponent-ok : (bs : List ℕ) (x : ℕ) → x ≤ shifted_i16_max → MatchResult (coefficient_and_exponent bs x) (IsFitted bs x) (λ _. ⊤)
+coefficient_and_exponent-ok bs x low = weaker (coefficient_and_exponent bs x) (stored_pair-cases bs x low)
   where
     weaker : (r : Result (ℕ × ℕ) ParseError) → MatchResult r (IsFitted bs x) (FittedRefuses bs x)
         → MatchResult r (IsFitted bs x) (λ _. ⊤)
@@ -59,30 +59,30 @@ stored_pair-ok bs x low = weaker (stored_pair bs x) (stored_pair-cases bs x low)
 pub reads-finite : (rest : List ℕ) → MatchResult (finite rest) (ReadsFinite rest) (λ _. ⊤)
 unfolding finite
 reads-finite rest =
-    let cs = before_first is_mark rest in
+    let cs = before_first is_exponent_mark rest in
     let p = reads-point cs in
-    let whole = before_first is_point cs in
-    let fraction = after_first is_point cs in
+    let integer_digits = before_first is_decimal_point cs in
+    let fraction = after_first is_decimal_point cs in
     bind-by (ReadsFinite rest) (λ _. ⊤) (ReadsExponent rest) (λ _. ⊤) _ _ (reads-exponent rest)
     (λ w ex.
     bind-by (ReadsFinite rest) (λ _. ⊤) (λ x. (x + length fraction ≡ w) × (length fraction ≤ 32767))
     (λ _. ⊤) (scaled_exponent w fraction) _ (scaled-cases w fraction)
-    (λ x sum. ok-finite rest whole p.part ex.part fraction w x p.digits
+    (λ x sum. ok-finite rest integer_digits p.part ex.part fraction w x p.digits
     (ex.is ∙ ap (λ t. t ++ exponent_bytes ex.part) p.is) ex.ok ex.high ex.low ex.value sum.0 sum.1
-    (stored_pair (whole ++ fraction) x)
-    (stored_pair-ok (whole ++ fraction) x (let v = ex.value in let h = ex.high in let s = sum.0 in omega arith)))
+    (coefficient_and_exponent (integer_digits ++ fraction) x)
+    (coefficient_and_exponent-ok (integer_digits ++ fraction) x (let v = ex.value in let h = ex.high in let s = sum.0 in omega arith)))
     (λ e h. tt))
     (λ e h. tt)
   where
-    ok-finite : (rest whole : List ℕ) (f : Option (List ℕ)) (ex : Exponent) (fraction : List ℕ) (w x : ℕ)
-        → fraction_digits f ≡ fraction → rest ≡ (whole ++ fraction_bytes f) ++ exponent_bytes ex → IsExponent ex
+    ok-finite : (rest integer_digits : List ℕ) (f : Option (List ℕ)) (ex : Exponent) (fraction : List ℕ) (w x : ℕ)
+        → fraction_digits f ≡ fraction → rest ≡ (integer_digits ++ fraction_bytes f) ++ exponent_bytes ex → IsExponent ex
         → written_up ex ≤ 32767 → written_down ex ≤ 32768
         → w + written_down ex ≡ 32768 + written_up ex → x + length fraction ≡ w → length fraction ≤ 32767
-        → (r : Result (ℕ × ℕ) ParseError) → MatchResult r (IsFitted (whole ++ fraction) x) (λ _. ⊤)
+        → (r : Result (ℕ × ℕ) ParseError) → MatchResult r (IsFitted (integer_digits ++ fraction) x) (λ _. ⊤)
         → MatchResult r (ReadsFinite rest) (λ _. ⊤)
-    ok-finite rest whole f ex fraction w x same is ok high low value sum short (Ok r) h =
+    ok-finite rest integer_digits f ex fraction w x same is ok high low value sum short (Ok r) h =
         record {
-          whole = whole;
+          integer_digits = integer_digits;
           fraction = f;
           exponent = ex;
           is = is;
@@ -94,20 +94,20 @@ reads-finite rest =
           scaled_is = rw same (omega arith);
           fitted_is = rw same h;
         }
-    ok-finite rest whole f ex fraction w x same is ok high low value sum short (Err e) h = tt
+    ok-finite rest integer_digits f ex fraction w x same is ok high low value sum short (Err e) h = tt
 
 -- the first byte of a finite text without its sign
-front-no-sign : (whole : List ℕ) (f : Option (List ℕ)) (rest : List ℕ) → AllDigits 10 (whole ++ fraction_digits f)
-    → 0 < length (whole ++ fraction_digits f)
-    → (get_or (whole ++ (fraction_bytes f ++ rest)) 0 0 ≢ 43) × (get_or (whole ++ (fraction_bytes f ++ rest)) 0 0 ≢ 45)
+front-no-sign : (integer_digits : List ℕ) (f : Option (List ℕ)) (rest : List ℕ) → AllDigits 10 (integer_digits ++ fraction_digits f)
+    → 0 < length (integer_digits ++ fraction_digits f)
+    → (get_or (integer_digits ++ (fraction_bytes f ++ rest)) 0 0 ≢ 43) × (get_or (integer_digits ++ (fraction_bytes f ++ rest)) 0 0 ≢ 45)
 front-no-sign [] None rest digits some = absurd (omega arith)
 front-no-sign [] (Some ds) rest digits some = (λ e. omega arith, λ e. omega arith)
 front-no-sign (d ∷ ds) f rest digits some = let r = digit_at (d ∷ (ds ++ fraction_digits f)) 0 digits some in let low =
     r.0 in (λ e. omega arith, λ e. omega arith)
 
-front-low : (whole : List ℕ) (f : Option (List ℕ)) (rest : List ℕ) → AllDigits 10 (whole ++ fraction_digits f)
-    → 0 < length (whole ++ fraction_digits f)
-    → get_or (whole ++ (fraction_bytes f ++ rest)) 0 0 < 65
+front-low : (integer_digits : List ℕ) (f : Option (List ℕ)) (rest : List ℕ) → AllDigits 10 (integer_digits ++ fraction_digits f)
+    → 0 < length (integer_digits ++ fraction_digits f)
+    → get_or (integer_digits ++ (fraction_bytes f ++ rest)) 0 0 < 65
 front-low [] None rest digits some = absurd (omega arith)
 front-low [] (Some ds) rest digits some = omega arith
 front-low (d ∷ ds) f rest digits some = let r = digit_at (d ∷ (ds ++ fraction_digits f)) 0 digits some in let high =
@@ -117,14 +117,14 @@ front-low (d ∷ ds) f rest digits some = let r = digit_at (d ∷ (ds ++ fractio
 pub record StepsOn (text : List ℕ) (n : Numeral) : Type 0 where
   pub x : ℕ
   pub at : x + down n ≡ up n + 32768
-  pub within : x ≤ last_place
-  pub steps : finite (without_leading_sign text) ≡ stored_pair (digits_of n) x
+  pub within : x ≤ shifted_i16_max
+  pub steps : finite (without_leading_sign text) ≡ coefficient_and_exponent (digits_of n) x
   pub sign : starts_with_minus text ≡ is_minus n.sign
 
 pub steps-on : (text : List ℕ) (n : Numeral) → IsFiniteText text n → IsWithin16Shifted n → StepsOn text n
 steps-on text n t l =
-    let rest = n.whole ++ (fraction_bytes n.fraction ++ exponent_bytes n.exponent) in
-    let first = front-no-sign n.whole n.fraction (exponent_bytes n.exponent) t.digits t.some in
+    let rest = n.integer_digits ++ (fraction_bytes n.fraction ++ exponent_bytes n.exponent) in
+    let first = front-no-sign n.integer_digits n.fraction (exponent_bytes n.exponent) t.digits t.some in
     let off = sign-off n.sign rest first.0 first.1 in
     let high = l.high in
     let low = l.low in
@@ -136,8 +136,8 @@ steps-on text n t l =
       at = omega arith;
       within = omega arith;
       steps = ap (λ bs. finite (without_leading_sign bs)) t.is
-          ∙ ap finite (off.0 ∙ sym (append_assoc n.whole (fraction_bytes n.fraction) (exponent_bytes n.exponent)))
-          ∙ finite-is n.whole n.fraction n.exponent t.digits t.exponent l.high l.low w x (omega arith) l.fraction
+          ∙ ap finite (off.0 ∙ sym (append_assoc n.integer_digits (fraction_bytes n.fraction) (exponent_bytes n.exponent)))
+          ∙ finite-is n.integer_digits n.fraction n.exponent t.digits t.exponent l.high l.low w x (omega arith) l.fraction
           (omega arith);
       sign = ap starts_with_minus t.is ∙ off.1;
     }
@@ -164,20 +164,20 @@ only text r is n c e t l near =
 
 -- a text that the steps read
 pub read : (text : List ℕ) (r : ℕ × ℕ) → ReadsFinite (without_leading_sign text) r
-    → Parses text (to_le_bytes w128 (first_form (starts_with_minus text) r.0 r.1))
+    → DenotesDecimal text (to_le_bytes w128 (encoded_finite (starts_with_minus text) r.0 r.1))
 read text r h =
     let s = sign-of text in
-    let n : Numeral = record { sign = s.0; whole = h.whole; fraction = h.fraction; exponent = h.exponent } in
+    let n : Numeral = record { sign = s.0; integer_digits = h.integer_digits; fraction = h.fraction; exponent = h.exponent } in
     let sum = h.scaled_is in
-    let stored_pair = h.fitted_is in
-    let few = stored_pair.few in
-    let most = stored_pair.high in
+    let coefficient_and_exponent = h.fitted_is in
+    let few = coefficient_and_exponent.few in
+    let most = coefficient_and_exponent.high in
     finite_text n r.0 r.1
     (record {
       is = s.1 ∙ ap (λ t. sign_bytes s.0 ++ t)
-          (h.is ∙ append_assoc h.whole (fraction_bytes h.fraction) (exponent_bytes h.exponent));
-      digits = stored_pair.digits;
-      some = stored_pair.some;
+          (h.is ∙ append_assoc h.integer_digits (fraction_bytes h.fraction) (exponent_bytes h.exponent));
+      digits = coefficient_and_exponent.digits;
+      some = coefficient_and_exponent.some;
       exponent = h.ok;
     })
     (within16 n (record {
@@ -188,8 +188,8 @@ read text r h =
       cut = few;
       greatest = omega arith;
     }))
-    (nearest n r.0 r.1 (stored_pair.nearest (up n) (down n) (omega arith)))
-    (ap (λ b. to_le_bytes w128 (first_form b r.0 r.1)) s.2)
+    (nearest n r.0 r.1 (coefficient_and_exponent.nearest (up n) (down n) (omega arith)))
+    (ap (λ b. to_le_bytes w128 (encoded_finite b r.0 r.1)) s.2)
 
 -- words
 letter : (c x : ℕ) → to_ascii_lowercase c ≡ x → 97 ≤ x → 65 ≤ c
@@ -199,7 +199,7 @@ head-letter : (word : List ℕ) (x : ℕ) (xs : List ℕ) → lowercase word ≡
 head-letter [] x xs e h = cc
 head-letter (c ∷ cs) x xs e h = let first : to_ascii_lowercase c ≡ x = cc in letter c x first h
 
-special-letter : (word : List ℕ) (n : ℕ) → SpecialWord word n → 65 ≤ get_or word 0 0
+special-letter : (word : List ℕ) (n : ℕ) → IsSpecialWord word n → 65 ≤ get_or word 0 0
 special-letter word n (nan e) = head-letter word _ _ e (omega arith)
 special-letter word n (snan e) = head-letter word _ _ e (omega arith)
 special-letter word n (infinity e) = head-letter word _ _ e (omega arith)
@@ -211,7 +211,7 @@ apart word a b e f = sym e ∙ f
 heads : (word a b : List ℕ) → lowercase word ≡ a → lowercase word ≡ b → get_or a 0 0 ≡ get_or b 0 0
 heads word a b e f = ap (λ (xs : List ℕ). get_or xs 0 0) (apart word a b e f)
 
-special-one : (word : List ℕ) (m n : ℕ) → SpecialWord word m → SpecialWord word n → m ≡ n
+special-one : (word : List ℕ) (m n : ℕ) → IsSpecialWord word m → IsSpecialWord word n → m ≡ n
 special-one word m n (nan e) (nan f) = refl
 special-one word m n (nan e) (snan f) = absurd (omega (arith, heads word _ _ e f))
 special-one word m n (nan e) (infinity f) = absurd (omega (arith, heads word _ _ e f))
@@ -230,29 +230,29 @@ special-one word m n (inf e) (infinity f) = refl
 special-one word m n (inf e) (inf f) = refl
 
 -- a word after its sign
-pub word-off : (s : Sign) (word : List ℕ) (n : ℕ) → SpecialWord word n
+pub word-off : (s : Sign) (word : List ℕ) (n : ℕ) → IsSpecialWord word n
     → (without_leading_sign (sign_bytes s ++ word) ≡ word) × (starts_with_minus (sign_bytes s ++ word) ≡ is_minus s)
 word-off s word n h = let first = special-letter word n h in sign-off s word (λ e. omega arith) (λ e. omega arith)
 
 -- a finite text is no word
-pub no-word : (text : List ℕ) (n : Numeral) (m : ℕ) → IsFiniteText text n → SpecialWord (without_leading_sign text) m
+pub no-word : (text : List ℕ) (n : Numeral) (m : ℕ) → IsFiniteText text n → IsSpecialWord (without_leading_sign text) m
     → ⊥
 no-word text n m t h =
-    let first = front-no-sign n.whole n.fraction (exponent_bytes n.exponent) t.digits t.some in
-    let off = sign-off n.sign (n.whole ++ (fraction_bytes n.fraction ++ exponent_bytes n.exponent)) first.0 first.1 in
+    let first = front-no-sign n.integer_digits n.fraction (exponent_bytes n.exponent) t.digits t.some in
+    let off = sign-off n.sign (n.integer_digits ++ (fraction_bytes n.fraction ++ exponent_bytes n.exponent)) first.0 first.1 in
     let rest = ap without_leading_sign t.is ∙ off.0 in
-    let low = front-low n.whole n.fraction (exponent_bytes n.exponent) t.digits t.some in
+    let low = front-low n.integer_digits n.fraction (exponent_bytes n.exponent) t.digits t.some in
     let high = special-letter _ m (rw rest at h) in
     omega arith
 
-pub special-parses : (text : List ℕ) (n : ℕ) → SpecialWord (without_leading_sign text) n
-    → Parses text (to_le_bytes w128 (sign_weight (starts_with_minus text) + n))
-    × ((b : List ℕ) → Parses text b → b ≡ to_le_bytes w128 (sign_weight (starts_with_minus text) + n))
+pub special-parses : (text : List ℕ) (n : ℕ) → IsSpecialWord (without_leading_sign text) n
+    → DenotesDecimal text (to_le_bytes w128 (sign_bit (starts_with_minus text) + n))
+    × ((b : List ℕ) → DenotesDecimal text b → b ≡ to_le_bytes w128 (sign_bit (starts_with_minus text) + n))
 special-parses text n h =
     let s = sign-of text in
-    (special s.0 (without_leading_sign text) n s.1 h (ap (λ b. to_le_bytes w128 (sign_weight b + n)) s.2), only-word)
+    (special s.0 (without_leading_sign text) n s.1 h (ap (λ b. to_le_bytes w128 (sign_bit b + n)) s.2), only-word)
   where
-    only-word : (b : List ℕ) → Parses text b → b ≡ to_le_bytes w128 (sign_weight (starts_with_minus text) + n)
+    only-word : (b : List ℕ) → DenotesDecimal text b → b ≡ to_le_bytes w128 (sign_bit (starts_with_minus text) + n)
     only-word b (special s word m is w b-is) =
         let off = word-off s word m w in
         let rest : without_leading_sign text ≡ word = ap without_leading_sign is ∙ off.0 in
@@ -261,13 +261,13 @@ special-parses text n h =
         b-is ∙ rw (same, sign) refl
     only-word b (finite_text k c e t l near b-is) = absurd (no-word text k n t h)
 
-pub finite-parses : (text : List ℕ) (r : ℕ × ℕ) → ((n : ℕ) → ¬ (SpecialWord (without_leading_sign text) n))
+pub finite-parses : (text : List ℕ) (r : ℕ × ℕ) → ((n : ℕ) → ¬ (IsSpecialWord (without_leading_sign text) n))
     → finite (without_leading_sign text) ≡ Ok r
-    → Parses text (to_le_bytes w128 (first_form (starts_with_minus text) r.0 r.1))
-    × ((b : List ℕ) → Parses text b → b ≡ to_le_bytes w128 (first_form (starts_with_minus text) r.0 r.1))
+    → DenotesDecimal text (to_le_bytes w128 (encoded_finite (starts_with_minus text) r.0 r.1))
+    × ((b : List ℕ) → DenotesDecimal text b → b ≡ to_le_bytes w128 (encoded_finite (starts_with_minus text) r.0 r.1))
 finite-parses text r plain is = (read text r (rw is at (reads-finite (without_leading_sign text))), only-pair)
   where
-    only-pair : (b : List ℕ) → Parses text b → b ≡ to_le_bytes w128 (first_form (starts_with_minus text) r.0 r.1)
+    only-pair : (b : List ℕ) → DenotesDecimal text b → b ≡ to_le_bytes w128 (encoded_finite (starts_with_minus text) r.0 r.1)
     only-pair b (special s word m w-is w b-is) =
         absurd (plain m (rw (ap without_leading_sign w-is ∙ (word-off s word m w).0) w))
     only-pair b (finite_text n c e t l near b-is) =
@@ -276,8 +276,8 @@ finite-parses text r plain is = (read text r (rw is at (reads-finite (without_le
         let s = steps-on text n t limits in
         b-is ∙ rw (same.0, same.1, s.sign) refl
 
-pub refused-parses : (text : List ℕ) (k : ParseError) → ((n : ℕ) → ¬ (SpecialWord (without_leading_sign text) n))
-    → finite (without_leading_sign text) ≡ Err k → (b : List ℕ) → ¬ (Parses text b)
+pub refused-parses : (text : List ℕ) (k : ParseError) → ((n : ℕ) → ¬ (IsSpecialWord (without_leading_sign text) n))
+    → finite (without_leading_sign text) ≡ Err k → (b : List ℕ) → ¬ (DenotesDecimal text b)
 refused-parses text k plain is b (special s word m w-is w b-is) =
     plain m (rw (ap without_leading_sign w-is ∙ (word-off s word m w).0) w)
 refused-parses text k plain is b (finite_text n c e t l near b-is) =

@@ -7,11 +7,11 @@ use lib.IntN.{nat_abs}
 use Rattle.std.proofs.lemmas.Int.{ints, clamps}
 use Rattle.std.proofs.lemmas.Nat.{pow-add}
 use Rattle.std.specs.Str.Parse.{digits_value}
-use Rattle.bson_decimal.specs.Exponents.{exponent_at}
-use Rattle.bson_decimal.specs.Numeral.{is_minus, Exponent, unwritten, written, Numeral, fraction_digits}
-use Rattle.bson_decimal.specs.Numeral.{written_exponent, exponent, number}
-use Rattle.bson_decimal.specs.Nearest.{Fits, IsNearest, distance}
-use Rattle.bson_decimal.specs.Text.{excess, IsWithin16}
+use Rattle.bson_decimal.specs.Exponents.{unbiased_exponent}
+use Rattle.bson_decimal.specs.NumeralGrammar.{is_minus, Exponent, unwritten, written, Numeral, fraction_digits}
+use Rattle.bson_decimal.specs.NumeralGrammar.{written_exponent, exponent, number}
+use Rattle.bson_decimal.specs.NearestExponent.{IsRepresentation, IsNearest, exponent_distance}
+use Rattle.bson_decimal.specs.DecimalStrings.{digits_past_34, IsWithinI16Limits}
 use Rattle.bson_decimal.proofs.Tens.{tens-cancel}
 
 -- c * 10 ^ (e - 6176) = m * 10 ^ (up - down), with both sides multiplied by 10 ^ (down + 6176)
@@ -49,8 +49,8 @@ pub record IsWithin16Shifted (n : Numeral) : Type 0 where
   pub low : written_down n.exponent ≤ 32768
   pub fraction : length (fraction_digits n.fraction) ≤ 32767
   pub least : down n ≤ up n + 32768
-  pub cut : excess n ≤ 32767
-  pub greatest : up n + excess n ≤ down n + 32767
+  pub cut : digits_past_34 n ≤ 32767
+  pub greatest : up n + digits_past_34 n ≤ down n + 32767
 
 -- ---- exponents
 
@@ -87,7 +87,7 @@ written_up-high (written mark s ds) k h = signed-high (is_minus s) (digits_value
 
 -- ---- limits
 
-pub within16-shifted : (n : Numeral) → IsWithin16 n → IsWithin16Shifted n
+pub within16-shifted : (n : Numeral) → IsWithinI16Limits n → IsWithin16Shifted n
 within16-shifted n l =
     let x = exponent-is n in
     let least = l.least in
@@ -101,7 +101,7 @@ within16-shifted n l =
       greatest = omega (arith, ints);
     }
 
-pub within16 : (n : Numeral) → IsWithin16Shifted n → IsWithin16 n
+pub within16 : (n : Numeral) → IsWithin16Shifted n → IsWithinI16Limits n
 within16 n l =
     let w = written_exponent-is n.exponent in
     let x = exponent-is n in
@@ -125,18 +125,18 @@ split : (c a l : ℕ) → l ≤ a → c * 10 ^ (a - l) * 10 ^ l ≡ c * 10 ^ a
 split c a l h = let e : a ≡ a - l + l = omega arith in rw (ap (λ k. 10 ^ k) e, pow-add 10 (a - l) l) (omega arith)
 
 left : (up down e : ℕ)
-    → nat_abs (exponent_at e -ℤ int_min (exponent_at e) (pos up -ℤ pos down)) ≡ e + down - min (e + down) (up + 6176)
+    → nat_abs (unbiased_exponent e -ℤ int_min (unbiased_exponent e) (pos up -ℤ pos down)) ≡ e + down - min (e + down) (up + 6176)
 left up down e = omega (arith, ints, clamps)
 
 right : (up down e : ℕ)
-    → nat_abs ((pos up -ℤ pos down) -ℤ int_min (exponent_at e) (pos up -ℤ pos down))
+    → nat_abs ((pos up -ℤ pos down) -ℤ int_min (unbiased_exponent e) (pos up -ℤ pos down))
     ≡ up + 6176 - min (e + down) (up + 6176)
 right up down e = omega (arith, ints, clamps)
 
-apart : (up down e : ℕ) → distance (pos up -ℤ pos down) (exponent_at e) ≡ distance_shifted up down e
+apart : (up down e : ℕ) → exponent_distance (pos up -ℤ pos down) (unbiased_exponent e) ≡ distance_shifted up down e
 apart up down e = omega (arith, ints, clamps)
 
-pub fits : (m up down c e : ℕ) → FitsShifted m up down c e → Fits m (pos up -ℤ pos down) c (exponent_at e)
+pub fits : (m up down c e : ℕ) → FitsShifted m up down c e → IsRepresentation m (pos up -ℤ pos down) c (unbiased_exponent e)
 fits m up down c e f =
     let l = min (e + down) (up + 6176) in
     let equal = tens-cancel _ _ l (split c (e + down) l (omega arith) ∙ f.equal
@@ -149,7 +149,7 @@ fits m up down c e f =
       high = omega (arith, ints);
     }
 
-pub fits-shifted : (m up down c e : ℕ) → Fits m (pos up -ℤ pos down) c (exponent_at e) → FitsShifted m up down c e
+pub fits-shifted : (m up down c e : ℕ) → IsRepresentation m (pos up -ℤ pos down) c (unbiased_exponent e) → FitsShifted m up down c e
 fits-shifted m up down c e f =
     let l = min (e + down) (up + 6176) in
     let equal = rw (left up down e, right up down e) at f.equal in
@@ -162,10 +162,10 @@ fits-shifted m up down c e f =
     }
 
 -- an exponent that fits is that of a stored one
-stored-is : (e : ℤ) → neg_ℤ (pos 6176) ≤ℤ e → exponent_at (nat_abs (e +ℤ pos 6176)) ≡ e
+stored-is : (e : ℤ) → neg_ℤ (pos 6176) ≤ℤ e → unbiased_exponent (nat_abs (e +ℤ pos 6176)) ≡ e
 stored-is e low = omega (arith, ints, clamps)
 
-nearest-at : (m up down c e : ℕ) → IsNearestShifted m up down c e → IsNearest m (pos up -ℤ pos down) c (exponent_at e)
+nearest-at : (m up down c e : ℕ) → IsNearestShifted m up down c e → IsNearest m (pos up -ℤ pos down) c (unbiased_exponent e)
 nearest-at m up down c e h =
     let x = pos up -ℤ pos down in
     record {
@@ -173,25 +173,25 @@ nearest-at m up down c e h =
       least = λ d f g.
           let stored = nat_abs (f +ℤ pos 6176) in
           let at = stored-is f g.low in
-          let near = h.least d stored (fits-shifted m up down d stored (subst (λ z. Fits m x d z) (sym at) g)) in
-          subst (λ z. distance x (exponent_at e) ≤ distance x z) at (rw (apart up down e, apart up down stored) near);
+          let near = h.least d stored (fits-shifted m up down d stored (subst (λ z. IsRepresentation m x d z) (sym at) g)) in
+          subst (λ z. exponent_distance x (unbiased_exponent e) ≤ exponent_distance x z) at (rw (apart up down e, apart up down stored) near);
     }
 
-nearest-at-shifted : (m up down c e : ℕ) → IsNearest m (pos up -ℤ pos down) c (exponent_at e)
+nearest-at-shifted : (m up down c e : ℕ) → IsNearest m (pos up -ℤ pos down) c (unbiased_exponent e)
     → IsNearestShifted m up down c e
 nearest-at-shifted m up down c e h =
     record {
       fits = fits-shifted m up down c e h.fits;
-      least = λ d f g. rw (apart up down e, apart up down f) at (h.least d (exponent_at f) (fits m up down d f g));
+      least = λ d f g. rw (apart up down e, apart up down f) at (h.least d (unbiased_exponent f) (fits m up down d f g));
     }
 
 pub nearest : (n : Numeral) (c e : ℕ) → IsNearestShifted (number n) (up n) (down n) c e
-    → IsNearest (number n) (exponent n) c (exponent_at e)
-nearest n c e h = subst (λ x. IsNearest (number n) x c (exponent_at e)) (sym (exponent-is n))
+    → IsNearest (number n) (exponent n) c (unbiased_exponent e)
+nearest n c e h = subst (λ x. IsNearest (number n) x c (unbiased_exponent e)) (sym (exponent-is n))
     (nearest-at (number n) (up n) (down n) c e h)
 
-pub nearest-shifted : (n : Numeral) (c e : ℕ) → IsNearest (number n) (exponent n) c (exponent_at e)
+pub nearest-shifted : (n : Numeral) (c e : ℕ) → IsNearest (number n) (exponent n) c (unbiased_exponent e)
     → IsNearestShifted (number n) (up n) (down n) c e
 nearest-shifted n c e h =
     nearest-at-shifted (number n) (up n) (down n) c e
-    (subst (λ x. IsNearest (number n) x c (exponent_at e)) (exponent-is n) h)
+    (subst (λ x. IsNearest (number n) x c (unbiased_exponent e)) (exponent-is n) h)

@@ -14,7 +14,7 @@ use Rattle.std.proofs.lemmas.Bool.Decides.{nat_tests}
 use Rattle.std.proofs.lemmas.List.Sums.{passes_at_first, prefix_len-le-length}
 use Rattle.std.proofs.lemmas.Int.{ints}
 use Rattle.std.specs.Str.{all_ascii_digits}
-use Rattle.bson_decimal.specs.Steps.{is_mark, is_exponent, exponent_value}
+use Rattle.bson_decimal.specs.ParseSteps.{is_exponent_mark, is_exponent, exponent_value}
 use Rattle.bson_decimal.proofs.DigitTests.{AllDigits-from_test, test-from_AllDigits}
 
 position-or : (p : ℕ → Bool) (xs : List ℕ) → unwrap_or (position p xs) (length xs) ≡ position_or_len p xs
@@ -32,15 +32,15 @@ pub first-place : (p : ℕ → Bool) (xs : List ℕ) (n : ℕ) → n ≡ unwrap_
     → (n ≡ position_or_len p xs) × (n ≤ length xs)
 first-place p xs n is = let place = is ∙ position-or p xs in (place, rw place (position_or_len-le p xs))
 
-pub mark-ascii : (b : ℕ) → is_mark b ≡ true → b < 128
+pub mark-ascii : (b : ℕ) → is_exponent_mark b ≡ true → b < 128
 mark-ascii b e = elim (or_cases (eqb b 101) (eqb b 69) e) [
   | inl t ↦ omega (arith, eqb-true b 101 t)
   | inr t ↦ omega (arith, eqb-true b 69 t)
 ]
 
-pub mark_at-ascii : (xs : List ℕ) → position_or_len is_mark xs < length xs
-    → get_or xs (position_or_len is_mark xs) 0 < 128
-mark_at-ascii xs h = mark-ascii _ (passes_at_first is_mark xs 0 h)
+pub mark_at-ascii : (xs : List ℕ) → position_or_len is_exponent_mark xs < length xs
+    → get_or xs (position_or_len is_exponent_mark xs) 0 < 128
+mark_at-ascii xs h = mark-ascii _ (passes_at_first is_exponent_mark xs 0 h)
 
 -- what `parse` says of the text of an exponent, by its sign and the number of its digits
 read-at : (negative : Bool) (v : ℕ) → FitsSigned w16 (cond negative (neg_ℤ (pos v)) (pos v))

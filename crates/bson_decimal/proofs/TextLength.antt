@@ -11,10 +11,10 @@ use Rattle.std.proofs.lemmas.List.{length-replicate, length-take}
 use Rattle.std.specs.Int.{w128, from_le_bytes}
 use Rattle.bson_decimal.specs.declared.bits.Decoded.{Decoded}
 use Rattle.bson_decimal.specs.declared.bits.Decoded.TheVariants.{Nan, Infinity, Finite}
-use Rattle.bson_decimal.specs.Exponents.{exponent_at}
-use Rattle.bson_decimal.specs.Pattern.{bytes_meaning}
-use Rattle.bson_decimal.specs.Displayed.{meaning_text, decimal128_text, finite_text, plain_text, scientific_text}
-use Rattle.bson_decimal.specs.Displayed.{scientific_exponent, power_text}
+use Rattle.bson_decimal.specs.Exponents.{unbiased_exponent}
+use Rattle.bson_decimal.specs.DecimalBits.{decoded_decimal}
+use Rattle.bson_decimal.specs.DecimalText.{meaning_text, decimal128_text, finite_text, plain_text, scientific_text}
+use Rattle.bson_decimal.specs.DecimalText.{scientific_exponent, power_text}
 use Rattle.bson_decimal.proofs.PatternLaws.{IsDecoded, number_meaning-within}
 use Rattle.bson_decimal.proofs.DisplayedLaws.{at-most-zero, at-least-six, places, first-digit}
 
@@ -74,11 +74,11 @@ scientific_text-length ds k few most =
           ))
     ]
 
-finite_text-length : (c e : ℕ) → c < 10 ^ 34 → e < 12288 → length (finite_text (decimal c) (exponent_at e)) ≤ 41
+finite_text-length : (c e : ℕ) → c < 10 ^ 34 → e < 12288 → length (finite_text (decimal c) (unbiased_exponent e)) ≤ 41
 finite_text-length c e small within =
     let ds = decimal c in
     let few = digits-length 34 c (omega arith) small (omega arith) in
-    let x = exponent_at e in
+    let x = unbiased_exponent e in
     elim (cases_Bool (int_le x (pos 0) && int_le (neg_ℤ (pos 6)) (scientific_exponent ds x))) [
       | inl a ↦
           let tests = and_parts (int_le x (pos 0)) _ a in
@@ -95,9 +95,9 @@ meaning_text-length : (d : Decoded) → IsDecoded d → length (meaning_text d) 
 meaning_text-length (Nan s q) h = omega arith
 meaning_text-length (Infinity s) h = signed-length s (codes "Infinity") (omega arith)
 meaning_text-length (Finite s c e) h =
-    signed-length s (finite_text (decimal c) (exponent_at e)) (finite_text-length c e h.0 h.1)
+    signed-length s (finite_text (decimal c) (unbiased_exponent e)) (finite_text-length c e h.0 h.1)
 
 -- the text of a decimal has at most 42 bytes
 pub display_text-length : (b : List ℕ) → length (decimal128_text b) ≤ 42
 unfolding decimal128_text
-display_text-length b = meaning_text-length (bytes_meaning b) (number_meaning-within (from_le_bytes w128 b))
+display_text-length b = meaning_text-length (decoded_decimal b) (number_meaning-within (from_le_bytes w128 b))

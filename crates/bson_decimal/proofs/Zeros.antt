@@ -10,7 +10,7 @@ use Rattle.std.proofs.Math.Numerals.{one-add}
 use Rattle.std.specs.Char.{digit_value}
 use Rattle.std.specs.List.{list_all, prefix_len}
 use Rattle.std.specs.Str.Parse.{AllDigits, digits_value, digits_value_after}
-use Rattle.bson_decimal.specs.Numeral.{is_zero, without_leading_zeros}
+use Rattle.bson_decimal.specs.NumeralGrammar.{is_zero, without_leading_zeros}
 use Rattle.bson_decimal.proofs.Tens.{tens-pos}
 
 same_next : (m n : ℕ) → (1 + m == suc n) ≡ (m == n)

@@ -1,8 +1,8 @@
 //! Decodes and encodes the bit pattern of a decimal (IEEE 754-2008, section 3.5.2).
 
 ghost use Rattle.std.specs.Prelude.{◌≡◌, ◌^◌, ◌<◌, ◌≤◌};
-ghost use Rattle.bson_decimal.specs.Exponents.{exponent_at};
-ghost use Rattle.bson_decimal.specs.Pattern.{sign_weight, first_form};
+ghost use Rattle.bson_decimal.specs.Exponents.{unbiased_exponent};
+ghost use Rattle.bson_decimal.specs.DecimalBits.{sign_bit, encoded_finite};
 
 use crate::Decimal128;
 
@@ -35,10 +35,10 @@ pub(crate) const SIGNALLING_NAN: u128 = 0x7e << 120;
 pub(crate) const INFINITY: u128 = 0x78 << 120;
 
 impl Decimal128 {
-    ghost use Rattle.bson_decimal.specs.Pattern.{bytes_meaning};
+    ghost use Rattle.bson_decimal.specs.DecimalBits.{decoded_decimal};
 
     pub(crate) fn decode(&self) -> Decoded
-        ensures { result ≡ bytes_meaning self.now }
+        ensures { result ≡ decoded_decimal self.now }
     {
         let number = u128::from_le_bytes(self.bytes());
         let negative = (number >> 127) % 2 == 1;
@@ -75,25 +75,25 @@ impl Decimal128 {
 }
 
 // The exponent of a stored exponent.
-pub(crate) fn exponent_at(stored: u16) -> i32
-    ensures { result ≡ exponent_at stored }
+pub(crate) fn unbiased_exponent(stored: u16) -> i32
+    ensures { result ≡ unbiased_exponent stored }
 {
     i32::from(stored) - 6176
 }
 
 // The sign bit, as a number.
-pub(crate) fn sign_weight(negative: bool) -> u128
-    ensures value { result ≡ sign_weight negative }
+pub(crate) fn sign_bit(negative: bool) -> u128
+    ensures value { result ≡ sign_bit negative }
     ensures within { result ≤ 2 ^ 127 }
 {
     if negative { 1 << 127 } else { 0 }
 }
 
 // The bit pattern of a finite decimal, as a number.
-pub(crate) fn first_form(negative: bool, coefficient: u128, stored_exponent: u16) -> u128
+pub(crate) fn encoded_finite(negative: bool, coefficient: u128, stored_exponent: u16) -> u128
     requires coefficient { coefficient < 10 ^ 34 }
     requires exponent { stored_exponent < 12288 }
-    ensures { result ≡ first_form negative coefficient stored_exponent }
+    ensures { result ≡ encoded_finite negative coefficient stored_exponent }
 {
-    sign_weight(negative) + u128::from(stored_exponent) * (1 << 113) + coefficient
+    sign_bit(negative) + u128::from(stored_exponent) * (1 << 113) + coefficient
 }

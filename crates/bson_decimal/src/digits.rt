@@ -4,43 +4,43 @@ ghost use Rattle.std.specs.Prelude.{drop, slice_index};
 ghost use Rattle.std.specs.List.{list_all, prefix_len};
 ghost use Rattle.std.specs.Option.{SomeIff};
 ghost use Rattle.std.specs.Str.Parse.{AllDigits, digits_value};
-ghost use Rattle.bson_decimal.specs.Numeral.{is_zero, without_leading_zeros};
+ghost use Rattle.bson_decimal.specs.NumeralGrammar.{is_zero, without_leading_zeros};
 
 use std::marker::Model;
 
 #[derive(Drop)]
 pub(crate) struct Digits<'a> {
-    whole: &'a [u8],
+    integer_digits: &'a [u8],
     fraction: &'a [u8],
 }
 
 impl<'a> Model for Digits<'a> {
     ghost Value = { List ℕ };
 
-    ghost view = { λ d. d.whole.now ++ d.fraction.now };
+    ghost view = { λ d. d.integer_digits.now ++ d.fraction.now };
 }
 
 impl<'a> Digits<'a> {
-    pub(crate) fn new(whole: &'a [u8], fraction: &'a [u8]) -> Digits<'a>
-        ensures { result ≡ whole.now ++ fraction.now }
+    pub(crate) fn new(integer_digits: &'a [u8], fraction: &'a [u8]) -> Digits<'a>
+        ensures { result ≡ integer_digits.now ++ fraction.now }
     {
-        Digits { whole, fraction }
+        Digits { integer_digits, fraction }
     }
 
     pub(crate) fn len(&self) -> usize
         ensures { result ≡ length self.now }
     {
-        self.whole.len() + self.fraction.len()
+        self.integer_digits.len() + self.fraction.len()
     }
 
     pub(crate) fn byte(&self, i: usize) -> u8
         requires { i < length self.now }
         ensures { result ≡ slice_index self.now i }
     {
-        if i < self.whole.len() {
-            self.whole[i]
+        if i < self.integer_digits.len() {
+            self.integer_digits[i]
         } else {
-            self.fraction[i - self.whole.len()]
+            self.fraction[i - self.integer_digits.len()]
         }
     }
 
@@ -49,15 +49,15 @@ impl<'a> Digits<'a> {
         requires { n ≤ length self }
         ensures { result ≡ take n self.entry }
     {
-        if n <= self.whole.len() {
+        if n <= self.integer_digits.len() {
             Digits {
-                whole: &self.whole[..n],
+                integer_digits: &self.integer_digits[..n],
                 fraction: &[],
             }
         } else {
             Digits {
-                whole: self.whole,
-                fraction: &self.fraction[..n - self.whole.len()],
+                integer_digits: self.integer_digits,
+                fraction: &self.fraction[..n - self.integer_digits.len()],
             }
         }
     }
@@ -67,15 +67,15 @@ impl<'a> Digits<'a> {
         requires { n ≤ length self }
         ensures { result ≡ drop n self.entry }
     {
-        if n <= self.whole.len() {
+        if n <= self.integer_digits.len() {
             Digits {
-                whole: &self.whole[n..],
+                integer_digits: &self.integer_digits[n..],
                 fraction: self.fraction,
             }
         } else {
             Digits {
-                whole: &[],
-                fraction: &self.fraction[n - self.whole.len()..],
+                integer_digits: &[],
+                fraction: &self.fraction[n - self.integer_digits.len()..],
             }
         }
     }

@@ -3,12 +3,12 @@
 ghost use Rattle.std.specs.Prelude.{◌≡◌, ◌+◌, ◌-◌, ◌*◌, ◌^◌, ◌<◌, ◌≤◌, ◌++◌, [], length, take};
 ghost use Rattle.std.specs.Prelude.{drop, replicate, Some, IsAscii};
 ghost use Rattle.std.specs.Fmt.{decimal, sign_text, WritesOnOk};
-ghost use Rattle.bson_decimal.specs.Exponents.{exponent_at};
-ghost use Rattle.bson_decimal.specs.Displayed.{plain_text, power_text, scientific_exponent};
-ghost use Rattle.bson_decimal.specs.Displayed.{scientific_text, finite_text, decimal128_text};
+ghost use Rattle.bson_decimal.specs.Exponents.{unbiased_exponent};
+ghost use Rattle.bson_decimal.specs.DecimalText.{plain_text, power_text, scientific_exponent};
+ghost use Rattle.bson_decimal.specs.DecimalText.{scientific_text, finite_text, decimal128_text};
 
 use crate::Decimal128;
-use crate::bits::{Decoded, exponent_at};
+use crate::bits::{Decoded, unbiased_exponent};
 use std::{fmt, str};
 
 // Writes the digits of a coefficient so that they end the buffer, and returns where they start.
@@ -47,10 +47,10 @@ fn write_plain<W: fmt::Write>(f: &mut fmt::Formatter<W>, digits: &str, places: u
         return f.write_str(digits);
     }
     if places < digits.len() {
-        let whole = digits.len() - places;
-        f.write_str(&digits[..whole])?;
+        let integer_digits = digits.len() - places;
+        f.write_str(&digits[..integer_digits])?;
         f.write_str(".")?;
-        return f.write_str(&digits[whole..]);
+        return f.write_str(&digits[integer_digits..]);
     }
     f.write_str("0.")?;
     write_zeros(f, places - digits.len())?;
@@ -89,9 +89,9 @@ fn write_scientific<W: fmt::Write>(
 // The exponent of the first digit.
 fn scientific_exponent(digits: &str, stored_exponent: u16) -> i32
     requires { length digits.now ≤ 34 }
-    ensures { result ≡ scientific_exponent digits.now (exponent_at stored_exponent) }
+    ensures { result ≡ scientific_exponent digits.now (unbiased_exponent stored_exponent) }
 {
-    exponent_at(stored_exponent) + digits.len() as i32 - 1
+    unbiased_exponent(stored_exponent) + digits.len() as i32 - 1
 }
 
 // Plain if the exponent is at most 0 and the exponent of the first digit at least -6.
@@ -103,9 +103,9 @@ fn write_finite<W: fmt::Write>(
     requires ascii { IsAscii digits.now }
     requires some { 0 < length digits.now }
     requires short { length digits.now ≤ 34 }
-    ensures { WritesOnOk W.write_str_gives f.old result (finite_text digits.now (exponent_at stored_exponent)) f.new }
+    ensures { WritesOnOk W.write_str_gives f.old result (finite_text digits.now (unbiased_exponent stored_exponent)) f.new }
 {
-    let exponent = exponent_at(stored_exponent);
+    let exponent = unbiased_exponent(stored_exponent);
     let first = scientific_exponent(digits, stored_exponent);
     if exponent <= 0 && first >= -6 {
         write_plain(f, digits, exponent.unsigned_abs() as usize)
@@ -124,7 +124,7 @@ fn write_signed<W: fmt::Write>(
     requires some { 0 < length digits.now }
     requires short { length digits.now ≤ 34 }
     ensures { WritesOnOk W.write_str_gives f.old result
-        (sign_text negative ++ finite_text digits.now (exponent_at stored_exponent)) f.new }
+        (sign_text negative ++ finite_text digits.now (unbiased_exponent stored_exponent)) f.new }
 {
     if negative {
         f.write_str("-")?;
@@ -139,7 +139,7 @@ fn write_signed<W: fmt::Write>(
 impl fmt::Display for Decimal128 {
     ghost output = { λ d. Some (decimal128_text d) };
 
-    #[tactic(auto, unfolding(crate::specs::Displayed::decimal128_text))]
+    #[tactic(auto, unfolding(crate::specs::DecimalText::decimal128_text))]
     fn fmt<W: fmt::Write>(&self, f: &mut fmt::Formatter<W>) -> fmt::Result {
         match self.decode() {
             Decoded::Nan { .. } => f.write_str("NaN"),

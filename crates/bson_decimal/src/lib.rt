@@ -8,7 +8,7 @@
 #![tactic(auto)]
 
 ghost use Rattle.std.specs.Prelude.{◌≡◌, List, ℕ};
-ghost use Rattle.bson_decimal.specs.Pattern.{IsPattern};
+ghost use Rattle.bson_decimal.specs.DecimalBits.{IsDecimalBytes};
 
 use std::marker::Model;
 use thiserror::Error;
@@ -51,7 +51,7 @@ impl Decimal128 {
     /// Returns the 16 bytes, the lowest first.
     pub fn bytes(&self) -> [u8; 16]
         ensures same { result ≡ self.now }
-        ensures ranged { IsPattern self.now }
+        ensures ranged { IsDecimalBytes self.now }
     {
         as_pattern(self.bytes)
     }
@@ -60,7 +60,7 @@ impl Decimal128 {
 // The same 16 bytes, with a contract that says that each is below 256.
 fn as_pattern(bytes: [u8; 16]) -> [u8; 16]
     ensures same { result ≡ bytes }
-    ensures ranged { IsPattern bytes }
+    ensures ranged { IsDecimalBytes bytes }
 {
     bytes
 }

@@ -13,7 +13,7 @@ use Rattle.fast_float.proofs.DigitsLemmas.{digits_value-append}
 use Rattle.fast_float.proofs.Rows.{AllDigits-take, AllDigits-drop, AllDigits-append}
 use Rattle.ryu.specs.Plain.{IsPlain}
 use Rattle.ryu.proofs.Texts.{AllDigits-zeros, value_zeros}
-use Rattle.bson_double.specs.Text.{pointed, scientific, double_power_text, decimal_text}
+use Rattle.bson_double.specs.DoubleText.{positional_notation, scientific_notation, double_exponent_text, decimal_text}
 
 abbrev parts : List ℕ → Bool → List ℕ → Bool → List ℕ → Parts
 parts whole point fraction negative exponent =
@@ -166,23 +166,23 @@ with_exponent whole fraction exponent point negative d k w f x one more none som
     empty ds l e = let m : length ds ≡ 0 = ap length e in absurd (omega arith)
 
 -- the power of ten of the first digit
-power_is : (place : ℕ) → place < 2 ^ 63
-    → (negative : Bool) × (x : ℕ) × (x < 2 ^ 64) × (double_power_text place ≡ exponent_text negative (decimal x))
-    × (((negative ≡ true) × (x + place ≡ 1101)) ⊎ ((negative ≡ false) × (x + 1101 ≡ place)))
-power_is place small =
-    elim (cases_lt place 1101) [
+power_is : (point_position : ℕ) → point_position < 2 ^ 63
+    → (negative : Bool) × (x : ℕ) × (x < 2 ^ 64) × (double_exponent_text point_position ≡ exponent_text negative (decimal x))
+    × (((negative ≡ true) × (x + point_position ≡ 1101)) ⊎ ((negative ≡ false) × (x + 1101 ≡ point_position)))
+power_is point_position small =
+    elim (cases_lt point_position 1101) [
       | inl l ↦ (
         true,
-        1101 - place,
+        1101 - point_position,
         omega arith,
-        rw (lt-ltb place 1101 l) (shown true (decimal (1101 - place)) (decimal_nonempty (1101 - place) (omega arith))),
+        rw (lt-ltb point_position 1101 l) (shown true (decimal (1101 - point_position)) (decimal_nonempty (1101 - point_position) (omega arith))),
         inl (refl, omega arith),
       )
       | inr l ↦ (
         false,
-        place - 1101,
+        point_position - 1101,
         omega arith,
-        rw (le-ltb place 1101 l) (shown false (decimal (place - 1101)) (decimal_nonempty (place - 1101) (omega arith))),
+        rw (le-ltb point_position 1101 l) (shown false (decimal (point_position - 1101)) (decimal_nonempty (point_position - 1101) (omega arith))),
         inr (refl, omega arith),
       )
     ]
@@ -194,10 +194,10 @@ power_is place small =
 
 scientific_at : (x : ℕ) (rest : List ℕ) (d k : ℕ) → IsDigits d (x ∷ rest) → length (x ∷ rest) + k < 2 ^ 63
     → (point : Bool) → (point ≡ true → 0 < length rest) → (point ≡ false → rest ≡ [])
-    → IsTextOf ((x ∷ []) ++ (cond point (46 ∷ rest) [] ++ double_power_text (length (x ∷ rest) + k))) d k
+    → IsTextOf ((x ∷ []) ++ (cond point (46 ∷ rest) [] ++ double_exponent_text (length (x ∷ rest) + k))) d k
 scientific_at x rest d k h small point more none =
-    let place : ℕ = length (x ∷ rest) + k in
-    let e = power_is place small in
+    let point_position : ℕ = length (x ∷ rest) + k in
+    let e = power_is point_position small in
     let negative : Bool = e.0 in
     let y : ℕ = e.1 in
     let numeral = decimal_is_IsNumeral y e.2 in
@@ -210,14 +210,14 @@ scientific_at x rest d k h small point more none =
     (h.all.0, tt) h.all.1 numeral.0.1 refl more none numeral.0.0 worth)
 
 scientific_is : (s : List ℕ) (d k : ℕ) → IsDigits d s → length s + k < 2 ^ 63
-    → IsTextOf (scientific s (length s + k)) d k
+    → IsTextOf (scientific_notation s (length s + k)) d k
 scientific_is [] d k h l = absurd (let some = h.some in omega arith)
 scientific_is (x ∷ []) d k h l = scientific_at x [] d k h l false (λ e. absurd (true≢false (sym e))) (λ _. refl)
 scientific_is (x ∷ y ∷ ys) d k h l =
     let two : eqb (length (x ∷ y ∷ ys)) 1 ≡ false = ne_eqb _ _ (λ e. omega arith) in
     rw two (scientific_at x (y ∷ ys) d k h l true (λ _. omega arith) (λ e. absurd (true≢false e)))
 
-pointed_is : (s : List ℕ) (d k : ℕ) → IsDigits d s → IsTextOf (pointed s (length s + k)) d k
+pointed_is : (s : List ℕ) (d k : ℕ) → IsDigits d s → IsTextOf (positional_notation s (length s + k)) d k
 pointed_is s d k h =
     elim (cases_lt 1100 (length s + k)) [
       | inl l ↦ elim (cases_lt k 1100) [
@@ -230,7 +230,7 @@ pointed_is s d k h =
     ]
 
 laid_is : (s : List ℕ) (d k : ℕ) (b : Bool) → IsDigits d s → length s + k < 2 ^ 63
-    → IsTextOf (cond b (pointed s (length s + k)) (scientific s (length s + k))) d k
+    → IsTextOf (cond b (positional_notation s (length s + k)) (scientific_notation s (length s + k))) d k
 laid_is s d k true h l = pointed_is s d k h
 laid_is s d k false h l = scientific_is s d k h l
 

@@ -6,7 +6,7 @@ use Rattle.std.proofs.lemmas.Bool.{ltb-true}
 use Rattle.std.proofs.lemmas.Float.{not_nan_f64_bits}
 use Rattle.std.specs.Prelude.{Some}
 use Rattle.ryu.proofs.Signs.{parts}
-use Rattle.bson_double.specs.Doubles.{is_finite, finite_bits}
+use Rattle.bson_double.specs.FiniteDoubles.{is_finite, finite_bits}
 use lib.Ieee.{nan_bits}
 use lib.Ieee.Bits.{to_bits-of_bits, nan_bits_is}
 

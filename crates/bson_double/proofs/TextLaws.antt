@@ -21,9 +21,9 @@ use Rattle.fast_float.specs.Parse.{parse_float, completes_number, without_sign, 
 use Rattle.fast_float.specs.Parse.{is_nan_text}
 use Rattle.ryu.specs.Plain.{IsPlainNumber}
 use Rattle.ryu.proofs.Signs.{parts, signed}
-use Rattle.bson_double.specs.Doubles.{is_finite, is_number, finite_of}
-use Rattle.bson_double.specs.Shortest.{DecimalIsReadAs, IsShortest}
-use Rattle.bson_double.specs.Text.{IsDoubleText, IsUnsignedText, decimal_text}
+use Rattle.bson_double.specs.FiniteDoubles.{is_finite, is_number, parsed_finite_bits}
+use Rattle.bson_double.specs.ShortestDecimal.{DecimalRoundsTo, IsShortest}
+use Rattle.bson_double.specs.DoubleText.{IsDoubleText, IsUnsignedText, decimal_text}
 use Rattle.bson_double.proofs.Patterns.{not_nan, bits_of_finite}
 use Rattle.bson_double.proofs.Found.{IsPositive}
 use Rattle.bson_double.proofs.Exists.{has_shortest}
@@ -71,7 +71,7 @@ some_text p finite =
 -- ---- the text as parts
 
 text_parts : (p : ℕ) (s : List ℕ) → p < 2 ^ 63 → is_finite p ≡ true → IsUnsignedText p s
-    → (d : ℕ) × (k : ℕ) × IsTextOf s d k × DecimalIsReadAs p d k
+    → (d : ℕ) × (k : ℕ) × IsTextOf s d k × DecimalRoundsTo p d k
 text_parts p s small finite (inl z) = (
   0,
   0,
@@ -102,7 +102,7 @@ json_number p s finite (t, x, e) =
 
 -- ---- and it is read back
 
-worth_read : (q : Parts) (p d k : ℕ) → IsWorth q d k → DecimalIsReadAs p d k
+worth_read : (q : Parts) (p d k : ℕ) → IsWorth q d k → DecimalRoundsTo p d k
     → from_bits binary64 p ≡ round binary64 false (digits_of q * 10 ^ tens_up q) (10 ^ tens_down q)
 worth_read q p d k w r =
     sym r ∙ sym (round_same binary64 false (digits_of q * 10 ^ tens_up q) (10 ^ tens_down q) (d * 10 ^ k) (10 ^ 1100)
@@ -161,7 +161,7 @@ number_of b [] rest o h l e = absurd (omega arith)
 number_of b (d ∷ ds) rest o h l e = let r = digit_from_value d h.0 in
     number_at b d (ds ++ rest) o (omega arith) (omega arith) e
 
-pub read_back : (p : ℕ) (s : List ℕ) → p < 2 ^ 64 → is_finite p ≡ true → IsDoubleText p s → finite_of s ≡ Some p
+pub read_back : (p : ℕ) (s : List ℕ) → p < 2 ^ 64 → is_finite p ≡ true → IsDoubleText p s → parsed_finite_bits s ≡ Some p
 read_back p s l finite text =
     let value = parses p s l finite text in
     let y = json_number p s finite text in

@@ -1,4 +1,4 @@
-pub mod Doubles
-pub mod Shortest
-pub mod Text
+pub mod FiniteDoubles
+pub mod ShortestDecimal
+pub mod DoubleText
 pub mod Limbs

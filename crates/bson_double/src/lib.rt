@@ -4,7 +4,7 @@
 //! exponent, such as `12.5`, `1.0`, `1e16` and `-0.0`, and which is read as the same bits. No call
 //! allocates memory.
 //!
-//! In reading order: `read` reads a string, `text` writes one, `shortest` finds the digits,
+//! In reading order: `parse` reads a string, `format` writes one, `shortest` finds the digits,
 //! `compare` and `limbs` compare a decimal and a double exactly, and `laws` has the laws.
 #![tactic(auto)]
 
@@ -12,11 +12,11 @@ mod compare;
 pub mod laws;
 mod limbs;
 mod nearest;
-mod read;
+mod parse;
 mod shortest;
 #[cfg(test)]
 mod tests;
-mod text;
+mod format;
 
-pub use read::{DoubleError, double_of_text, is_finite};
-pub use text::double_text;
+pub use parse::{DoubleError, double_of_text, is_finite};
+pub use format::double_text;

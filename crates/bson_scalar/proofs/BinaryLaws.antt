@@ -11,8 +11,8 @@ use Rattle.hex.proofs.HexLemmas.{decode_sized-encode_lower}
 use Rattle.base64.specs.Engines.{standard}
 use Rattle.base64.specs.GeneralPurpose.{decode_of}
 use Rattle.bson_types.specs.Base64.{IsBase64, padded_text}
-use Rattle.bson_types.specs.Orders.{parsed_hyphenated}
-use Rattle.bson_types.specs.Subtype.{subtype_byte, subtype_of}
+use Rattle.bson_types.specs.UuidByteOrder.{parsed_hyphenated}
+use Rattle.bson_types.specs.BinarySubtypes.{subtype_byte, subtype_of}
 use Rattle.bson_types.proofs.Offered.{base64_bytes, base64_to, hyphenated_from, sized_from}
 use Rattle.serde_json.specs.Data.{Data}
 use Rattle.bson_scalar.specs.Faults.{or_wrong_shape, wrong_shape}

@@ -4,8 +4,8 @@ use Rattle.std.specs.Prelude.{codes, int_le}
 use Rattle.std.proofs.lemmas.Bool.{and_parts}
 use Rattle.std.proofs.lemmas.Bool.Decides.{nat_tests}
 use Rattle.jiff.proofs.SpanFacts.{signed_arith}
-use Rattle.bson_datetime.specs.Rfc3339.{named_moment, IsRfcMillis}
-use Rattle.bson_datetime.specs.Displayed.{rfc}
+use Rattle.bson_datetime.specs.Rfc3339Parser.{parsed_rfc3339_millis, IsRfc3339Millis}
+use Rattle.bson_datetime.specs.DateTimeText.{rfc3339_text}
 use Rattle.bson_datetime.proofs.Offered.{denotes-names, named_moment-rfc}
 use Rattle.serde_json.specs.Data.{Data}
 use Rattle.serde_json.specs.Data as tree
@@ -34,9 +34,9 @@ pub date_from : (d : Data) (x : Scalar) → date_read d ≡ Ok x → MeansScalar
 date_from d x h = let t = then_ok (millis_of d) _ x h in
     means_by (codes "$date") d d x _ refl (un_ok _ _ t.2) (millis_from d t.0 t.1)
 
-recent_in_years : (z : ℤ) → is_recent z ≡ true → IsRfcMillis z
+recent_in_years : (z : ℤ) → is_recent z ≡ true → IsRfc3339Millis z
 recent_in_years z h = let p = and_parts (int_le (pos 0) z) (int_le z (pos 253_402_300_799_999)) h in
     grind (arith, signed_arith, nat_tests, p.0, p.1)
 
-pub recent_denoted : (z : ℤ) → is_recent z ≡ true → named_moment (rfc z) ≡ Some z
+pub recent_denoted : (z : ℤ) → is_recent z ≡ true → parsed_rfc3339_millis (rfc3339_text z) ≡ Some z
 recent_denoted z h = named_moment-rfc z (recent_in_years z h)

@@ -8,11 +8,11 @@ use Rattle.std.specs.Str.{bytes_eq}
 use Rattle.std.specs.Str.Parse.{without_leading_sign, starts_with_minus}
 use Rattle.std.proofs.lemmas.Slice.Eq.{bytes_eq-Decides}
 use Rattle.bson_decimal.specs.declared.ParseError.{ParseError}
-use Rattle.bson_decimal.specs.FromStr.{ParsesTo}
-use Rattle.bson_decimal.specs.Pattern.{first_form, normal_decimal}
-use Rattle.bson_decimal.specs.Displayed.{decimal128_text as decimal_text}
-use Rattle.bson_decimal.specs.Steps.{finite}
-use Rattle.bson_decimal.specs.Text.{Parses, SpecialWord, nan, snan, infinity, inf, lowercase}
+use Rattle.bson_decimal.specs.ParseResult.{IsParseResult}
+use Rattle.bson_decimal.specs.DecimalBits.{encoded_finite, canonical_decimal}
+use Rattle.bson_decimal.specs.DecimalText.{decimal128_text as decimal_text}
+use Rattle.bson_decimal.specs.ParseSteps.{finite}
+use Rattle.bson_decimal.specs.DecimalStrings.{DenotesDecimal, IsSpecialWord, nan, snan, infinity, inf, lowercase}
 use Rattle.bson_decimal.proofs.Offered.{special-parses, finite-parses, refused-parses, display_text-parses}
 use Rattle.bson_decimal.proofs.Offered.{display_text-same, display_text-canon}
 use Rattle.serde_json.specs.Data.{Data}
@@ -30,12 +30,12 @@ is_itself xs = (bytes_eq-Decides xs xs).1 refl
 
 -- a word has the pattern of its text
 abbrev WordIs : List ℕ → Option ℕ → Type 0
-WordIs w None = (n : ℕ) → ¬ (SpecialWord w n)
-WordIs w (Some n) = SpecialWord w n
+WordIs w None = (n : ℕ) → ¬ (IsSpecialWord w n)
+WordIs w (Some n) = IsSpecialWord w n
 
 no_word : (w : List ℕ) → bytes_eq (lowercase w) (codes "nan") ≡ false → bytes_eq (lowercase w) (codes "snan") ≡ false
     → bytes_eq (lowercase w) (codes "infinity") ≡ false → bytes_eq (lowercase w) (codes "inf") ≡ false
-    → (n : ℕ) → ¬ (SpecialWord w n)
+    → (n : ℕ) → ¬ (IsSpecialWord w n)
 no_word w a b c d n (nan e) = let h = rw e at a in cc
 no_word w a b c d n (snan e) = let h = rw e at b in cc
 no_word w a b c d n (infinity e) = let h = rw e at c in cc
@@ -57,12 +57,12 @@ word_is w = word_is-at w _ _ _ _ refl refl refl refl
 
 -- the pattern is that of the text, and there is no other
 abbrev Answers : List ℕ → Option (List ℕ) → Type 0
-Answers s None = (b : List ℕ) → ¬ (Parses s b)
-Answers s (Some d) = Parses s d × ((b : List ℕ) → Parses s b → b ≡ d)
+Answers s None = (b : List ℕ) → ¬ (DenotesDecimal s b)
+Answers s (Some d) = DenotesDecimal s d × ((b : List ℕ) → DenotesDecimal s b → b ≡ d)
 
-finite_answers : (s : List ℕ) → ((n : ℕ) → ¬ (SpecialWord (without_leading_sign s) n)) → (r : Result (ℕ × ℕ) ParseError)
+finite_answers : (s : List ℕ) → ((n : ℕ) → ¬ (IsSpecialWord (without_leading_sign s) n)) → (r : Result (ℕ × ℕ) ParseError)
     → finite (without_leading_sign s) ≡ r
-    → Answers s (option_map (λ p. to_le_bytes w128 (first_form (starts_with_minus s) p.0 p.1)) (result_ok r))
+    → Answers s (option_map (λ p. to_le_bytes w128 (encoded_finite (starts_with_minus s) p.0 p.1)) (result_ok r))
 finite_answers s plain (Ok r) is = finite-parses s r plain is
 finite_answers s plain (Err k) is = refused-parses s k plain is
 
@@ -74,34 +74,34 @@ answers : (s : List ℕ) → Answers s (decimal_pattern s)
 unfolding decimal_pattern
 answers s = answers_at s _ (word_is (without_leading_sign s))
 
-from_answer : (s b : List ℕ) (o : Option (List ℕ)) → Answers s o → Parses s b → o ≡ Some b
+from_answer : (s b : List ℕ) (o : Option (List ℕ)) → Answers s o → DenotesDecimal s b → o ≡ Some b
 from_answer s b None h p = absurd (h b p)
 from_answer s b (Some d) h p = ap Some (sym (h.1 b p))
 
-to_answer : (s b : List ℕ) (o : Option (List ℕ)) → Answers s o → o ≡ Some b → Parses s b
+to_answer : (s b : List ℕ) (o : Option (List ℕ)) → Answers s o → o ≡ Some b → DenotesDecimal s b
 to_answer s b None h e = cc
-to_answer s b (Some d) h e = let is : d ≡ b = cc in subst (Parses s) is h.0
+to_answer s b (Some d) h e = let is : d ≡ b = cc in subst (DenotesDecimal s) is h.0
 
-pub decimal_of-some : (s b : List ℕ) → Parses s b → decimal_pattern s ≡ Some b
+pub decimal_of-some : (s b : List ℕ) → DenotesDecimal s b → decimal_pattern s ≡ Some b
 decimal_of-some s b p = from_answer s b _ (answers s) p
 
-pub decimal_of-from : (s b : List ℕ) → decimal_pattern s ≡ Some b → Parses s b
+pub decimal_of-from : (s b : List ℕ) → decimal_pattern s ≡ Some b → DenotesDecimal s b
 decimal_of-from s b e = to_answer s b _ (answers s) e
 
-none_from : (s : List ℕ) (o : Option (List ℕ)) → Answers s o → ((b : List ℕ) → ¬ (Parses s b)) → o ≡ None
+none_from : (s : List ℕ) (o : Option (List ℕ)) → Answers s o → ((b : List ℕ) → ¬ (DenotesDecimal s b)) → o ≡ None
 none_from s None h never = refl
 none_from s (Some d) h never = absurd (never d h.0)
 
 -- what a parser of the text gives
-pub parsed_decimal : (s : List ℕ) (r : Result (List ℕ) ParseError) → ParsesTo s r → result_ok r ≡ decimal_pattern s
+pub parsed_decimal : (s : List ℕ) (r : Result (List ℕ) ParseError) → IsParseResult s r → result_ok r ≡ decimal_pattern s
 parsed_decimal s (Ok d) h = sym (decimal_of-some s d h.0)
 parsed_decimal s (Err k) h = sym (none_from s _ (answers s) h.0)
 
-pub decimal_of-display_text : (b : List ℕ) → decimal_pattern (decimal_text b) ≡ Some (normal_decimal b)
-decimal_of-display_text b = decimal_of-some (decimal_text b) (normal_decimal b) (display_text-parses b)
+pub decimal_of-display_text : (b : List ℕ) → decimal_pattern (decimal_text b) ≡ Some (canonical_decimal b)
+decimal_of-display_text b = decimal_of-some (decimal_text b) (canonical_decimal b) (display_text-parses b)
 
-pub canon-again : (b : List ℕ) → normal_decimal (normal_decimal b) ≡ normal_decimal b
-canon-again b = (display_text-same (normal_decimal b) b).0 (display_text-canon b)
+pub canon-again : (b : List ℕ) → canonical_decimal (canonical_decimal b) ≡ canonical_decimal b
+canon-again b = (display_text-same (canonical_decimal b) b).0 (display_text-canon b)
 
 pub decimal_from : (d : Data) (x : Scalar) → decimal_read d ≡ Ok x
     → MeansScalar (object_of_one (codes "$numberDecimal") d) x

@@ -5,7 +5,7 @@ use Rattle.std.specs.Prelude.{Ok, codes, is_some}
 use Rattle.std.proofs.lemmas.Bool.{lt-ltb, eqb-false}
 use Rattle.serde_json.specs.Data.{Data}
 use Rattle.serde_json.specs.Data as tree
-use Rattle.bson_double.specs.Doubles.{is_finite, finite_of}
+use Rattle.bson_double.specs.FiniteDoubles.{is_finite, parsed_finite_bits}
 use Rattle.bson_double.proofs.Offered.{read_back}
 use Rattle.bson_scalar.specs.Doubles.{double_pattern, double_in, double_text, text_in, normal_double}
 use Rattle.bson_scalar.specs.Doubles.{is_special, is_writable, or_finite_text, or_finite_of, IsDoubleTextIn}
@@ -53,11 +53,11 @@ pub double_to : (m : Doubles) (s : List ℕ) (p : ℕ) → double_pattern s ≡ 
 double_to Special s p h = h
 double_to Finite s p h = rw h refl
 
-finite_at : (o : Option ℕ) (s : List ℕ) (p : ℕ) → double_pattern s ≡ o → finite_of s ≡ Some p → or_finite_of o s ≡ Some p
+finite_at : (o : Option ℕ) (s : List ℕ) (p : ℕ) → double_pattern s ≡ o → parsed_finite_bits s ≡ Some p → or_finite_of o s ≡ Some p
 finite_at (Some q) s p is h = ap Some (agree s q is p h)
 finite_at None s p is h = h
 
-pub finite_to : (s : List ℕ) (p : ℕ) → finite_of s ≡ Some p → double_in Finite s ≡ Some p
+pub finite_to : (s : List ℕ) (p : ℕ) → parsed_finite_bits s ≡ Some p → double_in Finite s ≡ Some p
 finite_to s p h = finite_at (double_pattern s) s p refl h
 
 or_true : (a b : Bool) → b ≡ true → (a || b) ≡ true

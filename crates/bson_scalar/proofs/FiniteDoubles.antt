@@ -11,8 +11,8 @@ use lib.Ieee.{fits}
 use lib.Ieee.Bits.{of_bits-to_bits, to_bits-lt}
 use lib.Ieee.Fits.{round-fits, inf-fits, nan-fits}
 use Rattle.ryu.proofs.Signs.{parts, finite_number as number_of_finite}
-use Rattle.bson_double.specs.Doubles.{is_finite, is_number, finite_bits, finite_of}
-use Rattle.bson_double.specs.Text.{IsDoubleText}
+use Rattle.bson_double.specs.FiniteDoubles.{is_finite, is_number, finite_bits, parsed_finite_bits}
+use Rattle.bson_double.specs.DoubleText.{IsDoubleText}
 use Rattle.bson_double.proofs.Offered.{one_text, read_back}
 use Rattle.bson_scalar.specs.Doubles.{double_pattern, double_text, normal_double, is_nan, is_minus_nan, finite_pattern}
 use Rattle.bson_scalar.specs.Shortest.{finite_double_text}
@@ -88,7 +88,7 @@ number_then : (b : Bool) (o : Option ℕ) (p : ℕ) → cond b o None ≡ Some p
 number_then true o p h = h
 number_then false o p h = cc
 
-pub text_finite : (s : List ℕ) (p : ℕ) → finite_of s ≡ Some p → IsPattern p
+pub text_finite : (s : List ℕ) (p : ℕ) → parsed_finite_bits s ≡ Some p → IsPattern p
 text_finite s p h = then_finite (parse_float binary64 s) p (parsed_fits s) (number_then (is_number s) _ p h)
 
 -- ---- a finite pattern is in normal form
@@ -155,7 +155,7 @@ special_text_is p s finite h = text_of_zero _ _ _ _ _ _ p s refl refl refl refl 
 
 -- a word of the six and a number mean one pattern
 abbrev Agree : List ℕ → ℕ → Type 0
-Agree s q = (p : ℕ) → finite_of s ≡ Some p → q ≡ p
+Agree s q = (p : ℕ) → parsed_finite_bits s ≡ Some p → q ≡ p
 
 agree_zero : Agree (codes "0.0") 0
 agree_zero p h = un_some _ _ (sym (read_back 0 (codes "0.0") (omega arith) refl zero_text) ∙ h)
@@ -165,7 +165,7 @@ agree_minus_zero p h =
     un_some _ _ (sym (read_back 0x8000000000000000 (codes "-0.0") (omega arith) refl minus_zero_text) ∙ h)
 
 no_number : (s : List ℕ) (q : ℕ) → is_number s ≡ false → Agree s q
-no_number s q e p h = let none : finite_of s ≡ None = rw e refl in let never = sym none ∙ h in cc
+no_number s q e p h = let none : parsed_finite_bits s ≡ None = rw e refl in let never = sym none ∙ h in cc
 
 agree_at : (a b c d e f : Bool) (s : List ℕ) (q : ℕ) → bytes_eq s (codes "0.0") ≡ a → bytes_eq s (codes "-0.0") ≡ b
     → bytes_eq s (codes "Infinity") ≡ c → bytes_eq s (codes "-Infinity") ≡ d → bytes_eq s (codes "NaN") ≡ e

@@ -11,8 +11,8 @@ use Rattle.serde_json.specs.Find.{of_integer}
 use Rattle.serde_json.specs.Written.{has_float}
 use Rattle.bson_types.specs.Base64.{padded_text}
 use Rattle.bson_scalar.specs.TreeParts.{object_of_one, object_of_two}
-use Rattle.bson_types.specs.Subtype.{subtype_byte, subtype_of}
-use Rattle.bson_decimal.specs.Pattern.{normal_decimal}
+use Rattle.bson_types.specs.BinarySubtypes.{subtype_byte, subtype_of}
+use Rattle.bson_decimal.specs.DecimalBits.{canonical_decimal}
 use Rattle.bson_decimal.proofs.Offered.{display_text-canon, parses-form}
 use Rattle.bson_scalar.specs.Dates.{is_recent, relaxed_date_tree}
 use lib.Signed.{mag}
@@ -228,7 +228,7 @@ finite_range (means.nearest_to_number n p none is) = (pattern_finite _ p is).0
 un_ok : {A : Type 0} (x y : A) → ◌≡◌ {A = Result A Refusal} (Ok x) (Ok y) → y ≡ x
 un_ok x y h = cc
 
-decimal_same : (b : List ℕ) → decimal_tree (normal_decimal b) ≡ decimal_tree b
+decimal_same : (b : List ℕ) → decimal_tree (canonical_decimal b) ≡ decimal_tree b
 decimal_same b = ap (λ s. object_of_one (codes "$numberDecimal") (tree.string s)) (display_text-canon b)
 
 -- a scalar's tree is that of its normal form

@@ -3,9 +3,9 @@ use Rattle.std.proofs.Common.{◌≡◌, ◌<◌, ◌≤◌, ◌^◌, ◌%◌, �
 use Rattle.std.proofs.Common.{◌||◌, cond, refl, sym, ap, ◌∙◌, subst, inl, inr, nat_eq, nat_lt, arith, true≢false}
 use Rattle.std.specs.Prelude.{codes, Some, None, is_some}
 use Rattle.std.proofs.lemmas.Bool.{cases_order, eqb-true, eqb-false, ltb-true, ltb-false}
-use Rattle.bson_double.specs.Doubles.{is_finite}
-use Rattle.bson_double.specs.Shortest.{DecimalIsReadAs, IsShortest, IsNoneFrom, whole_of, step_of}
-use Rattle.bson_double.specs.Text.{IsDoubleText, IsUnsignedText, decimal_text}
+use Rattle.bson_double.specs.FiniteDoubles.{is_finite}
+use Rattle.bson_double.specs.ShortestDecimal.{DecimalRoundsTo, IsShortest, HasNoDecimalFrom, scaled_double, scaled_step}
+use Rattle.bson_double.specs.DoubleText.{IsDoubleText, IsUnsignedText, decimal_text}
 use Rattle.bson_double.proofs.Offered.{has_shortest, none_above, beside, floor_under, floor_over, low_taken}
 use Rattle.bson_double.proofs.Offered.{high_taken, IsPositive, step_pos, read_by_bits}
 use Rattle.bson_scalar.specs.Shortest.{is_read, multiple_below, is_some_read, top_power, read_one, digits_at}
@@ -17,41 +17,41 @@ or_no true b h = cc
 or_no false b h = (refl, h)
 
 module _ (p : ℕ) (h : IsPositive p) where
-  is_so : (d k : ℕ) → is_read p d k ≡ true → DecimalIsReadAs p d k
+  is_so : (d k : ℕ) → is_read p d k ≡ true → DecimalRoundsTo p d k
   is_so d k e = (read_by_bits p d k (let s = h.small in omega arith) h.finite).0 e
 
-  is_not : (d k : ℕ) → is_read p d k ≡ false → DecimalIsReadAs p d k → ⊥
+  is_not : (d k : ℕ) → is_read p d k ≡ false → DecimalRoundsTo p d k → ⊥
   is_not d k e r = true≢false (sym ((read_by_bits p d k (let s = h.small in omega arith) h.finite).1 r) ∙ e)
 
-  none_read : (k : ℕ) → is_some_read p k ≡ false → (c : ℕ) → DecimalIsReadAs p c k → ⊥
+  none_read : (k : ℕ) → is_some_read p k ≡ false → (c : ℕ) → DecimalRoundsTo p c k → ⊥
   none_read k e c y =
       let g = or_no _ _ e in
       elim (beside p k c h y) [ inl r ↦ is_not _ k g.0 r | inr r ↦ is_not _ k g.1 r ]
 
   -- the power found is the highest at which a multiple is read
   IsTop : ℕ → Type 0
-  IsTop k = IsNoneFrom p (suc k) × (is_some_read p k ≡ true)
+  IsTop k = HasNoDecimalFrom p (suc k) × (is_some_read p k ≡ true)
 
-  top_step : (n : ℕ) (b : Bool) → is_some_read p n ≡ b → IsNoneFrom p (suc n)
-      → (IsNoneFrom p n → IsTop (top_power p n)) → IsTop (cond b n (top_power p n))
+  top_step : (n : ℕ) (b : Bool) → is_some_read p n ≡ b → HasNoDecimalFrom p (suc n)
+      → (HasNoDecimalFrom p n → IsTop (top_power p n)) → IsTop (cond b n (top_power p n))
   unfolding IsTop
   top_step n true e none rest = (none, e)
   top_step n false e none rest = rest (λ c j l y. elim (cases_order j n) [
-    | inl same ↦ none_read n e c (subst (λ i. DecimalIsReadAs p c i) same y)
+    | inl same ↦ none_read n e c (subst (λ i. DecimalRoundsTo p c i) same y)
     | inr (inl m) ↦ absurd (omega (arith, l, m))
     | inr (inr m) ↦ none c j (omega (arith, m)) y
   ])
 
-  top_is : (n : ℕ) → IsNoneFrom p n → IsTop (top_power p n)
+  top_is : (n : ℕ) → HasNoDecimalFrom p n → IsTop (top_power p n)
   unfolding top_power
   top_is zero none = let x = has_shortest p h in absurd (none x.0 x.1 (omega arith) x.2.read)
   top_is (suc n) none = top_step n (is_some_read p n) refl none (top_is n)
 
   -- of the two multiples beside the double the one that is taken
-  near_at : (k f : ℕ) (l e v : Bool) → IsNoneFrom p (suc k) → f * step_of k ≤ whole_of p
-      → whole_of p < (f + 1) * step_of k → DecimalIsReadAs p f k → DecimalIsReadAs p (f + 1) k
-      → nat_lt (2 * whole_of p) ((2 * f + 1) * step_of k) ≡ l
-      → nat_eq (2 * whole_of p) ((2 * f + 1) * step_of k) ≡ e → nat_eq (f % 2) 0 ≡ v
+  near_at : (k f : ℕ) (l e v : Bool) → HasNoDecimalFrom p (suc k) → f * scaled_step k ≤ scaled_double p
+      → scaled_double p < (f + 1) * scaled_step k → DecimalRoundsTo p f k → DecimalRoundsTo p (f + 1) k
+      → nat_lt (2 * scaled_double p) ((2 * f + 1) * scaled_step k) ≡ l
+      → nat_eq (2 * scaled_double p) ((2 * f + 1) * scaled_step k) ≡ e → nat_eq (f % 2) 0 ≡ v
       → IsShortest p (cond l f (cond (e && v) f (f + 1))) k
   near_at k f true e v none under beyond x y i j n =
       low_taken p k f h none under x (inr (inl (ltb-true _ _ i)))
@@ -59,7 +59,7 @@ module _ (p : ℕ) (h : IsPositive p) where
       low_taken p k f h none under x (inr (inr (eqb-true _ _ j, eqb-true _ _ n)))
   near_at k f false true false none under beyond x y i j n =
       high_taken p k f h none beyond y
-      (inr (inr (middle (whole_of p) (step_of k) (eqb-true _ _ j), odd (eqb-false _ _ n))))
+      (inr (inr (middle (scaled_double p) (scaled_step k) (eqb-true _ _ j), odd (eqb-false _ _ n))))
     where
       middle : (X Y : ℕ) → 2 * X ≡ (2 * f + 1) * Y → (2 * (f + 1) - 1) * Y ≡ 2 * X
       middle X Y e = (let at : 2 * (f + 1) - 1 ≡ 2 * f + 1 = omega arith in ap (λ z. z * Y) at ∙ sym e)
@@ -68,7 +68,7 @@ module _ (p : ℕ) (h : IsPositive p) where
       odd uneven = omega (arith, uneven)
   near_at k f false false v none under beyond x y i j n =
       high_taken p k f h none beyond y
-      (inr (inl (past (whole_of p) (step_of k) (ltb-false _ _ i) (eqb-false _ _ j))))
+      (inr (inl (past (scaled_double p) (scaled_step k) (ltb-false _ _ i) (eqb-false _ _ j))))
     where
       past : (X Y : ℕ) → (2 * f + 1) * Y ≤ 2 * X → (2 * X ≡ (2 * f + 1) * Y → ⊥) → (2 * (f + 1) - 1) * Y < 2 * X
       past X Y l other = (let at : 2 * (f + 1) - 1 ≡ 2 * f + 1 = omega arith in
@@ -77,8 +77,8 @@ module _ (p : ℕ) (h : IsPositive p) where
           apart : (a b : ℕ) → a ≤ b → (a ≡ b → ⊥) → a < b
           apart a b l other = omega (arith, l, other)
 
-  pick : (k f : ℕ) (a b : Bool) → IsNoneFrom p (suc k) → f * step_of k ≤ whole_of p
-      → whole_of p < (f + 1) * step_of k → is_read p f k ≡ a → is_read p (f + 1) k ≡ b → (a || b) ≡ true
+  pick : (k f : ℕ) (a b : Bool) → HasNoDecimalFrom p (suc k) → f * scaled_step k ≤ scaled_double p
+      → scaled_double p < (f + 1) * scaled_step k → is_read p f k ≡ a → is_read p (f + 1) k ≡ b → (a || b) ≡ true
       → IsShortest p (read_one a b p k f) k
   pick k f true true none under beyond i j some =
       near_at k f _ _ _ none under beyond (is_so f k i) (is_so (f + 1) k j) refl refl refl
@@ -86,14 +86,14 @@ module _ (p : ℕ) (h : IsPositive p) where
       low_taken p k f h none under (is_so f k i) (inl (is_not (f + 1) k j))
   pick k f false true none under beyond i j some =
       high_taken p k f h none beyond (is_so (f + 1) k j)
-      (inl (λ x. is_not f k i (let same : f + 1 - 1 ≡ f = omega arith in subst (λ d. DecimalIsReadAs p d k) same x)))
+      (inl (λ x. is_not f k i (let same : f + 1 - 1 ≡ f = omega arith in subst (λ d. DecimalRoundsTo p d k) same x)))
   pick k f false false none under beyond i j some = cc
 
   digits_shortest : (k : ℕ) → IsTop k → IsShortest p (digits_at p k) k
   unfolding IsTop digits_at
   digits_shortest k top =
-      pick k (multiple_below p k) _ _ top.0 (floor_under (whole_of p) (step_of k))
-      (floor_over (whole_of p) (step_of k) (step_pos k)) refl refl top.1
+      pick k (multiple_below p k) _ _ top.0 (floor_under (scaled_double p) (scaled_step k))
+      (floor_over (scaled_double p) (scaled_step k) (step_pos k)) refl refl top.1
 
   pub positive_text : IsUnsignedText p (decimal_text (digits_at p (top_power p 1500)) (top_power p 1500))
   positive_text =

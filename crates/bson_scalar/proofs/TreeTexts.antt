@@ -24,8 +24,8 @@ use Rattle.serde_json.specs.Read.{number_of, number_from, float_of, is_integer}
 use Rattle.serde_json.specs.Written.{has_float, items_have_float, members_have_float}
 use Rattle.serde_json.specs.Written as kit
 use Rattle.serde_json.proofs.Texts.{print-outline}
-use Rattle.bson_double.specs.Doubles.{is_finite}
-use Rattle.bson_double.specs.Text.{IsDoubleText}
+use Rattle.bson_double.specs.FiniteDoubles.{is_finite}
+use Rattle.bson_double.specs.DoubleText.{IsDoubleText}
 use Rattle.bson_double.proofs.Offered.{bits_back, finite_value, json_number, parses}
 use Rattle.bson_scalar.specs.Shortest.{finite_double_text}
 use Rattle.bson_scalar.specs.TreeText.{float_text, number_text, outline, items_outline, members_outline, tokens_of}

@@ -6,7 +6,7 @@ use Rattle.std.specs.Float.{binary64}
 use lib.Ieee.{fits}
 use lib.Ieee.Bits.{is_true, of_bits-fits}
 use Rattle.serde_json.specs.Data.{Data, float}
-use Rattle.bson_double.specs.Doubles.{is_finite}
+use Rattle.bson_double.specs.FiniteDoubles.{is_finite}
 use Rattle.bson_double.proofs.Offered.{bits_of_finite}
 use Rattle.bson_scalar.specs.Doubles.{double_text, double_tree, normal_double, is_nan, is_minus_nan, is_special}
 use Rattle.bson_scalar.specs.Doubles.{is_writable, text_in}

@@ -5,7 +5,7 @@ use Rattle.std.specs.Prelude.{ℕ, List, [], ◌∷◌, codes}
 use Rattle.hex.specs.Hex.{encode_lower}
 use Rattle.bson_types.specs.HexText.{IsHexText}
 use Rattle.bson_types.specs.Base64.{padded_text}
-use Rattle.bson_types.specs.Subtype.{subtype_byte}
+use Rattle.bson_types.specs.BinarySubtypes.{subtype_byte}
 use Rattle.bson_types.specs.declared.spec.BinarySubtype.{BinarySubtype}
 use Rattle.serde_json.specs.Data.{Data}
 use Rattle.serde_json.specs.Data as tree

@@ -1,7 +1,7 @@
 -- `$numberDecimal` (MongoDB Extended JSON v2): the text of a decimal that a Decimal128 has exactly.
 -- Read: {"$numberDecimal": "1.50"}. Written: the printed text.
 use Rattle.std.specs.Prelude.{ℕ, List}
-use Rattle.bson_decimal.specs.Displayed.{decimal128_text as decimal_text}
+use Rattle.bson_decimal.specs.DecimalText.{decimal128_text as decimal_text}
 use Rattle.serde_json.specs.Data.{Data}
 use Rattle.serde_json.specs.Data as tree
 use Rattle.bson_scalar.specs.TreeParts.{object_of_one}

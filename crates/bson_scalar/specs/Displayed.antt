@@ -2,10 +2,10 @@
 use Rattle.std.specs.Prelude.{ℕ, ◌-◌, ◌++◌, List, Bool, true, false, length, replicate, codes}
 use Rattle.std.specs.Fmt.{decimal, signed_decimal, digits}
 use Rattle.hex.specs.Hex.{encode_lower}
-use Rattle.bson_datetime.specs.Displayed.{date_time_text as date_text}
-use Rattle.bson_decimal.specs.Displayed.{decimal128_text as decimal_text}
+use Rattle.bson_datetime.specs.DateTimeText.{date_time_text as date_text}
+use Rattle.bson_decimal.specs.DecimalText.{decimal128_text as decimal_text}
 use Rattle.bson_types.specs.Base64.{padded_text}
-use Rattle.bson_types.specs.Subtype.{subtype_byte}
+use Rattle.bson_types.specs.BinarySubtypes.{subtype_byte}
 use Rattle.bson_scalar.specs.Scalar.{Scalar, null, undefined, min_key, max_key, boolean, double, int32, int64, text}
 use Rattle.bson_scalar.specs.Scalar.{symbol, code, regex, timestamp, binary, object_id, date, decimal as decimal128}
 use Rattle.bson_scalar.specs.Scalar.{db_pointer}

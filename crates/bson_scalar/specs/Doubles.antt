@@ -6,8 +6,8 @@ use Rattle.std.specs.Prelude.{if◌then◌else◌, Option, Some, None}
 use Rattle.std.specs.Float.{Float, binary64}
 use Rattle.std.specs.Str.{bytes_eq}
 use lib.Ieee.{fits}
-use Rattle.bson_double.specs.Doubles.{is_finite, finite_bits, finite_of}
-use Rattle.bson_double.specs.Text.{IsDoubleText}
+use Rattle.bson_double.specs.FiniteDoubles.{is_finite, finite_bits, parsed_finite_bits}
+use Rattle.bson_double.specs.DoubleText.{IsDoubleText}
 use Rattle.serde_json.specs.Data.{Data, Num}
 use Rattle.serde_json.specs.Data as tree
 use Rattle.serde_json.specs.Find.{to_float}
@@ -63,7 +63,7 @@ double_tree s = object_of_one (key_of NumberDouble) (tree.string s)
 
 abbrev pub or_finite_of : Option ℕ → List ℕ → Option ℕ
 or_finite_of (Some p) s = Some p
-or_finite_of None s = finite_of s
+or_finite_of None s = parsed_finite_bits s
 
 -- the pattern that a text means: in the mode `Finite` also that of the double nearest to a decimal number
 abbrev pub double_in : Doubles → List ℕ → Option ℕ

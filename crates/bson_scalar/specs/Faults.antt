@@ -1,6 +1,6 @@
 -- Why a tree is not valid Extended JSON, and what a function that reads it returns.
 use Rattle.std.specs.Prelude.{◌≡◌, ℕ, List, Result, Ok, Err, Option, Some, None}
-use Rattle.bson_types.specs.OidFault.{IsOidError}
+use Rattle.bson_types.specs.ObjectIdErrors.{IsOidError}
 use Rattle.bson_types.specs.declared.oid.Error as oid
 use Rattle.bson_types.specs.declared.oid.Error.TheVariants.{InvalidHexStringCharacter, InvalidHexStringLength}
 use Rattle.bson_types.specs.declared.oid.Error.TheVariants as oid_error

@@ -1,7 +1,7 @@
 -- The words of a scalar for a hasher.
 use Rattle.std.specs.Prelude.{[], ◌++◌}
 use Rattle.std.specs.Hash.{HashWrites, u8, u32, u64, i32, i64, bool, str, slice}
-use Rattle.bson_types.specs.Subtype.{subtype_byte}
+use Rattle.bson_types.specs.BinarySubtypes.{subtype_byte}
 use Rattle.bson_scalar.specs.Scalar.{Scalar, null, undefined, min_key, max_key, boolean, double, int32, int64, text}
 use Rattle.bson_scalar.specs.Scalar.{symbol, code, regex, timestamp, binary, object_id, date, decimal, db_pointer}
 

@@ -2,7 +2,7 @@
 -- Read, with digits of either case, and written, with lower-case ones: {"$oid": "53e37d08776f724e42000000"},
 -- {"$dbPointer": {"$ref": "a.b", "$id": {"$oid": "53e37d08776f724e42000000"}}}.
 use Rattle.std.specs.Prelude.{ℕ, List, codes}
-use Rattle.bson_types.specs.Oid.{encode_lower}
+use Rattle.bson_types.specs.ObjectIds.{encode_lower}
 use Rattle.serde_json.specs.Data.{Data}
 use Rattle.serde_json.specs.Data as tree
 use Rattle.bson_scalar.specs.TreeParts.{object_of_one, object_of_two}

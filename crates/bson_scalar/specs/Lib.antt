@@ -30,7 +30,7 @@ pub mod Laws
 -- what public clauses cite of the crates below, so that a caller names this crate alone
 pub use Rattle.bson_types.specs.DbPointer
 pub use Rattle.bson_types.specs.Regex
-pub use Rattle.bson_types.specs.Subtype
+pub use Rattle.bson_types.specs.BinarySubtypes
 pub use Rattle.bson_types.specs.declared.spec.BinarySubtype
 pub use Rattle.hex.specs.Hex
 pub use Rattle.serde_json.specs.Data

@@ -8,15 +8,15 @@ use Rattle.serde_json.specs.Data as tree
 use Rattle.serde_json.specs.Find.{as_i64}
 -- what the texts in a tree mean, each in the words of its own standard
 pub use Rattle.bson_types.specs.Base64.{IsBase64}
-pub use Rattle.bson_types.specs.Oid.{IsOidText}
+pub use Rattle.bson_types.specs.ObjectIds.{IsOidText}
 pub use Rattle.bson_types.specs.Regex.{sorted_text}
-pub use Rattle.bson_types.specs.Subtype.{subtype_of}
+pub use Rattle.bson_types.specs.BinarySubtypes.{subtype_of}
 pub use Rattle.bson_types.specs.Uuid.{IsHyphenatedText}
 pub use Rattle.bson_types.specs.declared.spec.BinarySubtype.TheVariants.{Uuid}
-pub use Rattle.bson_datetime.specs.Grammar.{Names}
-pub use Rattle.bson_decimal.specs.Text.{Parses}
+pub use Rattle.bson_datetime.specs.Rfc3339Grammar.{DenotesDateTime}
+pub use Rattle.bson_decimal.specs.DecimalStrings.{DenotesDecimal}
 pub use Rattle.bson_scalar.specs.Binaries.{IsByteText}
-use Rattle.bson_double.specs.Doubles.{finite_of}
+use Rattle.bson_double.specs.FiniteDoubles.{parsed_finite_bits}
 use Rattle.bson_scalar.specs.Doubles.{double_pattern, finite_number}
 use Rattle.bson_scalar.specs.Ints.{IsIntText}
 use Rattle.bson_scalar.specs.Scalar.{Scalar}
@@ -40,7 +40,7 @@ pub data MeansScalar : Data → Scalar → Type 0 where
       → MeansScalar (object_of_one (codes "$numberLong") (tree.string s)) (kind.int64 z)
   number_double : (s : List ℕ) (p : ℕ) → double_pattern s ≡ Some p
       → MeansScalar (object_of_one (codes "$numberDouble") (tree.string s)) (kind.double p)
-  number_decimal : (s b : List ℕ) → Parses s b
+  number_decimal : (s b : List ℕ) → DenotesDecimal s b
       → MeansScalar (object_of_one (codes "$numberDecimal") (tree.string s)) (kind.decimal b)
   symbol : (s : List ℕ) → MeansScalar (object_of_one (codes "$symbol") (tree.string s)) (kind.symbol s)
   code : (s : List ℕ) → MeansScalar (object_of_one (codes "$code") (tree.string s)) (kind.code s)
@@ -65,7 +65,7 @@ pub data MeansScalar : Data → Scalar → Type 0 where
       (kind.timestamp n m)
   date_of_millis : (s : List ℕ) (z : ℤ) → IsIntText w64 s z
       → MeansScalar (object_of_one (codes "$date") (object_of_one (codes "$numberLong") (tree.string s))) (kind.date z)
-  date_of_text : (s : List ℕ) (z : ℤ) → Names s z
+  date_of_text : (s : List ℕ) (z : ℤ) → DenotesDateTime s z
       → MeansScalar (object_of_one (codes "$date") (tree.string s)) (kind.date z)
   date_of_number : (n : Num) (z : ℤ) → as_i64 n ≡ Some z
       → MeansScalar (object_of_one (codes "$date") (tree.number n)) (kind.date z)
@@ -83,7 +83,7 @@ pub data MeansScalar : Data → Scalar → Type 0 where
 
 -- the tree means the double that is nearest to a decimal number, and finite
 pub data MeansFinite : Data → Scalar → Type 0 where
-  nearest_to_text : (s : List ℕ) (p : ℕ) → finite_of s ≡ Some p
+  nearest_to_text : (s : List ℕ) (p : ℕ) → parsed_finite_bits s ≡ Some p
       → MeansFinite (object_of_one (codes "$numberDouble") (tree.string s)) (kind.double p)
   -- a number that is no i64
   nearest_to_number : (n : Num) (p : ℕ) → as_i64 n ≡ None → finite_number n ≡ Some p

@@ -1,8 +1,8 @@
 -- Normal and narrowed forms, and what a scalar may be.
 use Rattle.std.specs.Prelude.{◌≡◌, ◌⊎◌, ◌<◌, ◌^◌, ℤ, length, Bool, true, FitsSigned}
 use Rattle.std.specs.Int.{w32, w64}
-use Rattle.bson_types.specs.Subtype.{subtype_byte, subtype_of}
-use Rattle.bson_decimal.specs.Pattern.{normal_decimal, bytes_meaning, is_decimal_nan}
+use Rattle.bson_types.specs.BinarySubtypes.{subtype_byte, subtype_of}
+use Rattle.bson_decimal.specs.DecimalBits.{canonical_decimal, decoded_decimal, is_decimal_nan}
 use Rattle.hex.specs.Hex.{IsBytes}
 use Rattle.bson_scalar.specs.Doubles.{normal_double, is_writable}
 use Rattle.bson_scalar.specs.Ints.{narrowest}
@@ -20,7 +20,7 @@ abbrev pub normal_scalar : Scalar → Scalar
 normal_scalar (double p) = double (normal_double p)
 normal_scalar (regex p o) = regex p (sorted_text o)
 normal_scalar (binary k bytes) = binary (subtype_of (subtype_byte k)) bytes
-normal_scalar (decimal b) = decimal (normal_decimal b)
+normal_scalar (decimal b) = decimal (canonical_decimal b)
 normal_scalar x = x
 
 -- an Int64 as its tree in this form reads back
@@ -55,7 +55,7 @@ ScalarInRange x = Unit {0}
 
 -- in normal form, or a NaN of a decimal: its text can have a sign, or say that it signals
 abbrev pub IsNormalOrNan : Scalar → Type 0
-IsNormalOrNan (decimal b) = (normal_decimal b ≡ b) ⊎ (is_decimal_nan (bytes_meaning b) ≡ true)
+IsNormalOrNan (decimal b) = (canonical_decimal b ≡ b) ⊎ (is_decimal_nan (decoded_decimal b) ≡ true)
 IsNormalOrNan x = normal_scalar x ≡ x
 
 -- what is known of every scalar that is read

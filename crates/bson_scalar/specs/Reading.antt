@@ -10,14 +10,14 @@ use Rattle.base64.specs.GeneralPurpose.{decode_of}
 use Rattle.base64.specs.Engines.{standard}
 use Rattle.hex.specs.Hex.{decode_sized}
 use Rattle.hex.specs.declared.error.FromHexError.{FromHexError}
-use Rattle.bson_datetime.specs.Rfc3339.{named_moment}
-use Rattle.bson_decimal.specs.Pattern.{first_form, sign_weight}
-use Rattle.bson_decimal.specs.Steps.{finite}
-use Rattle.bson_decimal.specs.Text.{lowercase}
+use Rattle.bson_datetime.specs.Rfc3339Parser.{parsed_rfc3339_millis}
+use Rattle.bson_decimal.specs.DecimalBits.{encoded_finite, sign_bit}
+use Rattle.bson_decimal.specs.ParseSteps.{finite}
+use Rattle.bson_decimal.specs.DecimalStrings.{lowercase}
 use Rattle.bson_types.specs.Base64.{padded_text}
-use Rattle.bson_types.specs.Orders.{parsed_hyphenated}
+use Rattle.bson_types.specs.UuidByteOrder.{parsed_hyphenated}
 use Rattle.bson_types.specs.Regex.{sorted_text}
-use Rattle.bson_types.specs.Subtype.{subtype_of}
+use Rattle.bson_types.specs.BinarySubtypes.{subtype_of}
 use Rattle.bson_types.specs.declared.spec.BinarySubtype.TheVariants as subtype
 use Rattle.serde_json.specs.Data.{Data, Num, Members, no_members, member}
 use Rattle.serde_json.specs.Data as tree
@@ -98,11 +98,11 @@ special_decimal w =
 
 abbrev pub finite_decimal : List ℕ → Option (List ℕ)
 finite_decimal s =
-    option_map (λ r. to_le_bytes w128 (first_form (starts_with_minus s) r.0 r.1))
+    option_map (λ r. to_le_bytes w128 (encoded_finite (starts_with_minus s) r.0 r.1))
     (result_ok (finite (without_leading_sign s)))
 
 abbrev pub decimal_at : List ℕ → Option ℕ → Option (List ℕ)
-decimal_at s (Some n) = Some (to_le_bytes w128 (sign_weight (starts_with_minus s) + n))
+decimal_at s (Some n) = Some (to_le_bytes w128 (sign_bit (starts_with_minus s) + n))
 decimal_at s None = finite_decimal s
 
 -- the pattern of a decimal text
@@ -152,7 +152,7 @@ timestamp_read d =
     Ok (timestamp n m))
 
 abbrev pub millis_of : Data → Result ℤ Fault
-millis_of (tree.string s) = or_wrong_shape (named_moment s)
+millis_of (tree.string s) = or_wrong_shape (parsed_rfc3339_millis s)
 millis_of (tree.number n) = or_wrong_shape (as_i64 n)
 millis_of d = on_single_key (codes "$numberLong") d (λ t. on_text t (λ s. or_wrong_shape (int_of 63 s)))
 

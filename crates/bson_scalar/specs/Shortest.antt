@@ -3,17 +3,17 @@ use Rattle.std.specs.Prelude.{◌+◌, ◌*◌, ◌/◌, ◌%◌, ◌^◌, ◌==
 use Rattle.std.specs.Prelude.{codes, if◌then◌else◌, Option, Some, None, to_bits}
 use Rattle.std.specs.Float.{binary64}
 use Rattle.std.specs.Fmt.{sign_text}
-use Rattle.bson_double.specs.Doubles.{is_finite}
-use Rattle.bson_double.specs.Shortest.{nearest_to, whole_of, step_of}
-use Rattle.bson_double.specs.Text.{decimal_text}
+use Rattle.bson_double.specs.FiniteDoubles.{is_finite}
+use Rattle.bson_double.specs.ShortestDecimal.{nearest_double, scaled_double, scaled_step}
+use Rattle.bson_double.specs.DoubleText.{decimal_text}
 
 -- whether this multiple of the power of ten reads as the double
 abbrev pub is_read : ℕ → ℕ → ℕ → Bool
-is_read p d k = to_bits binary64 (nearest_to d k) == p
+is_read p d k = to_bits binary64 (nearest_double d k) == p
 
 -- the multiple at the double or below it
 abbrev pub multiple_below : ℕ → ℕ → ℕ
-multiple_below p k = whole_of p / step_of k
+multiple_below p k = scaled_double p / scaled_step k
 
 -- whether it is read as the double, or the next one
 abbrev pub is_some_read : ℕ → ℕ → Bool
@@ -27,8 +27,8 @@ top_power p (suc n) = if is_some_read p n then n else top_power p n
 -- the multiple or the next one, whichever is nearer to the double; if both are equally near, the even one
 abbrev pub nearer : ℕ → ℕ → ℕ → ℕ
 nearer p k f =
-    if nat_lt (2 * whole_of p) ((2 * f + 1) * step_of k) then f
-    else (if (2 * whole_of p == (2 * f + 1) * step_of k && f % 2 == 0) then f else f + 1)
+    if nat_lt (2 * scaled_double p) ((2 * f + 1) * scaled_step k) then f
+    else (if (2 * scaled_double p == (2 * f + 1) * scaled_step k && f % 2 == 0) then f else f + 1)
 
 abbrev pub read_one : Bool → Bool → ℕ → ℕ → ℕ → ℕ
 read_one low high p k f = if low then (if high then nearer p k f else f) else f + 1

@@ -2,7 +2,7 @@
 use Rattle.std.specs.Prelude.{◌≡◌, ◌⊎◌, ℕ, ℤ, List, true, false, Option, Some, None, Result, Ok, Err, from_bits}
 use Rattle.std.specs.Prelude.{if◌then◌else◌}
 use Rattle.std.specs.Float.{binary64}
-use Rattle.bson_double.specs.Doubles.{is_finite}
+use Rattle.bson_double.specs.FiniteDoubles.{is_finite}
 use Rattle.serde_json.specs.Data.{Data, float}
 use Rattle.serde_json.specs.Data as tree
 use Rattle.serde_json.specs.Find.{of_integer}

@@ -4,8 +4,8 @@
 ghost use Rattle.std.specs.Prelude.{◌≡◌, IfOk, OnOk, FitsSigned, codes, pos, ◌≤ℤ◌, string_bytes};
 ghost use Rattle.std.specs.Int.{w64};
 ghost use Rattle.serde_json.specs.View.{view};
-ghost use Rattle.bson_datetime.specs.Rfc3339.{named_moment};
-ghost use Rattle.bson_datetime.specs.Displayed.{rfc};
+ghost use Rattle.bson_datetime.specs.Rfc3339Parser.{parsed_rfc3339_millis};
+ghost use Rattle.bson_datetime.specs.DateTimeText.{rfc3339_text};
 ghost use Rattle.bson_scalar.specs.Dates.{date_tree, relaxed_date_tree};
 ghost use Rattle.bson_scalar.specs.Faults.{Gives, or_wrong_shape};
 ghost use Rattle.bson_scalar.specs.Reading.{millis_of, date_read};
@@ -29,7 +29,7 @@ const SHAPE: &str = "`$date` must be an RFC 3339 string, an integer or a `$numbe
 const LAST_RELAXED: i64 = 253_402_300_799_999;
 
 fn denoted_by(text: &str) -> Option<DateTime>
-    ensures { result ≡ named_moment text.now }
+    ensures { result ≡ parsed_rfc3339_millis text.now }
 {
     match DateTime::parse_rfc3339_str(text) {
         Ok(date) => Some(date),
@@ -63,7 +63,7 @@ pub(crate) fn read_date(value: Value) -> Result<Scalar, Error>
 fn text(alloc: Global, date: DateTime) -> Result<String, AllocError>
     requires from { pos 0 ≤ℤ date }
     requires to { date ≤ℤ pos 253_402_300_799_999 }
-    ensures { IfOk result (λ s. string_bytes s ≡ rfc date) }
+    ensures { IfOk result (λ s. string_bytes s ≡ rfc3339_text date) }
 {
     match date.try_to_rfc3339_string(alloc) {
         Ok(text) => Ok(text),

@@ -2,7 +2,7 @@
 //! Read and written as `{"$numberDouble": "-0.0"}` and `{"$numberDouble": "12.5"}`, and a finite
 //! double in the relaxed form as `12.5`; a double is its pattern of 64 bits (IEEE 754-2008 binary64).
 ghost use Rattle.std.specs.Prelude.{◌≡◌, ℕ, List, Some, IfOk, IsTrue, option_map};
-ghost use Rattle.bson_double.specs.Doubles.{is_finite};
+ghost use Rattle.bson_double.specs.FiniteDoubles.{is_finite};
 ghost use Rattle.bson_scalar.specs.Shortest.{finite_double_text};
 ghost use Rattle.serde_json.specs.View.{view, number_view};
 ghost use Rattle.bson_scalar.specs.Doubles as spec;

@@ -5,7 +5,7 @@ ghost use Rattle.std.specs.Prelude.{◌≡◌, IfOk, OnOk, codes, string_bytes};
 ghost use Rattle.serde_json.specs.Data.{string};
 ghost use Rattle.serde_json.specs.View.{view};
 ghost use Rattle.bson_types.specs.DbPointer.{namespace_of, id_of as pointer_id};
-ghost use Rattle.bson_types.specs.Oid.{IsObjectId};
+ghost use Rattle.bson_types.specs.ObjectIds.{IsObjectId};
 ghost use Rattle.bson_scalar.specs.Faults.{Gives};
 ghost use Rattle.bson_scalar.specs.Ids.{oid_tree, pointer_tree};
 ghost use Rattle.bson_scalar.specs.Reading.{parsed_object_id, oid_read, pointer_read};

@@ -1,7 +1,7 @@
 //! The laws of scalars that the layer above builds on, each a fact of the definitions alone.
 ghost use Rattle.std.specs.Prelude.{to_bits};
 ghost use Rattle.std.specs.Float.{Float, binary64};
-ghost use Rattle.bson_double.specs.Text.{IsDoubleText};
+ghost use Rattle.bson_double.specs.DoubleText.{IsDoubleText};
 ghost use Rattle.bson_scalar.specs.Laws.{Meaning, OneMeaning, ReadForm, Tree, Writable, DoublesHaveTexts};
 ghost use Rattle.bson_scalar.specs.Laws.{ScalarsReadBack, NormalAgain, AsReadAgain};
 ghost use Rattle.bson_scalar.specs.Laws.{MeaningIn, OneMeaningIn, ReadFormIn, TreeIn, WritableIn};

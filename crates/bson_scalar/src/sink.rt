@@ -4,7 +4,7 @@ ghost use Rattle.std.specs.Fmt.{signed_decimal};
 ghost use Rattle.serde_json.specs.Data.{Data, null, boolean, number, string, object, unsigned};
 ghost use Rattle.serde_json.specs.Data.{Members, no_members, put};
 ghost use Rattle.serde_json.specs.Find.{of_integer};
-ghost use Rattle.bson_double.specs.Doubles.{is_finite};
+ghost use Rattle.bson_double.specs.FiniteDoubles.{is_finite};
 ghost use Rattle.bson_scalar.specs.Tokens.{tokens_added};
 ghost use Rattle.bson_scalar.specs.Written.{number_tree};
 

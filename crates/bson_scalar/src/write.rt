@@ -2,7 +2,7 @@
 ghost use Rattle.std.specs.Prelude.{◌≡◌, ◌<◌, ◌++◌, OnOk};
 ghost use Rattle.hex.specs.Hex.{IsBytes};
 ghost use Rattle.serde_json.specs.View.{view};
-ghost use Rattle.bson_types.specs.Subtype.{subtype_byte};
+ghost use Rattle.bson_types.specs.BinarySubtypes.{subtype_byte};
 ghost use Rattle.bson_scalar.specs.Binaries.{binary_tree};
 ghost use Rattle.bson_scalar.specs.Normal.{ScalarInRange};
 ghost use Rattle.bson_scalar.specs.Tokens.{tokens_of, Sends, Puts};

@@ -8,9 +8,9 @@ use Rattle.std.specs.List.Sorted.{IsStrictlySortedBy}
 use Rattle.std.specs.Ordering.{is_eq, is_lt}
 use Rattle.std.specs.Str.{bytes_eq}
 use Rattle.std.specs.declared.cmp.Ordering.TheVariants.{Less}
-use Rattle.bson_store.specs.Order.{key_cmp}
+use Rattle.bson_store.specs.AscendingOrder.{key_cmp}
 use Rattle.bson_store.specs.Pairs.{keys, HasDistinctKeys}
-use Rattle.bson_store.specs.Small.{stored_pairs, HasAscendingKeys}
+use Rattle.bson_store.specs.KeyIndex.{stored_pairs, HasAscendingKeys}
 use Rattle.bson_store.specs.declared.small.Pair.{Pair}
 use Rattle.bson_store.proofs.AscendingLaws.{ascend_none}
 use Rattle.bson_store.proofs.Least.{less_of}

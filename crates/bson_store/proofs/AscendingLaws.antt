@@ -1,4 +1,4 @@
--- Pairs whose keys ascend: their keys still ascend after a change, and the place of a key among them.
+-- Pairs whose keys ascend: their keys still ascend after a change, and the position of a key among them.
 use Rattle.std.proofs.Common.{◌≡◌, ℕ, zero, suc, ◌+◌, ◌<◌, ◌≤◌, Bool, true, false, List, [], ◌∷◌, ◌++◌, length, take}
 use Rattle.std.proofs.Common.{remove, Option, Some, None, slice_get, option_map, refl, sym, ap, ◌∙◌, true≢false, arith}
 use Rattle.std.specs.List.{AllByRecursion}
@@ -7,10 +7,10 @@ use Rattle.std.specs.Ordering.{is_lt}
 use Rattle.std.specs.Cmp.{tied_itself}
 use Rattle.std.specs.declared.cmp.Ordering.TheVariants.{Less}
 use Rattle.std.proofs.lemmas.Option.{slice_get-map}
-use Rattle.bson_store.specs.Ascending.{NoneAbove, AllAbove, IsFirstAbove}
-use Rattle.bson_store.specs.Order.{key_cmp}
+use Rattle.bson_store.specs.AscendingKeys.{NoKeyAboveBefore, AllKeysAboveFrom, IsFirstKeyAbove}
+use Rattle.bson_store.specs.AscendingOrder.{key_cmp}
 use Rattle.bson_store.specs.Pairs.{keys, position_of}
-use Rattle.bson_store.specs.Small.{HasAscendingKeys}
+use Rattle.bson_store.specs.KeyIndex.{HasAscendingKeys}
 use Rattle.bson_store.proofs.Found.{key-place}
 use Rattle.bson_store.proofs.Least.{key_total, less_of}
 use Rattle.bson_store.proofs.Placed.{all-push, all-remove}
@@ -23,7 +23,7 @@ not_below_itself k = ap is_lt (tied_itself key_total k)
 not_both : (k l : List ℕ) → key_cmp k l ≡ Less → key_cmp l k ≡ Less → ⊥
 not_both k l a b = true≢false (sym (ap is_lt (key_total.trans k l k a b)) ∙ not_below_itself k)
 
--- one of two orders of two places
+-- one of two orders of two positions
 split : {P : Type 0} (j i : ℕ) → (j < i → P) → (i ≤ j → P) → P
 split zero zero f g = g (omega arith)
 split zero (suc i) f g = f (omega arith)
@@ -34,7 +34,7 @@ by_test : (b : Bool) → (b ≡ true → ⊥) → b ≡ false
 by_test true h = absurd (h refl)
 by_test false h = refl
 
--- what a place is: there is none, or this one
+-- what a position is: there is none, or this one
 pub by_option : {A : Type 0} (P : Option A → Type 0) (r : Option A) → (r ≡ None → P None)
     → ((x : A) → r ≡ Some x → P (Some x)) → P r
 by_option P None n s = n refl
@@ -85,7 +85,7 @@ module _ {V : Type 0} where
   at-take (p ∷ ps) (suc n) zero less = refl
   at-take (p ∷ ps) (suc n) (suc i) less = at-take ps n i (omega (arith, less))
 
-  -- ---- the place of a key
+  -- ---- the position of a key
 
   pub order-at : (ps : List (List ℕ × V)) (i j : ℕ) (k l : List ℕ) → HasAscendingKeys ps → i < j
       → slice_get (keys ps) i ≡ Some k → slice_get (keys ps) j ≡ Some l → key_cmp k l ≡ Less
@@ -100,7 +100,7 @@ module _ {V : Type 0} where
       → slice_get (keys ps) i ≡ Some p.0
   key-of ps i p e = slice_get-map (λ x. x.0) ps i ∙ ap (option_map (λ x. x.0)) e
 
-  -- if the key at a place is above a key, so are the keys after it
+  -- if the key at a position is above a key, so are the keys after it
   pub above-at : (last : List ℕ) (ps : List (List ℕ × V)) (m j : ℕ) (k l : List ℕ) → HasAscendingKeys ps → m ≤ j
       → slice_get (keys ps) m ≡ Some k → slice_get (keys ps) j ≡ Some l → is_lt (key_cmp last k) ≡ true
       → is_lt (key_cmp last l) ≡ true
@@ -117,16 +117,16 @@ module _ {V : Type 0} where
 
   -- one step of the search: from a key above the last one all are above it, and up to one that is not none is
   pub above-from : (last : List ℕ) (ps : List (List ℕ × V)) (m : ℕ) (k : List ℕ) → HasAscendingKeys ps
-      → slice_get (keys ps) m ≡ Some k → is_lt (key_cmp last k) ≡ true → AllAbove (Some last) ps m
+      → slice_get (keys ps) m ≡ Some k → is_lt (key_cmp last k) ≡ true → AllKeysAboveFrom (Some last) ps m
   above-from last ps m k up e a = λ j l le f. above-at last ps m j k l up le e f a
 
   pub none-above-to : (last : List ℕ) (ps : List (List ℕ × V)) (m : ℕ) (k : List ℕ) → HasAscendingKeys ps
-      → slice_get (keys ps) m ≡ Some k → is_lt (key_cmp last k) ≡ false → NoneAbove (Some last) ps (m + 1)
+      → slice_get (keys ps) m ≡ Some k → is_lt (key_cmp last k) ≡ false → NoKeyAboveBefore (Some last) ps (m + 1)
   none-above-to last ps m k up e a =
       λ j l less f. by_test (is_lt (key_cmp last l))
       (λ t. true≢false (sym (above-at last ps j m l k up (omega (arith, less)) f e t) ∙ a))
 
-  -- a key that is not above the key at a place before it is that key
+  -- a key that is not above the key at a position before it is that key
   same-at : (ps : List (List ℕ × V)) (j n : ℕ) (k l : List ℕ) → HasAscendingKeys ps → j ≤ n → slice_get (keys ps) j ≡ Some k
       → slice_get (keys ps) n ≡ Some l → is_lt (key_cmp k l) ≡ false → k ≡ l
   unfolding IsStrictlySortedBy
@@ -138,16 +138,16 @@ module _ {V : Type 0} where
   same-at (p ∷ ps) (suc j) zero k l up le e f a = absurd (omega (arith, le))
   same-at (p ∷ ps) (suc j) (suc n) k l up le e f a = same-at ps j n k l up.1 (omega (arith, le)) e f a
 
-  -- ---- the place of a key
+  -- ---- the position of a key
 
   -- none, where no key is before the first one above
-  pub absent-first : (k : List ℕ) (ps : List (List ℕ × V)) → AllAbove (Some k) ps 0 → position_of k ps ≡ None
+  pub absent-first : (k : List ℕ) (ps : List (List ℕ × V)) → AllKeysAboveFrom (Some k) ps 0 → position_of k ps ≡ None
   absent-first k ps all = by_option (λ r. r ≡ None) (position_of k ps) (λ e. refl)
       (λ j e. absurd (true≢false (sym (all j k (omega arith) (key-place k ps j e)) ∙ not_below_itself k)))
 
   -- none, where the key before the first one above is another
   pub absent-behind : (k : List ℕ) (ps : List (List ℕ × V)) (n : ℕ) (l : List ℕ) → HasAscendingKeys ps
-      → IsFirstAbove (Some k) ps (n + 1) → slice_get (keys ps) n ≡ Some l → (k ≡ l → ⊥) → position_of k ps ≡ None
+      → IsFirstKeyAbove (Some k) ps (n + 1) → slice_get (keys ps) n ≡ Some l → (k ≡ l → ⊥) → position_of k ps ≡ None
   absent-behind k ps n l up first e other = by_option (λ r. r ≡ None) (position_of k ps) (λ f. refl)
       (λ j f. absurd (split j (n + 1)
       (λ less. other (same-at ps j n k l up (omega (arith, less)) (key-place k ps j f) e (first.1 n l (omega arith) e)))

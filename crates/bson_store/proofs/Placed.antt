@@ -1,4 +1,4 @@
--- The places of keys, as pairs come and go.
+-- The positions of keys, as pairs come and go.
 use Rattle.std.proofs.Common.{◌≡◌, ℕ, zero, suc, ◌+◌, ◌<◌, ◌≤◌, Bool, true, false, cond, List, [], ◌∷◌, ◌++◌, take}
 use Rattle.std.proofs.Common.{map, slice_index_or, remove, option_map, length, length-take-le, get_or, set, Result, Ok, Err, OnOk, OnErr, Option}
 use Rattle.std.proofs.Common.{None, Some, slice_get, string_bytes, refl, sym, ap, subst, ◌∙◌, true≢false, arith}
@@ -9,14 +9,14 @@ use Rattle.std.specs.List.Sorted.{IsStrictlySortedBy}
 use Rattle.std.specs.Map.{update}
 use Rattle.std.specs.Str.{bytes_eq}
 use Rattle.std.proofs.lemmas.Slice.Eq.{bytes_eq-Decides}
-use Rattle.bson_store.specs.declared.places.Index.{Index}
-use Rattle.bson_store.specs.declared.places.Index.TheVariants.{Sorted, Map}
+use Rattle.bson_store.specs.declared.key_index.Index.{Index}
+use Rattle.bson_store.specs.declared.key_index.Index.TheVariants.{Sorted, Map}
 use Rattle.bson_store.specs.declared.small.Pair.{Pair}
-use Rattle.bson_store.specs.Order.{key_cmp}
+use Rattle.bson_store.specs.AscendingOrder.{key_cmp}
 use Rattle.bson_store.specs.Pairs.{keys, values, get, position_of, with_value, HasDistinctKeys}
-use Rattle.bson_store.specs.Small.{IndexOrNone, stored_pairs, keyed, HasAscendingKeys, Indexes, IsPlaced, IsIndexed}
+use Rattle.bson_store.specs.KeyIndex.{OptionalIndex, stored_pairs, key_positions, HasAscendingKeys, IsIndexOf, HasNeededIndex, StoreInvariant}
 use Rattle.std.proofs.lemmas.Option.{slice_get-map, slice_get-get_or}
-use Rattle.bson_store.specs.Removal.{index_before_removal}
+use Rattle.bson_store.specs.PositionsAfterRemoval.{position_before_removal}
 use Rattle.bson_store.proofs.Distinct.{apart, absent-before, take-next}
 use Rattle.bson_store.proofs.Found.{none_at, key-place, place-within}
 
@@ -43,9 +43,9 @@ first_out true b r e h = ap (λ x. cond x None (Some 0)) e ∙ ap (option_map su
 first_out false b r e h = ap (λ x. cond x None (option_map suc r)) e
 
 later_out : (c b : Bool) (i : ℕ) (r s : Option ℕ) → (c ≡ true → b ≡ false)
-    → cond b None r ≡ option_map (index_before_removal i) s
+    → cond b None r ≡ option_map (position_before_removal i) s
     → cond b None (cond c (Some 0) (option_map suc r))
-    ≡ option_map (index_before_removal (suc i)) (cond c (Some 0) (option_map suc s))
+    ≡ option_map (position_before_removal (suc i)) (cond c (Some 0) (option_map suc s))
 later_out true b i r s h e = ap (λ x. cond x None (Some 0)) (h refl)
 later_out false true i r None h e = refl
 later_out false true i r (Some j) h e = cc
@@ -97,7 +97,7 @@ module _ {V : Type 0} where
   pub place-removed : (ps : List (List ℕ × V)) (i : ℕ) (p : List ℕ × V) → HasDistinctKeys ps → slice_get ps i ≡ Some p
       → (k : List ℕ)
       → cond (bytes_eq p.0 k) None (position_of k ps)
-      ≡ option_map (index_before_removal i) (position_of k (remove ps i))
+      ≡ option_map (position_before_removal i) (position_of k (remove ps i))
   unfolding IsDistinct
   place-removed [] i p d e k = cc
   place-removed (q ∷ ps) zero p d e k =
@@ -109,7 +109,7 @@ module _ {V : Type 0} where
       later_out (bytes_eq k q.0) (bytes_eq p.0 k) i (position_of k ps) (position_of k (remove ps i))
       (λ m. ap (bytes_eq p.0) (same_bytes k q.0 m) ∙ apart q.0 ps i p d.0 e) (place-removed ps i p d.1 e k)
 
-  -- one place lowered
+  -- one position lowered
   pub place-at : (ps : List (List ℕ × V)) (i : ℕ) (p : List ℕ × V) → HasDistinctKeys ps → slice_get ps i ≡ Some p
       → position_of p.0 ps ≡ Some i
   unfolding IsDistinct
@@ -121,40 +121,40 @@ module _ {V : Type 0} where
       ap (λ b. cond b (Some 0) (option_map suc (position_of p.0 ps))) (apart q.0 ps i p d.0 e)
       ∙ ap (option_map suc) (place-at ps i p d.1 e)
 
-removal_own : (i : ℕ) → index_before_removal (suc i) i ≡ i
+removal_own : (i : ℕ) → position_before_removal (suc i) i ≡ i
 removal_own zero = refl
 removal_own (suc i) = ap suc (removal_own i)
 
-removal_other : (i j : ℕ) → (j ≡ i → ⊥) → index_before_removal i j ≡ index_before_removal (suc i) j
+removal_other : (i j : ℕ) → (j ≡ i → ⊥) → position_before_removal i j ≡ position_before_removal (suc i) j
 removal_other zero zero h = absurd (h refl)
 removal_other zero (suc j) h = refl
 removal_other (suc i) zero h = refl
 removal_other (suc i) (suc j) h = ap suc (removal_other i j (λ e. h (ap suc e)))
 
-removal_below : (n j : ℕ) → j < n → index_before_removal n j ≡ j
+removal_below : (n j : ℕ) → j < n → position_before_removal n j ≡ j
 removal_below zero j h = absurd (omega (arith, h))
 removal_below (suc n) zero h = refl
 removal_below (suc n) (suc j) h = ap suc (removal_below n j (omega (arith, h)))
 
 others : (i : ℕ) (r : Option ℕ) → (r ≡ Some i → ⊥)
-    → option_map (index_before_removal i) r ≡ option_map (index_before_removal (suc i)) r
+    → option_map (position_before_removal i) r ≡ option_map (position_before_removal (suc i)) r
 others i None h = refl
 others i (Some j) h = ap Some (removal_other i j (λ e. h (ap Some e)))
 
 lower_step : (b : Bool) (i : ℕ) (r : Option ℕ) → (b ≡ true → r ≡ Some i) → (r ≡ Some i → b ≡ true)
-    → cond b (Some i) (option_map (index_before_removal i) r) ≡ option_map (index_before_removal (suc i)) r
-lower_step true i r h f = ap Some (sym (removal_own i)) ∙ ap (option_map (index_before_removal (suc i))) (sym (h refl))
+    → cond b (Some i) (option_map (position_before_removal i) r) ≡ option_map (position_before_removal (suc i)) r
+lower_step true i r h f = ap Some (sym (removal_own i)) ∙ ap (option_map (position_before_removal (suc i))) (sym (h refl))
 lower_step false i r h f = others i r (λ e. true≢false (sym (f e)))
 
-within_all : (n : ℕ) (r : Option ℕ) → ((i : ℕ) → r ≡ Some i → i < n) → option_map (index_before_removal n) r ≡ r
+within_all : (n : ℕ) (r : Option ℕ) → ((i : ℕ) → r ≡ Some i → i < n) → option_map (position_before_removal n) r ≡ r
 within_all n None h = refl
 within_all n (Some j) h = ap Some (removal_below n j (h j refl))
 
 module _ {V : Type 0} where
   pub lower-one : (ps : List (List ℕ × V)) (i : ℕ) (p : List ℕ × V) → HasDistinctKeys ps → slice_get ps i ≡ Some p
       → (k : List ℕ)
-      → cond (bytes_eq p.0 k) (Some i) (option_map (index_before_removal i) (position_of k ps))
-      ≡ option_map (index_before_removal (suc i)) (position_of k ps)
+      → cond (bytes_eq p.0 k) (Some i) (option_map (position_before_removal i) (position_of k ps))
+      ≡ option_map (position_before_removal (suc i)) (position_of k ps)
   lower-one ps i p d e k = lower_step (bytes_eq p.0 k) i (position_of k ps)
       (λ m. ap (λ x. position_of x ps) (sym (same_bytes p.0 k m)) ∙ place-at ps i p d e)
       (λ f. let same : k ≡ p.0 = same_key ps i k p (key-place k ps i f) e in ap (bytes_eq p.0) same ∙ own p.0)
@@ -166,7 +166,7 @@ module _ {V : Type 0} where
       same_key (r ∷ qs) (suc j) l q f g = same_key qs j l q f g
 
   pub lowered_all : (ps : List (List ℕ × V)) (n : ℕ) → length ps ≤ n → (k : List ℕ)
-      → option_map (index_before_removal n) (position_of k ps) ≡ position_of k ps
+      → option_map (position_before_removal n) (position_of k ps) ≡ position_of k ps
   lowered_all ps n le k = within_all n (position_of k ps) (λ i e. omega (arith, le, place-within k ps i e))
 
   -- the list as it is seen
@@ -203,7 +203,7 @@ module _ {V : Type 0} where
   length-with_value (p ∷ ps) zero w = refl
   length-with_value (p ∷ ps) (suc i) w = ap suc (length-with_value ps i w)
 
-  -- the pair at a place of the fields is the value's
+  -- the pair at a position of the fields is the value's
   pub there : (ps : List (Pair V)) (qs : List (List ℕ × V)) (i : ℕ) (p : Pair V) → stored_pairs ps ≡ qs → i < length qs
       → p ≡ get_or ps i p → slice_get qs i ≡ Some (string_bytes p.key, p.value)
   there ps qs i p e l h =
@@ -225,38 +225,38 @@ module _ {V : Type 0} where
   seen-set (q ∷ ps) (suc i) p w l h =
       ap (λ r. (string_bytes q.key, q.value) ∷ r) (seen-set ps i p w (omega (arith, l)) h)
 
-  indexes-with : (x : Index) (ps : List (List ℕ × V)) (i : ℕ) (w : V) → Indexes x ps → Indexes x (with_value ps i w)
+  indexes-with : (x : Index) (ps : List (List ℕ × V)) (i : ℕ) (w : V) → IsIndexOf x ps → IsIndexOf x (with_value ps i w)
   indexes-with (Sorted v) ps i w h =
-      let same : keyed v.items (with_value ps i w) ≡ keyed v.items ps =
+      let same : key_positions v.items (with_value ps i w) ≡ key_positions v.items ps =
       ap (λ ks. map (λ j. (slice_index_or ks j [], j)) v.items) (keys-with_value ps i w) in (
         subst (λ es. HasAscendingKeys es) (sym same) h.0,
         λ k. ap (get k) same ∙ h.1 k ∙ sym (place-with_value ps i w k),
       )
   indexes-with (Map m) ps i w h = λ k. h k ∙ sym (place-with_value ps i w k)
 
-  placed-with : (ps : List (List ℕ × V)) (o : IndexOrNone) (i : ℕ) (w : V) → IsPlaced ps o → IsPlaced (with_value ps i w) o
+  placed-with : (ps : List (List ℕ × V)) (o : OptionalIndex) (i : ℕ) (w : V) → HasNeededIndex ps o → HasNeededIndex (with_value ps i w) o
   placed-with ps None i w h =
       λ more. subst (IsStrictlySortedBy key_cmp) (sym (keys-with_value ps i w))
       (h (omega (arith, more, length-with_value ps i w)))
   placed-with ps (Some x) i w h =
       (omega (arith, h.0, length-with_value ps i w), indexes-with x.value ps i w h.1)
 
-  indexed-with : (ps : List (List ℕ × V)) (o : IndexOrNone) (i : ℕ) (w : V) → IsIndexed ps o → IsIndexed (with_value ps i w) o
+  indexed-with : (ps : List (List ℕ × V)) (o : OptionalIndex) (i : ℕ) (w : V) → StoreInvariant ps o → StoreInvariant (with_value ps i w) o
   indexed-with ps o i w h = (subst (IsDistinct bytes_eq) (sym (keys-with_value ps i w)) h.0, placed-with ps o i w h.1)
 
-  -- a value written at a place of the fields
+  -- a value written at a position of the fields
   pub written : (ps : List (Pair V)) (qs : List (List ℕ × V)) (i : ℕ) (p : Pair V) (w : V) → stored_pairs ps ≡ qs
       → i < length qs → p ≡ get_or ps i p
       → stored_pairs (set ps i (record { key = p.key; value = w })) ≡ with_value qs i w
   written ps qs i p w e l h =
       seen-set ps i p w (omega (arith, l, ap length e, length-seen ps)) h ∙ ap (λ r. with_value r i w) e
 
-  pub indexed-written : (ps : List (Pair V)) (qs : List (List ℕ × V)) (o : IndexOrNone) (i : ℕ) (p : Pair V) (w : V)
-      → stored_pairs ps ≡ qs → i < length qs → p ≡ get_or ps i p → IsIndexed (stored_pairs ps) o
-      → IsIndexed (stored_pairs (set ps i (record { key = p.key; value = w }))) o
+  pub indexed-written : (ps : List (Pair V)) (qs : List (List ℕ × V)) (o : OptionalIndex) (i : ℕ) (p : Pair V) (w : V)
+      → stored_pairs ps ≡ qs → i < length qs → p ≡ get_or ps i p → StoreInvariant (stored_pairs ps) o
+      → StoreInvariant (stored_pairs (set ps i (record { key = p.key; value = w }))) o
   indexed-written ps qs o i p w e l h is =
-      subst (λ r. IsIndexed r o) (sym (written ps qs i p w e l h))
-      (indexed-with qs o i w (subst (λ r. IsIndexed r o) e is))
+      subst (λ r. StoreInvariant r o) (sym (written ps qs i p w e l h))
+      (indexed-with qs o i w (subst (λ r. StoreInvariant r o) e is))
 
   -- a walk
   pub absent-next : (k : List ℕ) (ps : List (List ℕ × V)) (p : List ℕ × V) → position_of k ps ≡ None

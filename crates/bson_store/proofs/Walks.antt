@@ -1,4 +1,4 @@
--- The pairs at sorted places, or at the places of a map, are the pairs by ascending key.
+-- The pairs at sorted positions, or at the positions of a map, are the pairs by ascending key.
 use Rattle.std.proofs.Common.{◌≡◌, ℕ, suc, ◌<◌, Bool, true, false, cond, T, List, [], ◌∷◌, length, map, String}
 use Rattle.std.proofs.Common.{Global, Option, Some, None, option_map, option_and_then, slice_get, string_bytes, refl, sym, ap}
 use Rattle.std.proofs.Common.{Bor, Iter, MatchOption, subst, ◌∙◌, inl, inr, arith}
@@ -15,10 +15,10 @@ use Rattle.std.specs.Slice.Iter.{iter_rest, iter_steps}
 use Rattle.std.specs.Str.{bytes_eq}
 use Rattle.std.specs.String.{string_cmp}
 use Rattle.std.specs.declared.cmp.Ordering.TheVariants.{Less}
-use Rattle.bson_store.specs.Order.{key_cmp, in_order}
+use Rattle.bson_store.specs.AscendingOrder.{key_cmp, sorted_by_key}
 use Rattle.bson_store.specs.Pairs.{keys, get, position_of}
-use Rattle.bson_store.specs.Small.{Places, keyed, HasAscendingKeys, HasPlaces, AreSorted}
-use Rattle.bson_store.specs.Walks.{pairs_at, AreWithin, IsFirst}
+use Rattle.bson_store.specs.KeyIndex.{PositionMap, key_positions, HasAscendingKeys, MapsKeysToPositions, AreSortedPositions}
+use Rattle.bson_store.specs.Cursors.{pairs_at_positions, ArePositionsInBounds, IsNextPair}
 use Rattle.bson_store.proofs.Adjacent.{distinct_from}
 use Rattle.bson_store.proofs.AscendingLaws.{key-of}
 use Rattle.bson_store.proofs.Distinct.{get-at}
@@ -39,15 +39,15 @@ module _ {X : Type 0} where
 
   -- pairs whose keys ascend, and that are found where others are, are those in order
   in_order_is : (es ps : List (List ℕ × X)) → HasAscendingKeys es → ((q : List ℕ) → find key_cmp q es ≡ find key_cmp q ps)
-      → es ≡ in_order ps
+      → es ≡ sorted_by_key ps
   in_order_is es ps up found =
-      same_entries key_cmp key_total same_key es (in_order ps) (sorted_of es up) (in_order_sorted ps)
+      same_entries key_cmp key_total same_key es (sorted_by_key ps) (sorted_of es up) (in_order_sorted ps)
       (λ q. found q ∙ sym (find-in_order q ps))
 
-  pub ascending_walk : (ps : List (List ℕ × X)) → HasAscendingKeys ps → ps ≡ in_order ps
+  pub ascending_walk : (ps : List (List ℕ × X)) → HasAscendingKeys ps → ps ≡ sorted_by_key ps
   ascending_walk ps up = in_order_is ps ps up (λ q. refl)
 
-  -- ---- pairs at places
+  -- ---- pairs at positions
 
   value_at : List (List ℕ × X) → ℕ → Option X
   value_at ps i = option_map (λ p. p.1) (slice_get ps i)
@@ -69,7 +69,7 @@ module _ {X : Type 0} where
       step false false None e = refl
       step false false (Some i) e = refl
 
-  -- the pair at a place
+  -- the pair at a position
   pub at : (ps : List (List ℕ × X)) (i : ℕ) → i < length ps
       → (p : List ℕ × X) × (slice_get ps i ≡ Some p) × (key_or ps i ≡ p.0)
   at ps i within = elim (slice_get_cases ps i).1 [
@@ -77,60 +77,60 @@ module _ {X : Type 0} where
     | inr h ↦ absurd (omega (arith, within, h.0))
   ]
 
-  keys-at : (is : List ℕ) (ps : List (List ℕ × X)) → AreWithin is ps → keys (pairs_at is ps) ≡ keys (keyed is ps)
+  keys-at : (is : List ℕ) (ps : List (List ℕ × X)) → ArePositionsInBounds is ps → keys (pairs_at_positions is ps) ≡ keys (key_positions is ps)
   keys-at [] ps within = refl
   keys-at (i ∷ is) ps within =
       let here = at ps i (within 0 i refl) in
-      ap (λ o. keys (cons_option o (pairs_at is ps))) here.1
+      ap (λ o. keys (cons_option o (pairs_at_positions is ps))) here.1
       ∙ (λ j. sym here.2 j ∷ keys-at is ps (λ n. within (suc n)) j)
 
-  find-at : (q : List ℕ) (is : List ℕ) (ps : List (List ℕ × X)) → AreWithin is ps
-      → find key_cmp q (pairs_at is ps) ≡ option_and_then (value_at ps) (get q (keyed is ps))
+  find-at : (q : List ℕ) (is : List ℕ) (ps : List (List ℕ × X)) → ArePositionsInBounds is ps
+      → find key_cmp q (pairs_at_positions is ps) ≡ option_and_then (value_at ps) (get q (key_positions is ps))
   unfolding value_at
   find-at q [] ps within = refl
   find-at q (i ∷ is) ps within =
       let here = at ps i (within 0 i refl) in
-      ap (λ o. find key_cmp q (cons_option o (pairs_at is ps))) here.1
+      ap (λ o. find key_cmp q (cons_option o (pairs_at_positions is ps))) here.1
       ∙ step here.0 here.1 (eq_by_cmp key_cmp q here.0.0) (bytes_eq q (key_or ps i))
       (is_eq-slice_cmp q here.0.0 ∙ ap (bytes_eq q) (sym here.2)) (find-at q is ps (λ n. within (suc n)))
     where
       step : (p : List ℕ × X) → slice_get ps i ≡ Some p → (b c : Bool) → b ≡ c
-          → find key_cmp q (pairs_at is ps) ≡ option_and_then (value_at ps) (get q (keyed is ps))
-          → cond b (Some p.1) (find key_cmp q (pairs_at is ps))
-          ≡ option_and_then (value_at ps) (cond c (Some i) (get q (keyed is ps)))
+          → find key_cmp q (pairs_at_positions is ps) ≡ option_and_then (value_at ps) (get q (key_positions is ps))
+          → cond b (Some p.1) (find key_cmp q (pairs_at_positions is ps))
+          ≡ option_and_then (value_at ps) (cond c (Some i) (get q (key_positions is ps)))
       step p e true true s rest = sym (ap (option_map (λ x. x.1)) e)
       step p e true false s rest = cc
       step p e false true s rest = cc
       step p e false false s rest = rest
 
-  sorted_within : (is : List ℕ) (ps : List (List ℕ × X)) → AreSorted is ps → AreWithin is ps
+  sorted_within : (is : List ℕ) (ps : List (List ℕ × X)) → AreSortedPositions is ps → ArePositionsInBounds is ps
   sorted_within is ps h j i e =
       place-within (key_or ps i) ps i
-      (sym (h.1 (key_or ps i)) ∙ get-at (keyed is ps) j (key_or ps i, i) (distinct_from (keyed is ps) h.0) (keyed-at is ps j i e))
+      (sym (h.1 (key_or ps i)) ∙ get-at (key_positions is ps) j (key_or ps i, i) (distinct_from (key_positions is ps) h.0) (keyed-at is ps j i e))
 
-  pub sorted_walk : (is js : List ℕ) (ps : List (List ℕ × X)) → js ≡ is → AreSorted is ps
-      → AreWithin js ps × (pairs_at js ps ≡ in_order ps)
+  pub sorted_walk : (is js : List ℕ) (ps : List (List ℕ × X)) → js ≡ is → AreSortedPositions is ps
+      → ArePositionsInBounds js ps × (pairs_at_positions js ps ≡ sorted_by_key ps)
   sorted_walk is js ps same h =
       let within = sorted_within is ps h in (
-        subst (λ l. AreWithin l ps) (sym same) within,
-        ap (λ l. pairs_at l ps) same
-            ∙ in_order_is (pairs_at is ps) ps (subst (IsStrictlySortedBy key_cmp) (sym (keys-at is ps within)) h.0)
+        subst (λ l. ArePositionsInBounds l ps) (sym same) within,
+        ap (λ l. pairs_at_positions l ps) same
+            ∙ in_order_is (pairs_at_positions is ps) ps (subst (IsStrictlySortedBy key_cmp) (sym (keys-at is ps within)) h.0)
             (λ q. find-at q is ps within ∙ ap (option_and_then (value_at ps)) (h.1 q) ∙ sym (find-place q ps)),
       )
 
-  -- one place taken
+  -- one position taken
   pub takes : (is js : List ℕ) (ps : List (List ℕ × X)) (r : Option (Bor ℕ))
-      → MatchOption r ((is ≡ []) × (js ≡ [])) (λ x. is ≡ x.now ∷ js) → AreWithin is ps
-      → AreWithin js ps × IsFirst ps (pairs_at is ps) (pairs_at js ps) (option_copied r)
+      → MatchOption r ((is ≡ []) × (js ≡ [])) (λ x. is ≡ x.now ∷ js) → ArePositionsInBounds is ps
+      → ArePositionsInBounds js ps × IsNextPair ps (pairs_at_positions is ps) (pairs_at_positions js ps) (option_copied r)
   takes is js ps None h within = (
-    subst (λ l. AreWithin l ps) (sym h.1) (λ j i e. cc),
-    (ap (λ l. pairs_at l ps) h.0, ap (λ l. pairs_at l ps) h.1),
+    subst (λ l. ArePositionsInBounds l ps) (sym h.1) (λ j i e. cc),
+    (ap (λ l. pairs_at_positions l ps) h.0, ap (λ l. pairs_at_positions l ps) h.1),
   )
   takes is js ps (Some x) h within =
-      let all = subst (λ l. AreWithin l ps) h within in
+      let all = subst (λ l. ArePositionsInBounds l ps) h within in
       let here = at ps x.now (all 0 x.now refl) in (
         λ j. all (suc j),
-        (here.0, here.1, ap (λ l. pairs_at l ps) h ∙ ap (λ o. cons_option o (pairs_at js ps)) here.1),
+        (here.0, here.1, ap (λ l. pairs_at_positions l ps) h ∙ ap (λ o. cons_option o (pairs_at_positions js ps)) here.1),
       )
 
 pub slice_takes : (s t : Iter ℕ) (r : Option (Bor ℕ)) → iter_steps s r t
@@ -142,7 +142,7 @@ slice_takes s t None h = let none = empty (iter_rest s) h.0 in (none, ap iter_re
     empty (x ∷ xs) e = absurd (omega (arith, e))
 slice_takes s t (Some x) h = h
 
--- ---- the places of a map
+-- ---- the positions of a map
 
 abbrev Text : Type 0
 Text = String Global
@@ -169,12 +169,12 @@ get_seen q (e ∷ es) = λ i. cond (sym (is_eq-slice_cmp q (string_bytes e.0)) i
 module _ {V : Type 0} where
   keyed_is : (es : List (Text × ℕ)) (ps : List (List ℕ × V))
       → ((j : ℕ) (e : List ℕ × ℕ) → slice_get (seen es) j ≡ Some e → key_or ps e.1 ≡ e.0)
-      → keyed (values_of es) ps ≡ seen es
+      → key_positions (values_of es) ps ≡ seen es
   keyed_is [] ps h = refl
   keyed_is (e ∷ es) ps h = λ i. (h 0 (string_bytes e.0, e.1) refl i, e.1) ∷ keyed_is es ps (λ j. h (suc j)) i
 
-  -- the map's places are sorted
-  pub map_sorted : (m : Places) (ps : List (List ℕ × V)) → HasPlaces m ps → IsOrdered string_cmp m → AreSorted (values m) ps
+  -- the map's positions are sorted
+  pub map_sorted : (m : PositionMap) (ps : List (List ℕ × V)) → MapsKeysToPositions m ps → IsOrdered string_cmp m → AreSortedPositions (values m) ps
   map_sorted m ps has ordered =
       let es = m.entries in
       let up = ascend_seen es ordered in

@@ -1,6 +1,6 @@
 //! Commands to any store, one after another.
 ghost use Rattle.std.specs.Prelude.{◌≡◌, ◌<◌, IfOk, IfErr, OnErr, length, take};
-ghost use Rattle.bson_store.specs.Replay.{reply, step, replies, after};
+ghost use Rattle.bson_store.specs.Replay.{reply, list_after_command, replies, after};
 
 use crate::by_key;
 use crate::pair_store::PairStore;
@@ -42,7 +42,7 @@ fn run_one<V: Drop, S: PairStore<V>>(
     command: Command<V>,
 ) -> Result<Option<V>, (String, V)>
     ensures ok { IfOk result (λ r. (r ≡ reply command (S.pairs store.old))
-        × (S.pairs store.new ≡ step command (S.pairs store.old))) }
+        × (S.pairs store.new ≡ list_after_command command (S.pairs store.old))) }
     ensures err { OnErr result (S.pairs store.new ≡ S.pairs store.old) }
 {
     match command {

@@ -8,7 +8,7 @@ mod into_iter;
 mod iter;
 
 use crate::pair_store::PairStore;
-use crate::places::{FEW, Index, find_by, find_in, place_next, take_place};
+use crate::key_index::{MAX_UNINDEXED, Index, find_in_index, find_without_index, index_pushed_key, unindex_removed_key};
 pub use into_iter::IntoIter;
 pub use iter::Iter;
 use std::alloc::{AllocError, Global};
@@ -33,13 +33,13 @@ pub struct Pair<V> {
 }
 
 /// A store that keeps its pairs in one `Vec`, and has an index if more than sixteen pairs have keys
-/// that do not ascend: their places in ascending key order, or an ordered map from key to place.
+/// that do not ascend: their positions in ascending key order, or an ordered map from key to position.
 ///
 /// Up to sixteen pairs, and any number whose keys were pushed in ascending order, need one block of
 /// memory. Up to sixteen pairs are searched one by one, and more that ascend by binary search. Among
 /// n pairs with an index, a key is found in the order of log n comparisons, whatever the keys are.
-/// `from_entries` sorts the places, which needs a word of memory for each. The first key pushed that
-/// does not ascend, or after sorted places, makes the map, which has a copy of each key. `push` needs
+/// `from_entries` sorts the positions, which needs a word of memory for each. The first key pushed that
+/// does not ascend, or after sorted positions, makes the map, which has a copy of each key. `push` needs
 /// as many comparisons, and n times as many if it makes the map, once until no more than sixteen
 /// pairs remain. `remove_at` needs as many for each pair after the removed one, and no memory.
 ///
@@ -50,13 +50,13 @@ pub struct Pair<V> {
 /// ```
 pub struct SmallPairs<V> {
     pairs: Vec<Pair<V>>,
-    places: Option<Box<Index>>,
+    positions: Option<Box<Index>>,
 }
 
 impl<V> Model for SmallPairs<V> {
     ghost use Rattle.std.specs.Prelude.{ℕ, List};
     ghost use Rattle.bson_store.specs.Pairs.{pairs_code};
-    ghost use Rattle.bson_store.specs.Small.{stored_pairs, IsIndexed};
+    ghost use Rattle.bson_store.specs.KeyIndex.{stored_pairs, StoreInvariant};
 
     ghost Value = { List (List ℕ × V) };
 
@@ -64,14 +64,14 @@ impl<V> Model for SmallPairs<V> {
 
     ghost view = { λ a. stored_pairs a.pairs.items };
 
-    ghost invariant = { λ a. IsIndexed (stored_pairs a.pairs.items) a.places };
+    ghost invariant = { λ a. StoreInvariant (stored_pairs a.pairs.items) a.positions };
 }
 
 impl<V: Drop> Drop for SmallPairs<V> {
     fn drop(self) {
-        let SmallPairs { pairs, places } = self;
+        let SmallPairs { pairs, positions } = self;
         drop(pairs);
-        drop(places);
+        drop(positions);
     }
 }
 
@@ -82,7 +82,7 @@ impl<V> SmallPairs<V> {
     {
         SmallPairs {
             pairs: Vec::new(alloc),
-            places: None,
+            positions: None,
         }
     }
 
@@ -104,7 +104,7 @@ impl<V: Drop> SmallPairs<V> {
     {
         Ok(SmallPairs {
             pairs: Vec::with_capacity(alloc, pairs)?,
-            places: None,
+            positions: None,
         })
     }
 
@@ -113,8 +113,8 @@ impl<V: Drop> SmallPairs<V> {
         ensures pairs { result ≡ self }
         ensures distinct { HasDistinctKeys self }
     {
-        let SmallPairs { pairs, places } = self;
-        drop(places);
+        let SmallPairs { pairs, positions } = self;
+        drop(positions);
         IntoIter::new(pairs.into_iter())
     }
 }
@@ -129,9 +129,9 @@ impl<V: Drop> PairStore<V> for SmallPairs<V> {
     }
 
     fn find(&self, key: &str) -> Option<usize> {
-        match &self.places {
-            Some(index) => find_by(index, &self.pairs, key),
-            None => find_in(&self.pairs, key),
+        match &self.positions {
+            Some(index) => find_in_index(index, &self.pairs, key),
+            None => find_without_index(&self.pairs, key),
         }
     }
 
@@ -149,12 +149,12 @@ impl<V: Drop> PairStore<V> for SmallPairs<V> {
     }
 
     fn push(&mut self, key: String, value: V) -> Result<(), (String, V)> {
-        // Once the pair and its place have capacity, nothing can fail.
+        // Once the pair and its position have capacity, nothing can fail.
         let alloc = *self.pairs.allocator();
         if self.pairs.reserve(1).is_err() {
             return Err((key, value));
         }
-        if place_next(alloc, &mut self.places, &self.pairs, &key).is_err() {
+        if index_pushed_key(alloc, &mut self.positions, &self.pairs, &key).is_err() {
             return Err((key, value));
         }
         match self.pairs.push(Pair { key, value }) {
@@ -165,13 +165,13 @@ impl<V: Drop> PairStore<V> for SmallPairs<V> {
 
     fn remove_at(&mut self, at: usize) -> (String, V) {
         let Pair { key, value } = self.pairs.remove(at);
-        take_place(&mut self.places, &self.pairs, key.as_str(), at);
+        unindex_removed_key(&mut self.positions, &self.pairs, key.as_str(), at);
         (key, value)
     }
 
     fn clear(&mut self) {
         self.pairs.clear();
-        self.places = None;
+        self.positions = None;
     }
 
     ghost writes = { λ s i w. refl };

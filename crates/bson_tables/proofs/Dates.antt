@@ -2,10 +2,10 @@
 use Rattle.std.proofs.Common.{ℤ, pos, refl, subst, rules}
 use Rattle.std.specs.Prelude.{codes, ℕ, List}
 use Rattle.jiff_core.specs.Calendar.{days_of_years, days_of_months, day_count, days_from_civil}
-use Rattle.bson_datetime.specs.Rfc3339.{named_moment, date_part, time_part, fraction_part, offset_part, hours_minutes}
-use Rattle.bson_datetime.specs.Rfc3339.{digits_below, after_byte, after_letter, day_number, two_digits, four_digits}
+use Rattle.bson_datetime.specs.Rfc3339Parser.{parsed_rfc3339_millis, date_part, time_part, fraction_part, offset_part, hours_minutes}
+use Rattle.bson_datetime.specs.Rfc3339Parser.{two_digits_below, after_byte, after_letter, day_number, two_digits, four_digits}
 use Rattle.jiff_fmt.specs.Reader.{fraction_value}
-use Rattle.bson_datetime.specs.Moment.{Civil, IsCivil, IsMoment}
+use Rattle.bson_datetime.specs.CivilTime.{Civil, IsCivil, HasCivilTime}
 use Rattle.bson_datetime.proofs.Offered.{rfc-fields}
 use Rattle.bson_scalar.specs.Scalar as kind
 use Rattle.bson_scalar.specs.TreeParts.{object_of_one}
@@ -20,13 +20,13 @@ use Rattle.bson_tables.proofs.Shapes.{row}
 
 millis_read : Means (object_of_one (codes "$date") (tree.string (codes "1970-01-01T00:00:00.005Z")))
     (model.scalar (kind.date (pos 5)))
-unfolding named_moment date_part time_part fraction_part offset_part hours_minutes digits_below after_byte after_letter
+unfolding parsed_rfc3339_millis date_part time_part fraction_part offset_part hours_minutes two_digits_below after_byte after_letter
     day_number two_digits four_digits fraction_value days_of_years days_of_months day_count days_from_civil
 millis_read = row _ _ refl
 
 offset_read : Means (object_of_one (codes "$date") (tree.string (codes "1970-01-01T01:00:00+01:00")))
     (model.scalar (kind.date (pos 0)))
-unfolding named_moment date_part time_part fraction_part offset_part hours_minutes digits_below after_byte after_letter
+unfolding parsed_rfc3339_millis date_part time_part fraction_part offset_part hours_minutes two_digits_below after_byte after_letter
     day_number two_digits four_digits fraction_value days_of_years days_of_months day_count days_from_civil
 offset_read = row _ _ refl
 
@@ -38,7 +38,7 @@ HasText ms s = Written Relaxed (normal_form (model.scalar (kind.date ms)))
 first : Civil
 first = record { year = pos 1970; month = 1; day = 1; hour = 0; minute = 0; second = 0; millisecond = 0 }
 
-first_is : IsMoment (pos 0) first
+first_is : HasCivilTime (pos 0) first
 unfolding first days_of_years days_of_months day_count days_from_civil
 first_is = search rules
 
@@ -54,7 +54,7 @@ last_exists : IsCivil last
 unfolding last
 last_exists = search rules
 
-last_is : IsMoment (pos 253_402_300_799_999) last
+last_is : HasCivilTime (pos 253_402_300_799_999) last
 unfolding last days_of_years days_of_months day_count days_from_civil
 last_is = (last_exists, refl)
 

@@ -3,7 +3,7 @@ use Rattle.std.proofs.Common.{◌≡◌, pos, negsuc, true, replicate, [], ◌�
 use Rattle.std.specs.Prelude.{codes}
 use Rattle.std.specs.Fmt.{digits}
 use Rattle.hex.specs.Hex.{encode_with}
-use Rattle.bson_decimal.specs.Displayed.{decimal128_text as decimal_text}
+use Rattle.bson_decimal.specs.DecimalText.{decimal128_text as decimal_text}
 use Rattle.bson_types.specs.declared.spec.BinarySubtype.TheVariants.{UserDefined}
 use Rattle.bson_scalar.specs.Scalar as kind
 use Rattle.bson_model.specs.Pretty.{pretty}

@@ -3,8 +3,8 @@ use Rattle.std.proofs.Common.{◌≡◌, false, refl}
 use Rattle.std.specs.Prelude.{codes}
 use Rattle.serde_json.specs.Data.{Data, negative}
 use Rattle.serde_json.specs.Data as tree
-use Rattle.bson_decimal.specs.Steps.{cut_at_34, raise_to_least, zeros_to_add, exponent_value, written_exponent_place}
-use Rattle.bson_decimal.specs.Steps.{scaled_exponent, coefficient, stored_pair, finite}
+use Rattle.bson_decimal.specs.ParseSteps.{cut_to_34_digits, raise_to_least, zeros_to_add, exponent_value, shifted_written_exponent}
+use Rattle.bson_decimal.specs.ParseSteps.{scaled_exponent, coefficient, coefficient_and_exponent, finite}
 use Rattle.bson_scalar.specs.Reading.{decimal_pattern}
 use Rattle.bson_scalar.specs.TreeParts.{object_of_one, object_of_two}
 use Rattle.bson_scalar.specs.Faults.{wrong_shape, wrong_id}
@@ -36,14 +36,14 @@ int_space = (none _ wrong_shape refl, refl)
 
 decimal_too_large : MeansNothing (object_of_one (codes "$numberDecimal") (tree.string (codes "1E+6145")))
     × (fault_of (object_of_one (codes "$numberDecimal") (tree.string (codes "1E+6145"))) ≡ wrong_shape)
-unfolding decimal_pattern cut_at_34 raise_to_least zeros_to_add exponent_value written_exponent_place scaled_exponent coefficient
-    stored_pair finite
+unfolding decimal_pattern cut_to_34_digits raise_to_least zeros_to_add exponent_value shifted_written_exponent scaled_exponent coefficient
+    coefficient_and_exponent finite
 decimal_too_large = (none _ wrong_shape refl, refl)
 
 decimal_too_small : MeansNothing (object_of_one (codes "$numberDecimal") (tree.string (codes "1E-6177")))
     × (fault_of (object_of_one (codes "$numberDecimal") (tree.string (codes "1E-6177"))) ≡ wrong_shape)
-unfolding decimal_pattern cut_at_34 raise_to_least zeros_to_add exponent_value written_exponent_place scaled_exponent coefficient
-    stored_pair finite
+unfolding decimal_pattern cut_to_34_digits raise_to_least zeros_to_add exponent_value shifted_written_exponent scaled_exponent coefficient
+    coefficient_and_exponent finite
 decimal_too_small = (none _ wrong_shape refl, refl)
 
 oid_short : MeansNothing (object_of_one (codes "$oid") (tree.string (codes "zz")))

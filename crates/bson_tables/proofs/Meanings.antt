@@ -6,8 +6,8 @@ use Rattle.serde_json.specs.Data as tree
 use Rattle.bson_scalar.specs.Scalar as kind
 use Rattle.bson_scalar.specs.TreeParts.{object_of_one, object_of_two}
 use Rattle.bson_scalar.specs.Means as means
-use Rattle.bson_scalar.specs.Means.{IsBase64, IsOidText, sorted_text, subtype_of, IsHyphenatedText, Uuid, Names}
-use Rattle.bson_scalar.specs.Means.{Parses}
+use Rattle.bson_scalar.specs.Means.{IsBase64, IsOidText, sorted_text, subtype_of, IsHyphenatedText, Uuid, DenotesDateTime}
+use Rattle.bson_scalar.specs.Means.{DenotesDecimal}
 use Rattle.bson_scalar.specs.Means.{IsByteText}
 use Rattle.bson_model.specs.Means.{Means, scalar}
 use Rattle.bson_model.specs.Value as model
@@ -141,10 +141,10 @@ uuid_row : (s id : List ℕ) → IsHyphenatedText s id
     → Means (object_of_one (codes "$uuid") (tree.string s)) (model.scalar (kind.binary Uuid id))
 uuid_row s id is = scalar _ _ (means.uuid s id is)
 
-date_text_row : (s : List ℕ) (z : ℤ) → Names s z
+date_text_row : (s : List ℕ) (z : ℤ) → DenotesDateTime s z
     → Means (object_of_one (codes "$date") (tree.string s)) (model.scalar (kind.date z))
 date_text_row s z is = scalar _ _ (means.date_of_text s z is)
 
-decimal_row : (s b : List ℕ) → Parses s b
+decimal_row : (s b : List ℕ) → DenotesDecimal s b
     → Means (object_of_one (codes "$numberDecimal") (tree.string s)) (model.scalar (kind.decimal b))
 decimal_row s b is = scalar _ _ (means.number_decimal s b is)

@@ -7,10 +7,10 @@ use Rattle.base64.specs.Decode.{groups_error, groups_bytes, scan_steps}
 use Rattle.base64.specs.Rfc4648.{encode_symbols}
 use Rattle.hex.specs.Hex.{encode_with, decode_pairs}
 use Rattle.uuid.specs.Text.{by_index}
-use Rattle.bson_decimal.specs.Steps.{cut_at_34, raise_to_least, zeros_to_add, exponent_value, written_exponent_place}
-use Rattle.bson_decimal.specs.Steps.{scaled_exponent, coefficient, stored_pair, finite}
-use Rattle.bson_decimal.specs.Pattern.{normal_decimal}
-use Rattle.bson_decimal.specs.Displayed.{decimal128_text as decimal_text}
+use Rattle.bson_decimal.specs.ParseSteps.{cut_to_34_digits, raise_to_least, zeros_to_add, exponent_value, shifted_written_exponent}
+use Rattle.bson_decimal.specs.ParseSteps.{scaled_exponent, coefficient, coefficient_and_exponent, finite}
+use Rattle.bson_decimal.specs.DecimalBits.{canonical_decimal}
+use Rattle.bson_decimal.specs.DecimalText.{decimal128_text as decimal_text}
 use Rattle.bson_scalar.specs.Reading.{decimal_pattern}
 use Rattle.bson_scalar.specs.Scalar as kind
 use Rattle.bson_scalar.specs.TreeParts.{object_of_one, object_of_two}
@@ -23,7 +23,7 @@ use Rattle.bson_model.proofs.Offered.{canon_from}
 use Rattle.bson_types.specs.declared.spec.BinarySubtype.TheVariants.{Generic, Function, BinaryOld, UuidOld, Uuid, Md5}
 use Rattle.bson_types.specs.declared.spec.BinarySubtype.TheVariants.{Encrypted, Column, Sensitive, Vector, Reserved}
 use Rattle.bson_types.specs.declared.spec.BinarySubtype.TheVariants.{UserDefined}
-use Rattle.bson_types.specs.Subtype.{subtype_byte, subtype_of}
+use Rattle.bson_types.specs.BinarySubtypes.{subtype_byte, subtype_of}
 use Rattle.serde_json.specs.Data as tree
 use Rattle.bson_tables.proofs.Shapes.{row}
 
@@ -91,58 +91,58 @@ uuid_read = row _ _ refl
 -- 15 at the exponent -1, little-endian
 decimal_read : Means (object_of_one (codes "$numberDecimal") (tree.string (codes "1.5")))
     (model.scalar (kind.decimal (0x0F ∷ 0 ∷ 0 ∷ 0 ∷ 0 ∷ 0 ∷ 0 ∷ 0 ∷ 0 ∷ 0 ∷ 0 ∷ 0 ∷ 0 ∷ 0 ∷ 0x3E ∷ 0x30 ∷ [])))
-unfolding decimal_pattern cut_at_34 raise_to_least zeros_to_add exponent_value written_exponent_place scaled_exponent coefficient
-    stored_pair finite
+unfolding decimal_pattern cut_to_34_digits raise_to_least zeros_to_add exponent_value shifted_written_exponent scaled_exponent coefficient
+    coefficient_and_exponent finite
 decimal_read = row _ _ refl
 
 decimal_written : (f : Form)
     → Written f (normal_form
     (model.scalar (kind.decimal (0x0F ∷ 0 ∷ 0 ∷ 0 ∷ 0 ∷ 0 ∷ 0 ∷ 0 ∷ 0 ∷ 0 ∷ 0 ∷ 0 ∷ 0 ∷ 0 ∷ 0x3E ∷ 0x30 ∷ []))))
     (object_of_one (codes "$numberDecimal") (tree.string (codes "1.5")))
-unfolding normal_decimal decimal_text digits
+unfolding canonical_decimal decimal_text digits
 decimal_written f = canon_from f
     (model.scalar (kind.decimal (0x0F ∷ 0 ∷ 0 ∷ 0 ∷ 0 ∷ 0 ∷ 0 ∷ 0 ∷ 0 ∷ 0 ∷ 0 ∷ 0 ∷ 0 ∷ 0 ∷ 0x3E ∷ 0x30 ∷ []))) _ refl
 
 -- the greatest exponent and the least one
 greatest_exponent_read : Means (object_of_one (codes "$numberDecimal") (tree.string (codes "1E+6111")))
     (model.scalar (kind.decimal (1 ∷ 0 ∷ 0 ∷ 0 ∷ 0 ∷ 0 ∷ 0 ∷ 0 ∷ 0 ∷ 0 ∷ 0 ∷ 0 ∷ 0 ∷ 0 ∷ 0xFE ∷ 0x5F ∷ [])))
-unfolding decimal_pattern cut_at_34 raise_to_least zeros_to_add exponent_value written_exponent_place scaled_exponent coefficient
-    stored_pair finite
+unfolding decimal_pattern cut_to_34_digits raise_to_least zeros_to_add exponent_value shifted_written_exponent scaled_exponent coefficient
+    coefficient_and_exponent finite
 greatest_exponent_read = row _ _ refl
 
 least_exponent_read : Means (object_of_one (codes "$numberDecimal") (tree.string (codes "1E-6176")))
     (model.scalar (kind.decimal (1 ∷ 0 ∷ 0 ∷ 0 ∷ 0 ∷ 0 ∷ 0 ∷ 0 ∷ 0 ∷ 0 ∷ 0 ∷ 0 ∷ 0 ∷ 0 ∷ 0 ∷ 0 ∷ [])))
-unfolding decimal_pattern cut_at_34 raise_to_least zeros_to_add exponent_value written_exponent_place scaled_exponent coefficient
-    stored_pair finite
+unfolding decimal_pattern cut_to_34_digits raise_to_least zeros_to_add exponent_value shifted_written_exponent scaled_exponent coefficient
+    coefficient_and_exponent finite
 least_exponent_read = row _ _ refl
 
 added_zero_read : Means (object_of_one (codes "$numberDecimal") (tree.string (codes "1E+6112")))
     (model.scalar (kind.decimal (10 ∷ 0 ∷ 0 ∷ 0 ∷ 0 ∷ 0 ∷ 0 ∷ 0 ∷ 0 ∷ 0 ∷ 0 ∷ 0 ∷ 0 ∷ 0 ∷ 0xFE ∷ 0x5F ∷ [])))
-unfolding decimal_pattern cut_at_34 raise_to_least zeros_to_add exponent_value written_exponent_place scaled_exponent coefficient
-    stored_pair finite
+unfolding decimal_pattern cut_to_34_digits raise_to_least zeros_to_add exponent_value shifted_written_exponent scaled_exponent coefficient
+    coefficient_and_exponent finite
 added_zero_read = row _ _ refl
 
 -- the NaNs that no canonical pattern is: one with a sign, and one that signals; the normal form of both is NaN
 minus_nan_read : Means (object_of_one (codes "$numberDecimal") (tree.string (codes "-NaN")))
     (model.scalar (kind.decimal (0 ∷ 0 ∷ 0 ∷ 0 ∷ 0 ∷ 0 ∷ 0 ∷ 0 ∷ 0 ∷ 0 ∷ 0 ∷ 0 ∷ 0 ∷ 0 ∷ 0 ∷ 0xFC ∷ [])))
-unfolding decimal_pattern cut_at_34 raise_to_least zeros_to_add exponent_value written_exponent_place scaled_exponent coefficient
-    stored_pair finite
+unfolding decimal_pattern cut_to_34_digits raise_to_least zeros_to_add exponent_value shifted_written_exponent scaled_exponent coefficient
+    coefficient_and_exponent finite
 minus_nan_read = row _ _ refl
 
 minus_nan_normal : normal_form
     (model.scalar (kind.decimal (0 ∷ 0 ∷ 0 ∷ 0 ∷ 0 ∷ 0 ∷ 0 ∷ 0 ∷ 0 ∷ 0 ∷ 0 ∷ 0 ∷ 0 ∷ 0 ∷ 0 ∷ 0xFC ∷ [])))
     ≡ model.scalar (kind.decimal (0 ∷ 0 ∷ 0 ∷ 0 ∷ 0 ∷ 0 ∷ 0 ∷ 0 ∷ 0 ∷ 0 ∷ 0 ∷ 0 ∷ 0 ∷ 0 ∷ 0 ∷ 0x7C ∷ []))
-unfolding normal_decimal
+unfolding canonical_decimal
 minus_nan_normal = refl
 
 signalling_nan_read : Means (object_of_one (codes "$numberDecimal") (tree.string (codes "sNaN")))
     (model.scalar (kind.decimal (0 ∷ 0 ∷ 0 ∷ 0 ∷ 0 ∷ 0 ∷ 0 ∷ 0 ∷ 0 ∷ 0 ∷ 0 ∷ 0 ∷ 0 ∷ 0 ∷ 0 ∷ 0x7E ∷ [])))
-unfolding decimal_pattern cut_at_34 raise_to_least zeros_to_add exponent_value written_exponent_place scaled_exponent coefficient
-    stored_pair finite
+unfolding decimal_pattern cut_to_34_digits raise_to_least zeros_to_add exponent_value shifted_written_exponent scaled_exponent coefficient
+    coefficient_and_exponent finite
 signalling_nan_read = row _ _ refl
 
 signalling_nan_normal : normal_form
     (model.scalar (kind.decimal (0 ∷ 0 ∷ 0 ∷ 0 ∷ 0 ∷ 0 ∷ 0 ∷ 0 ∷ 0 ∷ 0 ∷ 0 ∷ 0 ∷ 0 ∷ 0 ∷ 0 ∷ 0x7E ∷ [])))
     ≡ model.scalar (kind.decimal (0 ∷ 0 ∷ 0 ∷ 0 ∷ 0 ∷ 0 ∷ 0 ∷ 0 ∷ 0 ∷ 0 ∷ 0 ∷ 0 ∷ 0 ∷ 0 ∷ 0 ∷ 0x7C ∷ []))
-unfolding normal_decimal
+unfolding canonical_decimal
 signalling_nan_normal = refl

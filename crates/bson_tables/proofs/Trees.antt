@@ -7,8 +7,8 @@ use Rattle.bson_scalar.specs.Scalar as kind
 use Rattle.bson_scalar.specs.TreeParts.{object_of_one, object_of_two}
 use Rattle.std.specs.Fmt.{signed_decimal}
 use Rattle.hex.specs.Hex.{encode_lower}
-use Rattle.bson_datetime.specs.Displayed.{rfc}
-use Rattle.bson_decimal.specs.Displayed.{decimal128_text as decimal_text}
+use Rattle.bson_datetime.specs.DateTimeText.{rfc3339_text}
+use Rattle.bson_decimal.specs.DecimalText.{decimal128_text as decimal_text}
 use Rattle.bson_types.specs.Base64.{padded_text}
 use Rattle.bson_types.specs.Regex.{sorted_text}
 use Rattle.bson_types.specs.declared.spec.BinarySubtype.TheVariants.{Generic}
@@ -165,11 +165,11 @@ date_canonical : (z : ℤ)
 date_canonical z = canon_from Canonical (model.scalar (kind.date z)) _ refl
 
 first_date_relaxed : Written Relaxed (normal_form (model.scalar (kind.date (pos 0))))
-    (object_of_one (codes "$date") (tree.string (rfc (pos 0))))
+    (object_of_one (codes "$date") (tree.string (rfc3339_text (pos 0))))
 first_date_relaxed = canon_from Relaxed (model.scalar (kind.date (pos 0))) _ refl
 
 last_date_relaxed : Written Relaxed (normal_form (model.scalar (kind.date (pos 253_402_300_799_999))))
-    (object_of_one (codes "$date") (tree.string (rfc (pos 253_402_300_799_999))))
+    (object_of_one (codes "$date") (tree.string (rfc3339_text (pos 253_402_300_799_999))))
 last_date_relaxed = canon_from Relaxed (model.scalar (kind.date (pos 253_402_300_799_999))) _ refl
 
 later_date_relaxed : Written Relaxed (normal_form (model.scalar (kind.date (pos 253_402_300_800_000))))

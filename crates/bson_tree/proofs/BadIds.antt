@@ -10,7 +10,7 @@ use Rattle.serde_json.specs.Data.{Data, no_members, member}
 use Rattle.serde_json.specs.Data as tree
 use Rattle.serde_json.specs.Find.{as_i64, as_str}
 use Rattle.bson_types.specs.HexText.{IsHexText, nothing, pair}
-use Rattle.bson_types.specs.Orders.{parsed_hyphenated}
+use Rattle.bson_types.specs.UuidByteOrder.{parsed_hyphenated}
 use Rattle.bson_scalar.specs.Doubles.{double_in}
 use Rattle.bson_scalar.specs.Faults.{Fault, wrong_shape, wrong_id, ◌>>=◌, or_wrong_shape}
 use Rattle.bson_scalar.specs.Means.{MeansScalar, IsOidText}

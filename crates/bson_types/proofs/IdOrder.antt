@@ -6,7 +6,7 @@ use Rattle.std.proofs.lemmas.Int.{ints}
 use Rattle.std.proofs.Math.Nat.{mul-le-mul_right, pow-suc}
 use Rattle.std.specs.Cmp.Lexicographic.{slice_cmp}
 use Rattle.std.specs.declared.cmp.Ordering.TheVariants.{Less, Equal, Greater}
-use Rattle.bson_types.specs.Oid.{be_number, IsBytes}
+use Rattle.bson_types.specs.ObjectIds.{be_number, IsBytes}
 
 tail_bytes : (x : ℕ) (xs : List ℕ) → IsBytes (x ∷ xs) → IsBytes xs
 tail_bytes x xs h = λ i. h (suc i)

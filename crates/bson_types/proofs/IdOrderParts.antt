@@ -6,7 +6,7 @@ use Rattle.std.specs.Cmp.Lexicographic.{slice_cmp}
 use Rattle.std.specs.Ordering.{ordering_then}
 use Rattle.std.specs.declared.cmp.Ordering.{Ordering}
 use Rattle.std.specs.declared.cmp.Ordering.TheVariants.{Less, Equal, Greater}
-use Rattle.bson_types.specs.Oid.{be_number, id_order, IsBytes, IsObjectId}
+use Rattle.bson_types.specs.ObjectIds.{be_number, id_order, IsBytes, IsObjectId}
 use Rattle.bson_types.proofs.IdOrder.{slice_cmp-be_number}
 
 then-assoc : (a b c : Ordering) → ordering_then a (ordering_then b c) ≡ ordering_then (ordering_then a b) c

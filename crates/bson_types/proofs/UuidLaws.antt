@@ -13,7 +13,7 @@ use Rattle.uuid.specs.Text.{by_index, byte_of_digits, digits_of, has_hyphens, ha
 use Rattle.uuid.specs.Text.{parsed_braced, parsed_hyphenated, parsed_simple, parsed_urn, value_of}
 use Rattle.uuid.proofs.TextLemmas.{by_index_cong, by_index_length, by_index_same}
 use Rattle.bson_types.specs.HexText.{IsDigitOf, IsHexText, nothing, pair}
-use Rattle.bson_types.specs.Uuid.{AreUuidDigits, IsHyphenatedText, IsUuidText, IsUrnPrefix, in_groups, digits_alone}
+use Rattle.bson_types.specs.Uuid.{AreUuidDigits, IsHyphenatedText, IsUuidText, IsUrnPrefix, with_hyphens, digits_alone}
 use Rattle.bson_types.specs.Uuid.{hyphenated, braced, urn}
 use Rattle.bson_types.proofs.HexLaws.{twice}
 
@@ -102,7 +102,7 @@ by_places : (s : List ℕ) (n : ℕ) → length s ≡ n → s ≡ by_index n (sl
 by_places s n long = by_index_same s n (slice_index s) long
     (λ k d within. get_or_default s k d 0 (omega (arith, long, within)))
 
-grouped : (s : List ℕ) → length s ≡ 36 → has_hyphens s ≡ true → s ≡ in_groups (digits_of s)
+grouped : (s : List ℕ) → length s ≡ 36 → has_hyphens s ≡ true → s ≡ with_hyphens (digits_of s)
 unfolding by_index
 grouped s long h =
     let a = and_parts _ _ h in
@@ -116,8 +116,8 @@ grouped s long h =
     places ∙ rw (at_8, at_13, at_18, at_23) refl
 
 abbrev IsSpelled : List ℕ → Type 0
-IsSpelled digits = (length (in_groups digits) ≡ 36) × (has_hyphens (in_groups digits) ≡ true)
-    × (digits_of (in_groups digits) ≡ digits)
+IsSpelled digits = (length (with_hyphens digits) ≡ 36) × (has_hyphens (with_hyphens digits) ≡ true)
+    × (digits_of (with_hyphens digits) ≡ digits)
 
 each_spelled : (f : ℕ → ℕ) → IsSpelled (by_index 32 f)
 unfolding by_index
@@ -138,7 +138,7 @@ hyphenated_long s id is = ap length is.2 ∙ (spelled is.0 (digits_long is.0 id 
 pub hyphenated_to : (s id : List ℕ) → IsHyphenatedText s id → parsed_hyphenated s ≡ Some id
 hyphenated_to s id is =
     let parts = spelled is.0 (digits_long is.0 id is.1) in
-    let read : parsed_hyphenated (in_groups is.0) ≡ Some id = rw (parts.0, parts.1, parts.2) (digits_to is.0 id is.1) in
+    let read : parsed_hyphenated (with_hyphens is.0) ≡ Some id = rw (parts.0, parts.1, parts.2) (digits_to is.0 id is.1) in
     ap parsed_hyphenated is.2 ∙ read
 
 -- ---- braces

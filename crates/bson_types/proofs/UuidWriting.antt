@@ -4,7 +4,7 @@ use Rattle.std.proofs.Common.{sym, ap, subst, ◌∙◌, arith}
 use Rattle.hex.specs.Hex.{IsBytes, encode_lower, encode_with, lower_digits}
 use Rattle.uuid.specs.Text.{by_index, hex_digit, hyphenated_text as kit_text, lower, nibble}
 use Rattle.uuid.proofs.TextLemmas.{by_index_cong, table_at}
-use Rattle.bson_types.specs.Uuid.{IsUuid, hyphenated_text, in_groups}
+use Rattle.bson_types.specs.Uuid.{IsUuid, hyphenated_text, with_hyphens}
 use Rattle.bson_types.proofs.UuidLaws.{by_front}
 
 -- the digit at a place
@@ -50,7 +50,7 @@ digits_in_turn (b ∷ id) are =
     ) refl
 
 -- the four hyphens are between the groups
-grouped : (id : List ℕ) → kit_text lower id ≡ in_groups (by_index 32 (digit_at id))
+grouped : (id : List ℕ) → kit_text lower id ≡ with_hyphens (by_index 32 (digit_at id))
 unfolding by_index digit_at
 grouped id = refl
 
@@ -58,4 +58,4 @@ pub written_text : (id : List ℕ) → IsUuid id → kit_text lower id ≡ hyphe
 written_text id is =
     let digits : by_index (double 16) (digit_at id) ≡ encode_lower id =
     subst (λ n. by_index (double n) (digit_at id) ≡ encode_lower id) is.0 (digits_in_turn id is.1) in
-    grouped id ∙ ap in_groups digits
+    grouped id ∙ ap with_hyphens digits

@@ -11,9 +11,9 @@ use Rattle.std.specs.Prelude.{Result, Ok, Err, IfOk, OnOk}
 use Rattle.bson_types.specs.declared.binary.Error.{Error}
 use Rattle.bson_types.specs.declared.vector.Vector.{Vector}
 use Rattle.bson_types.specs.declared.vector.Vector.TheVariants.{Int8, Float32, PackedBit}
-use Rattle.bson_types.specs.Oid.{IsBytes}
-use Rattle.bson_types.specs.Vectors.{is_vector_of_any_bits, le_bytes_of, vector_bytes}
-use Rattle.bson_types.specs.VectorData.{VectorData, IsInRange, IsOnlyOne, data_bytes, data_in_range, vector_view, int8}
+use Rattle.bson_types.specs.ObjectIds.{IsBytes}
+use Rattle.bson_types.specs.VectorBytes.{is_vector_with_any_ignored_bits, u32_le_bytes, vector_bytes}
+use Rattle.bson_types.specs.VectorData.{VectorData, IsDataInRange, IsOnlyDataOf, data_bytes, data_in_range, vector_data, int8}
 use Rattle.bson_types.specs.VectorData.{float32, packed}
 
 head_is : {X : Type 0} (x y : X) (xs ys : List X) → x ∷ xs ≡ y ∷ ys → x ≡ y
@@ -32,7 +32,7 @@ abbrev pub words : List ℕ → List ℕ
 words (a ∷ b ∷ c ∷ d ∷ rest) = from_le_bytes w32 (a ∷ b ∷ c ∷ d ∷ []) ∷ words rest
 words _ = []
 
-words_back : (ns : List ℕ) → AllByRecursion (λ n. n < 2 ^ 32) ns → words (le_bytes_of ns) ≡ ns
+words_back : (ns : List ℕ) → AllByRecursion (λ n. n < 2 ^ 32) ns → words (u32_le_bytes ns) ≡ ns
 words_back [] h = refl
 words_back (n ∷ ns) h = ap₂ (λ x xs. x ∷ xs) (from_le_bytes-to_le_bytes_4 n h.0) (words_back ns h.1)
 
@@ -45,7 +45,7 @@ parts [] h = absurd (omega arith)
 parts (x ∷ []) h = absurd (omega arith)
 
 -- a single byte is no vector, nor is none
-pub short : (xs : List ℕ) → length xs < 2 → is_vector_of_any_bits xs ≡ false
+pub short : (xs : List ℕ) → length xs < 2 → is_vector_with_any_ignored_bits xs ≡ false
 short [] h = refl
 short (x ∷ []) h = refl
 short (x ∷ y ∷ rest) h = absurd (omega arith)
@@ -54,14 +54,14 @@ two_off : (a b c d : ℕ) (xs ys : List ℕ) → a ∷ b ∷ xs ≡ c ∷ d ∷ 
 two_off a b c d xs ys h = tail_is b d xs ys (tail_is a c (b ∷ xs) (d ∷ ys) h)
 
 -- numbers of four bytes each
-pub le_bytes_of-whole : (ns : List ℕ) → length (le_bytes_of ns) % 4 ≡ 0
+pub le_bytes_of-whole : (ns : List ℕ) → length (u32_le_bytes ns) % 4 ≡ 0
 le_bytes_of-whole [] = refl
 le_bytes_of-whole (n ∷ ns) = omega (arith, le_bytes_of-whole ns)
 
 pub ruleset vector_lemmas = (le_bytes_of-whole)
 
 -- one vector has these bytes
-pub one_vector : (v w : VectorData) → IsInRange v → IsInRange w → data_bytes v ≡ data_bytes w → v ≡ w
+pub one_vector : (v w : VectorData) → IsDataInRange v → IsDataInRange w → data_bytes v ≡ data_bytes w → v ≡ w
 one_vector (int8 xs) (int8 ys) p q h =
     let e = two_off _ _ _ _ _ _ h in
     ap int8 (sym (signed_back xs p) ∙ ap (map (cast_signed w8)) e ∙ signed_back ys q)
@@ -79,20 +79,20 @@ one_vector (packed xs j) (int8 ys) p q h = let e : 16 ≡ 3 = head_is 16 3 _ _ h
 one_vector (packed xs j) (float32 ys) p q h = let e : 16 ≡ 39 = head_is 16 39 _ _ h in absurd (omega (arith, e))
 
 -- both ways to write them
-pub same_bytes : (v : Vector) → data_bytes (vector_view v) ≡ vector_bytes v
+pub same_bytes : (v : Vector) → data_bytes (vector_data v) ≡ vector_bytes v
 same_bytes (Int8 v) = refl
 same_bytes (Float32 v) = refl
 same_bytes (PackedBit v) = refl
 
 -- a vector in range is the only one of its bytes
-pub only_one : (v : Vector) (bytes : List ℕ) → IsInRange (vector_view v) → vector_bytes v ≡ bytes
-    → IsOnlyOne bytes (vector_view v)
+pub only_one : (v : Vector) (bytes : List ℕ) → IsDataInRange (vector_data v) → vector_bytes v ≡ bytes
+    → IsOnlyDataOf bytes (vector_data v)
 only_one v bytes range is =
-    λ w in_range same. one_vector w (vector_view v) in_range range (same ∙ sym is ∙ sym (same_bytes v))
+    λ w in_range same. one_vector w (vector_data v) in_range range (same ∙ sym is ∙ sym (same_bytes v))
 
 -- and so it is with one that was read
 pub only_one-read : (r : Result Vector Error) (bytes : List ℕ) → IfOk r (λ v. vector_bytes v ≡ bytes)
-    → IfOk r (λ v. IsInRange (vector_view v)) → IfOk r (λ v. IsOnlyOne bytes (vector_view v))
+    → IfOk r (λ v. IsDataInRange (vector_data v)) → IfOk r (λ v. IsOnlyDataOf bytes (vector_data v))
 only_one-read (Ok v) bytes is range = only_one v bytes range is
 only_one-read (Err e) bytes is range = tt
 
@@ -107,11 +107,11 @@ held_range [] are = tt
 held_range (n ∷ ns) are = (sfits_to_z (fits_byte n (are 0)), held_range ns (λ i. are (suc i)))
 
 int8_held : (zs : List ℤ) → IsBytes (map (cast_unsigned w8) zs)
-    → IsInRange (int8 (map (cast_signed w8) (map (cast_unsigned w8) zs)))
+    → IsDataInRange (int8 (map (cast_signed w8) (map (cast_unsigned w8) zs)))
 int8_held zs are = held_range (map (cast_unsigned w8) zs) are
 
 pub int8_held_ok : {X Y : Type 0} (r : Result X Y) (zs : List ℤ) → OnOk r (IsBytes (map (cast_unsigned w8) zs))
-    → OnOk r (IsInRange (int8 (map (cast_signed w8) (map (cast_unsigned w8) zs))))
+    → OnOk r (IsDataInRange (int8 (map (cast_signed w8) (map (cast_unsigned w8) zs))))
 int8_held_ok (Ok x) zs are = int8_held zs are
 int8_held_ok (Err e) zs are = tt
 
@@ -131,8 +131,8 @@ same_held (Float32 v) are = refl
 same_held (PackedBit v) are = refl
 
 -- a vector is the only one of its bytes
-pub only_held : (v : Vector) (bytes : List ℕ) → IsBytes bytes → IsInRange (data_in_range v) → vector_bytes v ≡ bytes
-    → IsOnlyOne bytes (data_in_range v)
+pub only_held : (v : Vector) (bytes : List ℕ) → IsBytes bytes → IsDataInRange (data_in_range v) → vector_bytes v ≡ bytes
+    → IsOnlyDataOf bytes (data_in_range v)
 only_held v bytes are range is =
     let back = same_held v (rw is are) in
     λ w in_range same. one_vector w (data_in_range v) in_range range (same ∙ sym is ∙ sym back)

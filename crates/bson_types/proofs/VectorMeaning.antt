@@ -7,9 +7,9 @@ use Rattle.std.proofs.lemmas.Bool.{and_from, and_parts, cases_eq, eq-eqb, eqb-tr
 use Rattle.std.proofs.lemmas.Bool.{not_from_false, or_cases, or_left}
 use Rattle.std.proofs.lemmas.Nat.{le_bytes_4}
 use Rattle.bson_types.specs.IgnoredBits.{ignored_bits}
-use Rattle.bson_types.specs.Oid.{IsBytes}
-use Rattle.bson_types.specs.Vectors.{is_vector, le_bytes_of}
-use Rattle.bson_types.specs.VectorData.{VectorData, IsInRange, IsVectorBytes, data_bytes, int8, float32, packed}
+use Rattle.bson_types.specs.ObjectIds.{IsBytes}
+use Rattle.bson_types.specs.VectorBytes.{is_vector_bytes, u32_le_bytes}
+use Rattle.bson_types.specs.VectorData.{VectorData, IsDataInRange, IsVectorBytes, data_bytes, int8, float32, packed}
 use Rattle.bson_types.proofs.VectorLaws.{held_back, held_range, le_bytes_of-whole, words}
 
 -- ---- data in range has bytes of a vector
@@ -20,7 +20,7 @@ no_bytes_no_padding (b ∷ bs) k none =
     let some : (length (b ∷ bs) == 0) ≡ false = ne_eqb (length (b ∷ bs)) 0 (λ e. omega (arith, e)) in
     or_left _ _ (not_from_false _ some)
 
-accepted : (v : VectorData) → IsInRange v → is_vector (data_bytes v) ≡ true
+accepted : (v : VectorData) → IsDataInRange v → is_vector_bytes (data_bytes v) ≡ true
 accepted (int8 zs) range = refl
 accepted (float32 ns) range = rw (le_bytes_of-whole ns) refl
 accepted (packed bs k) range =
@@ -50,19 +50,19 @@ words_range (a ∷ []) are = tt
 words_range (a ∷ b ∷ []) are = tt
 words_range (a ∷ b ∷ c ∷ []) are = tt
 
-words_of : (bs : List ℕ) → IsBytes bs → length bs % 4 ≡ 0 → le_bytes_of (words bs) ≡ bs
+words_of : (bs : List ℕ) → IsBytes bs → length bs % 4 ≡ 0 → u32_le_bytes (words bs) ≡ bs
 words_of (a ∷ b ∷ c ∷ d ∷ rest) are whole =
     let four = a ∷ b ∷ c ∷ d ∷ [] in
     let first : to_le_bytes w32 (from_le_bytes w32 four) ≡ four =
     le_bytes_4 four _ refl (four_bytes a b c d rest are) refl in
-    let more : le_bytes_of (words rest) ≡ rest = words_of rest (four_less a b c d rest are) (omega (arith, whole)) in
+    let more : u32_le_bytes (words rest) ≡ rest = words_of rest (four_less a b c d rest are) (omega (arith, whole)) in
     ap₂ (λ xs ys. xs ++ ys) first more
 words_of [] are whole = refl
 words_of (a ∷ []) are whole = absurd (omega (arith, whole))
 words_of (a ∷ b ∷ []) are whole = absurd (omega (arith, whole))
 words_of (a ∷ b ∷ c ∷ []) are whole = absurd (omega (arith, whole))
 
-packed_data : (k : ℕ) (bs : List ℕ) → is_vector (16 ∷ k ∷ bs) ≡ true → IsVectorBytes (16 ∷ k ∷ bs)
+packed_data : (k : ℕ) (bs : List ℕ) → is_vector_bytes (16 ∷ k ∷ bs) ≡ true → IsVectorBytes (16 ∷ k ∷ bs)
 packed_data k bs is =
     let both = and_parts (nat_lt k 8 && (not (length bs == 0) || (k == 0))) (ignored_bits bs k == 0) is in
     let shape = and_parts (nat_lt k 8) (not (length bs == 0) || (k == 0)) both.0 in
@@ -89,17 +89,17 @@ numbers_data kind k bs are is =
           rw (at, padding) (float32_data bs are (eqb-true (length bs % 4) 0 p.1))
     ]
 
-some_data : (bytes : List ℕ) → IsBytes bytes → is_vector bytes ≡ true → IsVectorBytes bytes
+some_data : (bytes : List ℕ) → IsBytes bytes → is_vector_bytes bytes ≡ true → IsVectorBytes bytes
 some_data [] are is = absurd cc
 some_data (kind ∷ []) are is = absurd cc
 some_data (kind ∷ k ∷ bs) are is = elim (cases_eq kind 16) [
-  | inl e ↦ let whole : is_vector (16 ∷ k ∷ bs) ≡ true = rw e at is in rw e (packed_data k bs whole)
+  | inl e ↦ let whole : is_vector_bytes (16 ∷ k ∷ bs) ≡ true = rw e at is in rw e (packed_data k bs whole)
   | inr other ↦
       let apart : (kind == 16) ≡ false = ne_eqb kind 16 other in
       let both = and_parts _ _ (rw apart at is) in
       numbers_data kind k bs (λ i. are (suc (suc i))) both.0
 ]
 
-pub vector_meaning : (bytes : List ℕ) → IsBytes bytes → (is_vector bytes ≡ true) ↔ IsVectorBytes bytes
+pub vector_meaning : (bytes : List ℕ) → IsBytes bytes → (is_vector_bytes bytes ≡ true) ↔ IsVectorBytes bytes
 vector_meaning bytes are =
     (some_data bytes are, λ held. rw (← held.2) (accepted held.0 held.1))

@@ -3,14 +3,14 @@ use Rattle.std.specs.Prelude.{◌≡◌, ◌⊎◌, ◌<◌, ◌≤◌, ℕ, ◌
 use Rattle.std.specs.Prelude.{Some, None, nat_lt, if◌then◌else◌}
 
 -- the number of the only character of a string
-abbrev pub code : List ℕ → ℕ
-code text = slice_index text 0
+abbrev pub char_code : List ℕ → ℕ
+char_code text = slice_index text 0
 
 -- the character c is a digit of the value v: `0` to `9`, and then `a` to `f` or `A` to `F`
 abbrev pub IsDigitOf : ℕ → ℕ → Type 0
 IsDigitOf v c =
-    ((v < 10) × (c ≡ code (codes "0") + v))
-    ⊎ ((10 ≤ v) × (v < 16) × ((c ≡ code (codes "a") + (v - 10)) ⊎ (c ≡ code (codes "A") + (v - 10))))
+    ((v < 10) × (c ≡ char_code (codes "0") + v))
+    ⊎ ((10 ≤ v) × (v < 16) × ((c ≡ char_code (codes "a") + (v - 10)) ⊎ (c ≡ char_code (codes "A") + (v - 10))))
 
 -- a value below 16, as that of a digit
 abbrev pub below_16 : ℕ → Option ℕ

@@ -13,18 +13,18 @@ abbrev pub AreUuidDigits : List ℕ → List ℕ → Type 0
 AreUuidDigits digits id = IsHexText digits id × (length id ≡ 16)
 
 -- the digits in groups of 8, 4, 4, 4 and 12, with `-` between two groups
-abbrev pub in_groups : List ℕ → List ℕ
-in_groups digits =
+abbrev pub with_hyphens : List ℕ → List ℕ
+with_hyphens digits =
     take 8 digits ++ codes "-" ++ take 4 (drop 8 digits) ++ codes "-" ++ take 4 (drop 12 digits) ++ codes "-"
     ++ take 4 (drop 16 digits) ++ codes "-" ++ drop 20 digits
 
 -- the digits of the id in their groups
 abbrev pub IsHyphenatedText : List ℕ → List ℕ → Type 0
-IsHyphenatedText text id = (digits : List ℕ) × AreUuidDigits digits id × (text ≡ in_groups digits)
+IsHyphenatedText text id = (digits : List ℕ) × AreUuidDigits digits id × (text ≡ with_hyphens digits)
 
 -- the string that is written, with lower-case digits (RFC 9562 section 4)
 abbrev pub hyphenated_text : List ℕ → List ℕ
-hyphenated_text id = in_groups (encode_lower id)
+hyphenated_text id = with_hyphens (encode_lower id)
 
 -- the prefix of a URN of a UUID, in either case (RFC 8141 section 3.1)
 abbrev pub IsUrnPrefix : List ℕ → Type 0

@@ -5,13 +5,13 @@ ghost use Rattle.std.specs.Prelude.{OnOk, length, true, unwrap_or, vec_len};
 ghost use Rattle.base64.specs.Engines.{standard};
 ghost use Rattle.base64.specs.GeneralPurpose.{encode_of};
 ghost use Rattle.bson_types.specs.Base64.{IsBase64, padded_text};
-ghost use Rattle.bson_types.specs.Fault.{IsDecodingError, IsAllocationError};
-ghost use Rattle.bson_types.specs.Orders.{bytes_in_order, subtype_for};
-ghost use Rattle.bson_types.specs.VectorData.{IsInRange, IsOnlyOne, data_in_range, vector_view};
-ghost use Rattle.bson_types.specs.Vectors.{is_vector, vector_bytes};
+ghost use Rattle.bson_types.specs.BinaryErrors.{IsDecodingError, IsAllocationError};
+ghost use Rattle.bson_types.specs.UuidByteOrder.{bytes_in_uuid_order, subtype_for};
+ghost use Rattle.bson_types.specs.VectorData.{IsDataInRange, IsOnlyDataOf, data_in_range, vector_data};
+ghost use Rattle.bson_types.specs.VectorBytes.{is_vector_bytes, vector_bytes};
 ghost use Rattle.bson_types.specs.declared.binary.Error.TheVariants as binary_error;
 
-pub use crate::packed::PackedBitVector;
+pub use crate::packed_bits::PackedBitVector;
 use crate::spec::BinarySubtype;
 use crate::uuid_value::{self, Uuid, UuidRepresentation};
 pub use crate::vector::Vector;
@@ -128,11 +128,11 @@ impl Binary {
         representation: UuidRepresentation,
     ) -> Result<Binary, AllocError>
         ensures subtype { IfOk result (λ b. b.subtype ≡ subtype_for representation) }
-        ensures bytes { IfOk result (λ b. b.bytes.items ≡ bytes_in_order representation id) }
+        ensures bytes { IfOk result (λ b. b.bytes.items ≡ bytes_in_uuid_order representation id) }
 
         // Reading the UUID back needs this length, and returns the same UUID.
         ensures length { IfOk result (λ b. vec_len b.bytes ≡ 16) }
-        ensures undone { IfOk result (λ b. bytes_in_order representation b.bytes.items ≡ id) }
+        ensures undone { IfOk result (λ b. bytes_in_uuid_order representation b.bytes.items ≡ id) }
     {
         let bytes = reorder(&id.bytes(), representation);
         Ok(Binary {
@@ -152,14 +152,14 @@ impl Binary {
         ensures bytes { IfOk result (λ b. b.bytes.items ≡ vector_bytes vector.now) }
 
         // Reading the vector back accepts these bytes, and returns the same vector.
-        ensures readable { IfOk result (λ b. is_vector b.bytes.items ≡ true) }
-        ensures only { IfOk result (λ b. IsInRange (vector_view vector.now)
-            → IsOnlyOne b.bytes.items (vector_view vector.now)) }
+        ensures readable { IfOk result (λ b. is_vector_bytes b.bytes.items ≡ true) }
+        ensures only { IfOk result (λ b. IsDataInRange (vector_data vector.now)
+            → IsOnlyDataOf b.bytes.items (vector_data vector.now)) }
 
-        // The same for any vector. `data_in_range` differs from `vector_view` only for a number that a
+        // The same for any vector. `data_in_range` differs from `vector_data` only for a number that a
         // clause assumes to be outside the range of 8 bits.
-        ensures ranged { OnOk result (IsInRange (data_in_range vector.now)) }
-        ensures held { IfOk result (λ b. IsOnlyOne b.bytes.items (data_in_range vector.now)) }
+        ensures ranged { OnOk result (IsDataInRange (data_in_range vector.now)) }
+        ensures held { IfOk result (λ b. IsOnlyDataOf b.bytes.items (data_in_range vector.now)) }
     {
         let bytes = vector.to_bytes(alloc)?;
         are_bytes(bytes.as_slice());
@@ -186,7 +186,7 @@ impl Binary {
 }
 
 impl Binary {
-    ghost use Rattle.bson_types.specs.Orders.{IsInvalidLength, IsMismatch};
+    ghost use Rattle.bson_types.specs.UuidByteOrder.{IsInvalidLength, IsRepresentationMismatch};
 
     /// Returns the UUID of a binary in the standard representation, as
     /// `to_uuid_with_representation` reads it.
@@ -199,7 +199,7 @@ impl Binary {
         ensures ok { IfOk result (λ id. id ≡ self.now.bytes.items) }
         ensures succeeds { IsOk result ↔ ((self.now.subtype ≡ BinarySubtype.Uuid) × (vec_len self.now.bytes ≡ 16)) }
         ensures mismatch { self.now.subtype ≢ BinarySubtype.Uuid
-            → IfErr result (IsMismatch BinarySubtype.Uuid self.now.subtype UuidRepresentation.Standard) }
+            → IfErr result (IsRepresentationMismatch BinarySubtype.Uuid self.now.subtype UuidRepresentation.Standard) }
         ensures length { self.now.subtype ≡ BinarySubtype.Uuid
             → IfErr result (IsInvalidLength (vec_len self.now.bytes)) }
     {
@@ -217,11 +217,11 @@ impl Binary {
         &self,
         representation: UuidRepresentation,
     ) -> uuid_value::Result<Uuid>
-        ensures ok { IfOk result (λ id. id ≡ bytes_in_order representation self.now.bytes.items) }
+        ensures ok { IfOk result (λ id. id ≡ bytes_in_uuid_order representation self.now.bytes.items) }
         ensures succeeds { IsOk result ↔ ((self.now.subtype ≡ subtype_for representation)
             × (vec_len self.now.bytes ≡ 16)) }
         ensures mismatch { self.now.subtype ≢ subtype_for representation
-            → IfErr result (IsMismatch (subtype_for representation) self.now.subtype representation) }
+            → IfErr result (IsRepresentationMismatch (subtype_for representation) self.now.subtype representation) }
         ensures length { self.now.subtype ≡ subtype_for representation
             → IfErr result (IsInvalidLength (vec_len self.now.bytes)) }
     {
@@ -252,7 +252,7 @@ fn subtype_of(representation: UuidRepresentation) -> BinarySubtype
 }
 
 fn reorder(b: &[u8; 16], representation: UuidRepresentation) -> [u8; 16]
-    ensures { result ≡ bytes_in_order representation b.now }
+    ensures { result ≡ bytes_in_uuid_order representation b.now }
 {
     match representation {
         UuidRepresentation::Standard | UuidRepresentation::PythonLegacy => [
@@ -271,7 +271,7 @@ fn reorder(b: &[u8; 16], representation: UuidRepresentation) -> [u8; 16]
 }
 
 impl fmt::Display for Binary {
-    ghost use Rattle.bson_types.specs.Displayed.{binary_text};
+    ghost use Rattle.bson_types.specs.BinaryText.{binary_text};
 
     ghost output = { λ b. Some (binary_text b) };
 

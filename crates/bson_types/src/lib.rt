@@ -4,14 +4,14 @@
 //! own, and are named here too.
 //!
 //! In reading order: `spec` (tags and subtypes), `oid`, `uuid_value` (the library's `uuid`),
-//! `binary` (base64, UUIDs in binaries), `vector` and `packed` (vectors and their bytes),
+//! `binary` (base64, UUIDs in binaries), `vector` and `packed_bits` (vectors and their bytes),
 //! `timestamp`, `regex`, `db_pointer`.
 #![tactic(auto)]
 
 pub mod binary;
 pub mod db_pointer;
 pub mod oid;
-mod packed;
+mod packed_bits;
 pub mod regex;
 pub mod spec;
 pub mod timestamp;

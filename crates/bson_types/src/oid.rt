@@ -5,11 +5,11 @@ ghost use Rattle.std.specs.Cmp.Lexicographic.{nat_list_cmp_total, slice_cmp, tex
 ghost use Rattle.std.specs.Int.{w32, to_be_bytes};
 ghost use Rattle.std.specs.Ordering.{nat_cmp};
 ghost use Rattle.std.proofs.Common.{refl};
-ghost use Rattle.bson_types.specs.Oid.{IsObjectId, IsOidText, BadLength, bad_place, encode_lower};
-ghost use Rattle.bson_types.specs.Oid.{fault_at, is_hex_digit, oid_fault, oid_millis};
+ghost use Rattle.bson_types.specs.ObjectIds.{IsObjectId, IsOidText, BadLength, first_non_digit, encode_lower};
+ghost use Rattle.bson_types.specs.ObjectIds.{oid_fault_at, is_hex_digit, oid_fault, oid_millis};
 ghost use Rattle.hex.specs.Hex.{hex_digit_value};
 ghost use Rattle.bson_types.specs.HexText.{below_16, byte_of_digits};
-ghost use Rattle.bson_types.specs.OidFault.{IsOidError};
+ghost use Rattle.bson_types.specs.ObjectIdErrors.{IsOidError};
 ghost use Rattle.bson_types.specs.declared.oid.Error.TheVariants as oid_error;
 
 use bson_datetime::DateTime;
@@ -89,7 +89,7 @@ impl ObjectId {
         ensures { result ≡ to_be_bytes w32 seconds ++ process_id ++ counter }
     {
         ObjectId {
-            bytes: join(&seconds.to_be_bytes(), &process_id, &counter),
+            bytes: concat_parts(&seconds.to_be_bytes(), &process_id, &counter),
         }
     }
 
@@ -158,7 +158,7 @@ impl From<[u8; 12]> for ObjectId {
 }
 
 impl Ord for ObjectId {
-    ghost use Rattle.bson_types.specs.Oid.{id_order};
+    ghost use Rattle.bson_types.specs.ObjectIds.{id_order};
 
     ghost cmp = { slice_cmp nat_cmp };
 
@@ -273,11 +273,11 @@ fn length_error(alloc: Global, text: &str) -> Error
 
 // The error of a string with an even number of bytes.
 fn digit_error(alloc: Global, text: &str) -> Error
-    requires { oid_fault text.now ≡ fault_at text.now (bad_place text.now) }
+    requires { oid_fault text.now ≡ oid_fault_at text.now (first_non_digit text.now) }
     ensures { IsOidError text.now result }
 {
     let bytes = text.as_bytes();
-    let Some(index) = bad_place_of(bytes) else {
+    let Some(index) = find_non_digit(bytes) else {
         return length_error(alloc, text);
     };
     match String::from_str(alloc, text) {
@@ -291,20 +291,20 @@ fn digit_error(alloc: Global, text: &str) -> Error
 }
 
 // The offset of the first byte that is not a digit.
-fn bad_place_of(bytes: &[u8]) -> Option<usize>
-    ensures { result ≡ bad_place bytes.now }
+fn find_non_digit(bytes: &[u8]) -> Option<usize>
+    ensures { result ≡ first_non_digit bytes.now }
 {
-    bytes.iter().position(|byte| is_bad(*byte))
+    bytes.iter().position(|byte| is_not_hex_digit(*byte))
 }
 
-fn is_bad(byte: u8) -> bool
+fn is_not_hex_digit(byte: u8) -> bool
     ensures { result ≡ not (is_hex_digit byte) }
 {
     !matches!(byte, b'0'..=b'9' | b'a'..=b'f' | b'A'..=b'F')
 }
 
 // The three parts, concatenated.
-fn join(a: &[u8], b: &[u8], c: &[u8]) -> [u8; 12]
+fn concat_parts(a: &[u8], b: &[u8], c: &[u8]) -> [u8; 12]
     requires first { length a.now ≡ 4 }
     requires second { length b.now ≡ 5 }
     requires third { length c.now ≡ 3 }

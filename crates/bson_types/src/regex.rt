@@ -76,7 +76,7 @@ pub fn sort_characters(alloc: Global, text: &str) -> Result<String, AllocError>
     ensures { IfOk result (λ s. string_bytes s ≡ sorted_text text.now) }
 {
     let characters = ascending_of(characters_of(alloc, text)?);
-    spell(alloc, characters)
+    string_of(alloc, characters)
 }
 
 fn characters_of(alloc: Global, text: &str) -> Result<Vec<char>, AllocError>
@@ -92,7 +92,7 @@ fn ascending_of(mut characters: Vec<char>) -> Vec<char>
     characters
 }
 
-fn spell(alloc: Global, characters: Vec<char>) -> Result<String, AllocError>
+fn string_of(alloc: Global, characters: Vec<char>) -> Result<String, AllocError>
     ensures { IfOk result (λ s. string_bytes s ≡ encode_utf8_all characters.items) }
 {
     characters.into_iter().collect(alloc)

@@ -60,7 +60,7 @@ pub enum ElementType {
 }
 
 impl ElementType {
-    ghost use Rattle.bson_types.specs.Tags.{tag_of};
+    ghost use Rattle.bson_types.specs.ElementTags.{tag_of};
 
     /// Returns the type whose tag is the byte, or `None` if the byte is not a tag.
     pub fn from(tag: u8) -> Option<ElementType>
@@ -161,7 +161,7 @@ pub enum BinarySubtype {
 }
 
 impl From<u8> for BinarySubtype {
-    ghost use Rattle.bson_types.specs.Subtype.{subtype_byte, subtype_of};
+    ghost use Rattle.bson_types.specs.BinarySubtypes.{subtype_byte, subtype_of};
 
     ghost from_gives = { λ b s. (s ≡ subtype_of b) × (subtype_byte s ≡ b) };
 
@@ -184,7 +184,7 @@ impl From<u8> for BinarySubtype {
 }
 
 impl From<BinarySubtype> for u8 {
-    ghost use Rattle.bson_types.specs.Subtype.{subtype_byte};
+    ghost use Rattle.bson_types.specs.BinarySubtypes.{subtype_byte};
 
     ghost from_gives = { λ s b. b ≡ subtype_byte s };
 
@@ -206,7 +206,7 @@ impl From<BinarySubtype> for u8 {
 }
 
 impl Hash for BinarySubtype {
-    ghost use Rattle.bson_types.specs.Subtype.{subtype_byte};
+    ghost use Rattle.bson_types.specs.BinarySubtypes.{subtype_byte};
 
     ghost hash_input = { λ s. fed.u8 (subtype_byte s) };
 
@@ -225,7 +225,7 @@ impl fmt::LowerHex for BinarySubtype {
 
 // The bits that `{:x}` writes.
 impl fmt::HasDigits for BinarySubtype {
-    ghost use Rattle.bson_types.specs.Subtype.{subtype_byte};
+    ghost use Rattle.bson_types.specs.BinarySubtypes.{subtype_byte};
 
     ghost word = { λ s. Some (subtype_byte s) };
 

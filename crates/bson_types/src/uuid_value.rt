@@ -86,7 +86,7 @@ impl Model for Uuid {
 }
 
 impl Uuid {
-    ghost use Rattle.bson_types.specs.Orders.{IsInvalidUuidString};
+    ghost use Rattle.bson_types.specs.UuidByteOrder.{IsInvalidUuidString};
 
     /// Makes the UUID with these bytes.
     pub fn from_bytes(bytes: [u8; 16]) -> Uuid

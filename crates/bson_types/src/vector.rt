@@ -3,17 +3,17 @@ ghost use Rattle.std.specs.Prelude.{◌≡◌, ◌≢◌, [], ◌∷◌, ◌⊎�
 ghost use Rattle.std.specs.Prelude.{IfOk, OnOk, false, length, map, true};
 ghost use Rattle.std.specs.Int.{cast_signed, cast_unsigned, w8};
 ghost use Rattle.std.specs.List.{AllByRecursion};
-ghost use Rattle.bson_types.specs.Oid.{IsBytes};
-ghost use Rattle.bson_types.specs.Fault.{IsAllocationError, IsVectorError};
-ghost use Rattle.bson_types.specs.Packed.{packed_bytes, packed_padding};
+ghost use Rattle.bson_types.specs.ObjectIds.{IsBytes};
+ghost use Rattle.bson_types.specs.BinaryErrors.{IsAllocationError, IsVectorError};
+ghost use Rattle.bson_types.specs.PackedBits.{packed_bytes, packed_padding};
 ghost use Rattle.bson_types.specs.IgnoredBits.{cleared_bytes};
-ghost use Rattle.bson_types.specs.Vectors.{is_vector, is_vector_of_any_bits, le_bytes_of};
-ghost use Rattle.bson_types.specs.Vectors.{vector_bytes, cleared_vector};
-ghost use Rattle.bson_types.specs.VectorData.{IsInRange, IsOnlyOne, IsVectorBytes, packed, packed_view};
-ghost use Rattle.bson_types.specs.VectorData.{data_in_range, vector_view};
+ghost use Rattle.bson_types.specs.VectorBytes.{is_vector_bytes, is_vector_with_any_ignored_bits, u32_le_bytes};
+ghost use Rattle.bson_types.specs.VectorBytes.{vector_bytes, cleared_vector};
+ghost use Rattle.bson_types.specs.VectorData.{IsDataInRange, IsOnlyDataOf, IsVectorBytes, packed, packed_bits_data};
+ghost use Rattle.bson_types.specs.VectorData.{data_in_range, vector_data};
 
 use crate::binary::{Binary, Error, Result};
-use crate::packed::PackedBitVector;
+use crate::packed_bits::PackedBitVector;
 use crate::spec::BinarySubtype;
 use std::alloc::{AllocError, Global};
 
@@ -23,7 +23,7 @@ const PACKED_BIT: u8 = 0x10;
 
 const FLOAT32: u8 = 0x27;
 
-const HEAD: &str = "a vector has a type and a padding";
+const HEADER_MESSAGE: &str = "a vector has a type and a padding";
 
 /// A vector, as a binary of subtype Vector contains it.
 ///
@@ -64,18 +64,18 @@ impl Vector {
     ///   zero.
     pub fn from_bytes(alloc: Global, bytes: &[u8]) -> Result<Vector>
         ensures ok { IfOk result (λ v. vector_bytes v ≡ bytes.now) }
-        ensures ranged { IfOk result (λ v. IsInRange (vector_view v)) }
-        ensures only { IfOk result (λ v. IsOnlyOne bytes.now (vector_view v)) }
+        ensures ranged { IfOk result (λ v. IsDataInRange (vector_data v)) }
+        ensures only { IfOk result (λ v. IsOnlyDataOf bytes.now (vector_data v)) }
 
         // Bytes are accepted if and only if they are those of a vector with data in range.
-        ensures accepted { OnOk result (is_vector bytes.now ≡ true) }
-        ensures refused { IfErr result (λ e. IsAllocationError e ⊎ (IsVectorError e × (is_vector bytes.now ≡ false))) }
-        ensures meaning { (is_vector bytes.now ≡ true) ↔ IsVectorBytes bytes.now }
+        ensures accepted { OnOk result (is_vector_bytes bytes.now ≡ true) }
+        ensures refused { IfErr result (λ e. IsAllocationError e ⊎ (IsVectorError e × (is_vector_bytes bytes.now ≡ false))) }
+        ensures meaning { (is_vector_bytes bytes.now ≡ true) ↔ IsVectorBytes bytes.now }
     {
         match bytes {
             [PACKED_BIT, padding, data @ ..] => packed_bits(alloc, *padding, data),
             [kind, padding, data @ ..] => numbers(alloc, *kind, *padding, data),
-            _ => Err(Error::Vector { message: HEAD }),
+            _ => Err(Error::Vector { message: HEADER_MESSAGE }),
         }
     }
 
@@ -89,22 +89,22 @@ impl Vector {
     /// - `OutOfMemory`: a request for memory was refused.
     pub fn from_bytes_clearing(alloc: Global, bytes: &[u8]) -> Result<Vector>
         ensures ok { IfOk result (λ v. vector_bytes v ≡ cleared_vector bytes.now) }
-        ensures ranged { IfOk result (λ v. IsInRange (vector_view v)) }
-        ensures only { IfOk result (λ v. IsOnlyOne (cleared_vector bytes.now) (vector_view v)) }
+        ensures ranged { IfOk result (λ v. IsDataInRange (vector_data v)) }
+        ensures only { IfOk result (λ v. IsOnlyDataOf (cleared_vector bytes.now) (vector_data v)) }
 
         // `from_bytes` reads the same vector in these bytes, if it accepts them.
-        ensures same { IfOk result (λ v. IsOnlyOne bytes.now (vector_view v)) }
-        ensures takes_more { is_vector bytes.now ≡ true → is_vector_of_any_bits bytes.now ≡ true }
+        ensures same { IfOk result (λ v. IsOnlyDataOf bytes.now (vector_data v)) }
+        ensures takes_more { is_vector_bytes bytes.now ≡ true → is_vector_with_any_ignored_bits bytes.now ≡ true }
 
         // Bytes are accepted if and only if they are those of a vector, whatever its ignored bits.
-        ensures accepted { OnOk result (is_vector_of_any_bits bytes.now ≡ true) }
+        ensures accepted { OnOk result (is_vector_with_any_ignored_bits bytes.now ≡ true) }
         ensures refused { IfErr result (λ e. IsAllocationError e
-            ⊎ (IsVectorError e × (is_vector_of_any_bits bytes.now ≡ false))) }
+            ⊎ (IsVectorError e × (is_vector_with_any_ignored_bits bytes.now ≡ false))) }
     {
         match bytes {
             [PACKED_BIT, padding, data @ ..] => cleared_bits(alloc, *padding, data),
             [kind, padding, data @ ..] => numbers(alloc, *kind, *padding, data),
-            _ => Err(Error::Vector { message: HEAD }),
+            _ => Err(Error::Vector { message: HEADER_MESSAGE }),
         }
     }
 
@@ -117,13 +117,13 @@ impl Vector {
     pub fn from_binary(alloc: Global, binary: &Binary) -> Result<Vector>
         ensures subtype { OnOk result (binary.now.subtype ≡ BinarySubtype.Vector) }
         ensures ok { IfOk result (λ v. vector_bytes v ≡ binary.now.bytes.items) }
-        ensures ranged { IfOk result (λ v. IsInRange (vector_view v)) }
-        ensures only { IfOk result (λ v. IsOnlyOne binary.now.bytes.items (vector_view v)) }
+        ensures ranged { IfOk result (λ v. IsDataInRange (vector_data v)) }
+        ensures only { IfOk result (λ v. IsOnlyDataOf binary.now.bytes.items (vector_data v)) }
 
-        ensures accepted { OnOk result (is_vector binary.now.bytes.items ≡ true) }
+        ensures accepted { OnOk result (is_vector_bytes binary.now.bytes.items ≡ true) }
         ensures refused { IfErr result (λ e. IsAllocationError e
             ⊎ (IsVectorError e
-            × ((binary.now.subtype ≢ BinarySubtype.Vector) ⊎ (is_vector binary.now.bytes.items ≡ false)))) }
+            × ((binary.now.subtype ≢ BinarySubtype.Vector) ⊎ (is_vector_bytes binary.now.bytes.items ≡ false)))) }
     {
         if binary.subtype != BinarySubtype::Vector {
             return Err(Error::Vector {
@@ -139,7 +139,7 @@ impl Vector {
     ///
     /// Returns `AllocError` if a request for memory is refused.
     pub fn clone(&self, alloc: Global) -> Result<Vector, AllocError>
-        ensures { IfOk result (λ v. vector_view v ≡ vector_view self.now) }
+        ensures { IfOk result (λ v. vector_data v ≡ vector_data self.now) }
     {
         Ok(match self {
             Vector::Int8(items) => Vector::Int8(Vec::from_slice(alloc, items.as_slice())?),
@@ -151,8 +151,8 @@ impl Vector {
     // The bytes that `from_bytes` reads as this vector.
     pub(crate) fn to_bytes(&self, alloc: Global) -> Result<Vec<u8>, AllocError>
         ensures bytes { IfOk result (λ v. v.items ≡ vector_bytes self.now) }
-        ensures readable { OnOk result (is_vector (vector_bytes self.now) ≡ true) }
-        ensures ranged { OnOk result (IsInRange (data_in_range self.now)) }
+        ensures readable { OnOk result (is_vector_bytes (vector_bytes self.now) ≡ true) }
+        ensures ranged { OnOk result (IsDataInRange (data_in_range self.now)) }
     {
         match self {
             Vector::Int8(items) => int8_bytes(alloc, items.as_slice()),
@@ -163,11 +163,11 @@ impl Vector {
 }
 
 fn packed_bits(alloc: Global, padding: u8, contents: &[u8]) -> Result<Vector>
-    ensures ok { IfOk result (λ v. vector_view v ≡ packed contents.now padding) }
-    ensures ranged { IfOk result (λ v. IsInRange (vector_view v)) }
-    ensures accepted { OnOk result (is_vector (0x10 ∷ padding ∷ contents.now) ≡ true) }
+    ensures ok { IfOk result (λ v. vector_data v ≡ packed contents.now padding) }
+    ensures ranged { IfOk result (λ v. IsDataInRange (vector_data v)) }
+    ensures accepted { OnOk result (is_vector_bytes (0x10 ∷ padding ∷ contents.now) ≡ true) }
     ensures refused { IfErr result (λ e. IsAllocationError e
-        ⊎ (IsVectorError e × (is_vector (0x10 ∷ padding ∷ contents.now) ≡ false))) }
+        ⊎ (IsVectorError e × (is_vector_bytes (0x10 ∷ padding ∷ contents.now) ≡ false))) }
 {
     let Ok(bytes) = Vec::from_slice(alloc, contents) else {
         return Err(Error::OutOfMemory);
@@ -176,25 +176,25 @@ fn packed_bits(alloc: Global, padding: u8, contents: &[u8]) -> Result<Vector>
 }
 
 fn cleared_bits(alloc: Global, padding: u8, contents: &[u8]) -> Result<Vector>
-    ensures ok { IfOk result (λ v. vector_view v ≡ packed (cleared_bytes contents.now padding) padding) }
-    ensures ranged { IfOk result (λ v. IsInRange (vector_view v)) }
-    ensures accepted { OnOk result (is_vector_of_any_bits (0x10 ∷ padding ∷ contents.now) ≡ true) }
+    ensures ok { IfOk result (λ v. vector_data v ≡ packed (cleared_bytes contents.now padding) padding) }
+    ensures ranged { IfOk result (λ v. IsDataInRange (vector_data v)) }
+    ensures accepted { OnOk result (is_vector_with_any_ignored_bits (0x10 ∷ padding ∷ contents.now) ≡ true) }
     ensures refused { IfErr result (λ e. IsAllocationError e
-        ⊎ (IsVectorError e × (is_vector_of_any_bits (0x10 ∷ padding ∷ contents.now) ≡ false))) }
+        ⊎ (IsVectorError e × (is_vector_with_any_ignored_bits (0x10 ∷ padding ∷ contents.now) ≡ false))) }
 {
     let Ok(bytes) = Vec::from_slice(alloc, contents) else {
         return Err(Error::OutOfMemory);
     };
-    Ok(Vector::PackedBit(PackedBitVector::clearing(bytes, padding)?))
+    Ok(Vector::PackedBit(PackedBitVector::with_cleared_bits(bytes, padding)?))
 }
 
 fn numbers(alloc: Global, kind: u8, padding: u8, contents: &[u8]) -> Result<Vector>
     requires { kind ≢ 0x10 }
     ensures ok { IfOk result (λ v. vector_bytes v ≡ kind ∷ padding ∷ contents.now) }
-    ensures ranged { IfOk result (λ v. IsInRange (vector_view v)) }
-    ensures accepted { OnOk result (is_vector (kind ∷ padding ∷ contents.now) ≡ true) }
+    ensures ranged { IfOk result (λ v. IsDataInRange (vector_data v)) }
+    ensures accepted { OnOk result (is_vector_bytes (kind ∷ padding ∷ contents.now) ≡ true) }
     ensures refused { IfErr result (λ e. IsAllocationError e
-        ⊎ (IsVectorError e × (is_vector_of_any_bits (kind ∷ padding ∷ contents.now) ≡ false))) }
+        ⊎ (IsVectorError e × (is_vector_with_any_ignored_bits (kind ∷ padding ∷ contents.now) ≡ false))) }
 {
     if padding != 0 {
         return Err(Error::Vector {
@@ -231,7 +231,7 @@ fn collect(alloc: Global, contents: &[u8]) -> Result<Vec<i8>, AllocError>
 }
 
 fn words(alloc: Global, contents: &[u8]) -> Result<Vec<u32>>
-    ensures ok { IfOk result (λ v. le_bytes_of v.items ≡ contents.now) }
+    ensures ok { IfOk result (λ v. u32_le_bytes v.items ≡ contents.now) }
     ensures range { IfOk result (λ v. AllByRecursion (λ n. n < 2 ^ 32) v.items) }
     ensures whole { OnOk result (length contents.now % 4 ≡ 0) }
     ensures err { IfErr result (λ e. IsAllocationError e ⊎ (IsVectorError e × (length contents.now % 4 ≢ 0))) }
@@ -270,10 +270,10 @@ fn words_in_range(items: &[u32])
 
 fn int8_bytes(alloc: Global, items: &[i8]) -> Result<Vec<u8>, AllocError>
     ensures bytes { IfOk result (λ v. v.items ≡ 0x03 ∷ 0 ∷ map (cast_unsigned w8) items.now) }
-    ensures readable { OnOk result (is_vector (0x03 ∷ 0 ∷ map (cast_unsigned w8) items.now) ≡ true) }
+    ensures readable { OnOk result (is_vector_bytes (0x03 ∷ 0 ∷ map (cast_unsigned w8) items.now) ≡ true) }
     ensures range { OnOk result (IsBytes (map (cast_unsigned w8) items.now)) }
 {
-    let mut bytes = head(alloc, INT8, 0, items.len())?;
+    let mut bytes = vector_header(alloc, INT8, 0, items.len())?;
     'items: for item in items {
         bytes.push(item.cast_unsigned())?;
     }
@@ -283,12 +283,12 @@ fn int8_bytes(alloc: Global, items: &[i8]) -> Result<Vec<u8>, AllocError>
 
 #[tactic(auto, using(crate::proofs::VectorLaws::vector_lemmas))]
 fn float32_bytes(alloc: Global, items: &[u32]) -> Result<Vec<u8>, AllocError>
-    ensures bytes { IfOk result (λ v. v.items ≡ 0x27 ∷ 0 ∷ le_bytes_of items.now) }
+    ensures bytes { IfOk result (λ v. v.items ≡ 0x27 ∷ 0 ∷ u32_le_bytes items.now) }
     ensures range { OnOk result (AllByRecursion (λ n. n < 2 ^ 32) items.now) }
-    ensures readable { OnOk result (is_vector (0x27 ∷ 0 ∷ le_bytes_of items.now) ≡ true) }
+    ensures readable { OnOk result (is_vector_bytes (0x27 ∷ 0 ∷ u32_le_bytes items.now) ≡ true) }
 {
     words_in_range(items);
-    let mut bytes = head(alloc, FLOAT32, 0, items.len().saturating_mul(4))?;
+    let mut bytes = vector_header(alloc, FLOAT32, 0, items.len().saturating_mul(4))?;
     'items: for item in items {
         bytes.extend_from_slice(&item.to_le_bytes())?;
     }
@@ -297,17 +297,17 @@ fn float32_bytes(alloc: Global, items: &[u32]) -> Result<Vec<u8>, AllocError>
 
 fn packed_bytes_of(alloc: Global, packed: &PackedBitVector) -> Result<Vec<u8>, AllocError>
     ensures bytes { IfOk result (λ v. v.items ≡ 0x10 ∷ packed_padding packed.now ∷ packed_bytes packed.now) }
-    ensures range { OnOk result (IsInRange (packed_view packed.now)) }
-    ensures readable { OnOk result (is_vector (0x10 ∷ packed_padding packed.now ∷ packed_bytes packed.now) ≡ true) }
+    ensures range { OnOk result (IsDataInRange (packed_bits_data packed.now)) }
+    ensures readable { OnOk result (is_vector_bytes (0x10 ∷ packed_padding packed.now ∷ packed_bytes packed.now) ≡ true) }
 {
     let data = packed.as_bytes();
-    let mut bytes = head(alloc, PACKED_BIT, packed.padding(), data.len())?;
+    let mut bytes = vector_header(alloc, PACKED_BIT, packed.padding(), data.len())?;
     bytes.extend_from_slice(data)?;
     Ok(bytes)
 }
 
 // The type and the padding, with capacity for the data.
-fn head(alloc: Global, kind: u8, padding: u8, room: usize) -> Result<Vec<u8>, AllocError>
+fn vector_header(alloc: Global, kind: u8, padding: u8, room: usize) -> Result<Vec<u8>, AllocError>
     ensures { IfOk result (λ v. v.items ≡ kind ∷ padding ∷ []) }
 {
     let mut bytes = Vec::with_capacity(alloc, room.saturating_add(2))?;

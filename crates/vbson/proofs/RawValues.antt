@@ -10,7 +10,7 @@ use Rattle.bson_bytes.specs.Held.{binary_of, boolean_value, date_value, double_v
 use Rattle.bson_bytes.specs.Nested.{IsNested}
 use Rattle.bson_bytes.specs.Raw.{BeginsWithElements}
 use Rattle.bson_bytes.specs.declared.element.RawElement.{RawElement}
-use Rattle.bson_types.specs.Tags.{tag_of}
+use Rattle.bson_types.specs.ElementTags.{tag_of}
 use Rattle.bson_types.specs.declared.spec.ElementType.{ElementType}
 use Rattle.vbson.specs.Raw.{IsGot, IsNextElement, IsTypedResult, IsValueAt, IsValueOf, bit, subtype_and_bytes}
 use Rattle.vbson.specs.declared.raw.RawValue.{RawValue}

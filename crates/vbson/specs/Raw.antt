@@ -6,8 +6,8 @@ use Rattle.bson_model.specs.Value.{Value, Pairs, no_pairs, pair}
 use Rattle.bson_bytes.specs.Elements.{value_length}
 use Rattle.bson_bytes.specs.Raw.{BeginsWithElements}
 use Rattle.bson_bytes.specs.declared.element.RawElement.{RawElement}
-use Rattle.bson_types.specs.Subtype.{subtype_byte}
-use Rattle.bson_types.specs.Tags.{tag_of}
+use Rattle.bson_types.specs.BinarySubtypes.{subtype_byte}
+use Rattle.bson_types.specs.ElementTags.{tag_of}
 use Rattle.bson_types.specs.declared.spec.BinarySubtype.{BinarySubtype}
 use Rattle.bson_types.specs.declared.spec.ElementType.{ElementType}
 use Rattle.vbson.specs.declared.raw.RawValue.{RawValue}

@@ -1,11 +1,11 @@
 //! Decimals, object ids and date-times: parsed from a text to bytes or an integer, and printed.
 ghost use Rattle.std.specs.Prelude.{◌≡◌, ◌≢◌, ◌⊎◌, ◌<◌, ◌≤◌, ℕ, ℤ, List, IsUtf8, length};
-ghost use Rattle.bson_decimal.specs.Text.{Parses};
-ghost use Rattle.bson_decimal.specs.Displayed.{decimal128_text as decimal_text};
-ghost use Rattle.bson_types.specs.Oid.{IsOidText, encode_lower};
-ghost use Rattle.bson_datetime.specs.Grammar.{Names};
-ghost use Rattle.bson_datetime.specs.Moment.{IsRfcMillis};
-ghost use Rattle.bson_datetime.specs.Displayed.{rfc};
+ghost use Rattle.bson_decimal.specs.DecimalStrings.{DenotesDecimal};
+ghost use Rattle.bson_decimal.specs.DecimalText.{decimal128_text as decimal_text};
+ghost use Rattle.bson_types.specs.ObjectIds.{IsOidText, encode_lower};
+ghost use Rattle.bson_datetime.specs.Rfc3339Grammar.{DenotesDateTime};
+ghost use Rattle.bson_datetime.specs.CivilTime.{IsRfc3339Millis};
+ghost use Rattle.bson_datetime.specs.DateTimeText.{rfc3339_text};
 ghost use Rattle.vbson.specs.Buffer.{DoesNotFit, IsPut};
 
 use crate::buffer::put;
@@ -17,11 +17,11 @@ use std::alloc::Global;
 use std::str;
 use std::str::FromStr;
 
-/// Parses a decimal to its 16 bytes, the lowest first. No value is rounded.
+/// DenotesDecimal a decimal to its 16 bytes, the lowest first. No value is rounded.
 #[unsafe(no_mangle)]
 pub extern "C" fn vbson_decimal128_parse(text: &[u8], out: &mut [u8; 16]) -> u32
-    ensures done { result ≡ 0 → Parses text.now out.new }
-    ensures no_such_text { result ≡ 6 → IsUtf8 text.now → (b : List ℕ) → ¬ (Parses text.now b) }
+    ensures done { result ≡ 0 → DenotesDecimal text.now out.new }
+    ensures no_such_text { result ≡ 6 → IsUtf8 text.now → (b : List ℕ) → ¬ (DenotesDecimal text.now b) }
     ensures listed { (result ≡ 0) ⊎ (result ≡ 6) }
     ensures kept { 0 < result → out.new ≡ out.old }
 {
@@ -57,7 +57,7 @@ pub extern "C" fn vbson_decimal128_print(
     }
 }
 
-/// Parses an object id from 24 hexadecimal digits of either case to its 12 bytes.
+/// DenotesDecimal an object id from 24 hexadecimal digits of either case to its 12 bytes.
 #[unsafe(no_mangle)]
 pub extern "C" fn vbson_object_id_parse(text: &[u8], out: &mut [u8; 12]) -> u32
     ensures done { result ≡ 0 → IsOidText text.now out.new }
@@ -89,11 +89,11 @@ pub extern "C" fn vbson_object_id_print(bytes: &[u8; 12], buffer: &mut [u8], len
     }
 }
 
-/// Parses a date-time of RFC 3339 (section 5.6) to milliseconds since 1970-01-01T00:00:00Z.
+/// DenotesDecimal a date-time of RFC 3339 (section 5.6) to milliseconds since 1970-01-01T00:00:00Z.
 #[unsafe(no_mangle)]
 pub extern "C" fn vbson_date_time_parse(text: &[u8], out: &mut i64) -> u32
-    ensures done { result ≡ 0 → Names text.now out.new }
-    ensures no_such_text { result ≡ 6 → IsUtf8 text.now → (ms : ℤ) → ¬ (Names text.now ms) }
+    ensures done { result ≡ 0 → DenotesDateTime text.now out.new }
+    ensures no_such_text { result ≡ 6 → IsUtf8 text.now → (ms : ℤ) → ¬ (DenotesDateTime text.now ms) }
     ensures listed { (result ≡ 0) ⊎ (result ≡ 6) }
     ensures kept { 0 < result → out.new ≡ out.old }
 {
@@ -118,11 +118,11 @@ pub extern "C" fn vbson_date_time_print(
     buffer: &mut [u8],
     len: &mut usize,
 ) -> u32
-    ensures done { result ≡ 0 → IsPut (rfc millis) buffer.old buffer.new len.new }
-    ensures too_small { result ≡ 8 → DoesNotFit (rfc millis) buffer.old buffer.new len.new }
+    ensures done { result ≡ 0 → IsPut (rfc3339_text millis) buffer.old buffer.new len.new }
+    ensures too_small { result ≡ 8 → DoesNotFit (rfc3339_text millis) buffer.old buffer.new len.new }
     ensures fits { 24 ≤ length buffer.old → result ≢ 8 }
-    ensures no_text { result ≡ 7 → ¬ (IsRfcMillis millis) }
-    ensures in_years { (result ≡ 0) ⊎ (result ≡ 8) → IsRfcMillis millis }
+    ensures no_text { result ≡ 7 → ¬ (IsRfc3339Millis millis) }
+    ensures in_years { (result ≡ 0) ⊎ (result ≡ 8) → IsRfc3339Millis millis }
     ensures listed { (result ≡ 0) ⊎ (result ≡ 5) ⊎ (result ≡ 7) ⊎ (result ≡ 8) }
     ensures kept { (result ≡ 5) ⊎ (result ≡ 7) → (buffer.new ≡ buffer.old) × (len.new ≡ len.old) }
 {

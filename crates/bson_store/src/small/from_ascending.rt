@@ -1,6 +1,6 @@
 //! Makes a store from pairs in ascending key order, without moving them.
 ghost use Rattle.std.specs.Prelude.{◌≡◌, IsOk, IfOk, IfErr};
-ghost use Rattle.bson_store.specs.Small.{stored_pairs, HasAscendingKeys};
+ghost use Rattle.bson_store.specs.KeyIndex.{stored_pairs, HasAscendingKeys};
 
 use crate::small::{Pair, SmallPairs};
 
@@ -23,7 +23,7 @@ impl<V: Drop> SmallPairs<V> {
         pairs.shrink_to_fit();
         Ok(SmallPairs {
             pairs,
-            places: None,
+            positions: None,
         })
     }
 }

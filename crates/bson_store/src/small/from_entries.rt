@@ -1,12 +1,12 @@
 //! Makes a store from pairs in any order. Without a duplicate key, they are not moved.
 ghost use Rattle.std.specs.Prelude.{◌≡◌, ◌<◌, [], length, IfOk};
-ghost use Rattle.bson_store.specs.Pairs.{put_pairs};
-ghost use Rattle.bson_store.specs.Small.{stored_pairs};
+ghost use Rattle.bson_store.specs.Pairs.{insert_pairs};
+ghost use Rattle.bson_store.specs.KeyIndex.{stored_pairs};
 
 use crate::by_key::put;
-use crate::places::{FEW, Index};
+use crate::key_index::{MAX_UNINDEXED, Index};
 use crate::small::{Pair, SmallPairs};
-use crate::sorted::sorted_places;
+use crate::sorted_index::sorted_positions;
 use std::alloc::{AllocError, Global};
 
 impl<V: Drop> SmallPairs<V> {
@@ -14,7 +14,7 @@ impl<V: Drop> SmallPairs<V> {
     /// value wins, at its first position.
     ///
     /// Pairs in ascending key order become the store without a copy, in the memory that they have.
-    /// More than sixteen pairs without a duplicate key do too: their places are sorted, and no key
+    /// More than sixteen pairs without a duplicate key do too: their positions are sorted, and no key
     /// is copied.
     ///
     /// # Errors
@@ -30,34 +30,34 @@ impl<V: Drop> SmallPairs<V> {
     /// println!(rt; "{:?}", SmallPairs::from_entries(alloc, pairs)?.find("a"))?; // Some(0)
     /// ```
     pub fn from_entries(alloc: Global, pairs: Vec<Pair<V>>) -> Result<SmallPairs<V>, AllocError>
-        ensures { IfOk result (λ store. store ≡ put_pairs (stored_pairs pairs.items) []) }
+        ensures { IfOk result (λ store. store ≡ insert_pairs (stored_pairs pairs.items) []) }
     {
         match SmallPairs::try_from_ascending(pairs) {
             Ok(store) => Ok(store),
-            Err(pairs) if pairs.len() <= FEW => in_turn(alloc, pairs),
-            Err(pairs) => of_many(alloc, pairs),
+            Err(pairs) if pairs.len() <= MAX_UNINDEXED => insert_each(alloc, pairs),
+            Err(pairs) => from_many(alloc, pairs),
         }
     }
 }
 
-fn of_many<V: Drop>(alloc: Global, mut pairs: Vec<Pair<V>>) -> Result<SmallPairs<V>, AllocError>
+fn from_many<V: Drop>(alloc: Global, mut pairs: Vec<Pair<V>>) -> Result<SmallPairs<V>, AllocError>
     requires { 16 < length (stored_pairs pairs.items) }
-    ensures { IfOk result (λ store. store ≡ put_pairs (stored_pairs pairs.items) []) }
+    ensures { IfOk result (λ store. store ≡ insert_pairs (stored_pairs pairs.items) []) }
 {
-    let Some(places) = sorted_places(alloc, &pairs)? else {
-        return in_turn(alloc, pairs);
+    let Some(positions) = sorted_positions(alloc, &pairs)? else {
+        return insert_each(alloc, pairs);
     };
     pairs.shrink_to_fit();
-    let index = Box::new(alloc, Index::Sorted(places))?;
+    let index = Box::new(alloc, Index::Sorted(positions))?;
     Ok(SmallPairs {
         pairs,
-        places: Some(index),
+        positions: Some(index),
     })
 }
 
 // Inserts one pair after another. Each key is looked up.
-fn in_turn<V: Drop>(alloc: Global, pairs: Vec<Pair<V>>) -> Result<SmallPairs<V>, AllocError>
-    ensures { IfOk result (λ store. store ≡ put_pairs (stored_pairs pairs.items) []) }
+fn insert_each<V: Drop>(alloc: Global, pairs: Vec<Pair<V>>) -> Result<SmallPairs<V>, AllocError>
+    ensures { IfOk result (λ store. store ≡ insert_pairs (stored_pairs pairs.items) []) }
 {
     let mut store = SmallPairs::with_capacity(alloc, pairs.len())?;
     'pairs: for Pair { key, value } in pairs {

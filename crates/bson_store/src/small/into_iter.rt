@@ -4,7 +4,7 @@ ghost use Rattle.std.specs.Iterator.{at_most};
 ghost use Rattle.std.specs.Map.Iter.{TakesFirst};
 ghost use Rattle.std.specs.Vec.Iter.{into_iter_items};
 ghost use Rattle.bson_store.specs.Pairs.{pairs_code};
-ghost use Rattle.bson_store.specs.Small.{stored_pairs};
+ghost use Rattle.bson_store.specs.KeyIndex.{stored_pairs};
 
 use crate::small::Pair;
 use std::marker::Model;
@@ -16,8 +16,8 @@ use std::vec;
 /// Where `pairs` holds a 1 and b 2:
 ///
 /// ```
-/// let mut left = pairs.into_pairs();
-/// println!(rt; "{:?} {:?}", left.next(), left.next())?; // Some(("a", 1)) Some(("b", 2))
+/// let mut remaining_pairs = pairs.into_pairs();
+/// println!(rt; "{:?} {:?}", remaining_pairs.next(), remaining_pairs.next())?; // Some(("a", 1)) Some(("b", 2))
 /// ```
 #[derive(Drop)]
 pub struct IntoIter<V> {

@@ -3,15 +3,15 @@ ghost use Rattle.std.specs.Prelude.{◌≡◌, ◌<◌, ℕ, List, length, slice
 ghost use Rattle.std.specs.Prelude.{string_bytes, IfSome};
 ghost use Rattle.std.specs.Iterator.{at_most};
 ghost use Rattle.std.specs.Map.Iter.{TakesFirst};
-ghost use Rattle.bson_store.specs.Order.{in_order, IsLeast};
+ghost use Rattle.bson_store.specs.AscendingOrder.{sorted_by_key, IsLeastKeyAbove};
 ghost use Rattle.bson_store.specs.Pairs.{HasDistinctKeys};
-ghost use Rattle.bson_store.specs.Small.{stored_pairs, IsIndexed};
-ghost use Rattle.bson_store.specs.Walks.{left, IsWithin, GoesByKey, TakesPlace};
+ghost use Rattle.bson_store.specs.KeyIndex.{stored_pairs, StoreInvariant};
+ghost use Rattle.bson_store.specs.Cursors.{remaining_pairs, IsCursorInBounds, IsCursorByKey, IsCursorStep};
 
-use crate::ascending::ascends;
+use crate::ascending_keys::ascends;
 use crate::order::next_above;
 use crate::pair_store::PairStore;
-use crate::places::{FEW, Index};
+use crate::key_index::{MAX_UNINDEXED, Index};
 use crate::small::{Pair, SmallPairs};
 use std::collections::btree_map::Values;
 use std::marker::Model;
@@ -23,23 +23,23 @@ use std::slice;
 /// Where `pairs` holds a 1 and b 2:
 ///
 /// ```
-/// let mut left = pairs.by_key();
-/// println!(rt; "{:?} {:?}", left.next(), left.next())?; // Some(("a", 1)) Some(("b", 2))
+/// let mut remaining_pairs = pairs.by_key();
+/// println!(rt; "{:?} {:?}", remaining_pairs.next(), remaining_pairs.next())?; // Some(("a", 1)) Some(("b", 2))
 /// ```
 #[derive(Drop)]
 pub struct Iter<'a, V> {
     pairs: &'a SmallPairs<V>,
-    turn: Cursor<'a>,
+    cursor: Cursor<'a>,
 }
 
 // Which pairs remain.
 #[derive(Drop)]
 enum Cursor<'a> {
-    // The pairs from this place on, in the order of the store.
+    // The pairs from this position on, in the order of the store.
     From(usize),
-    // The pairs at these places, of the sorted index.
+    // The pairs at these positions, of the sorted index.
     Sorted(slice::Iter<'a, usize>),
-    // The pairs at the places of the map, in ascending key order.
+    // The pairs at the positions of the map, in ascending key order.
     Mapped(Values<'a, String, usize>),
     // The pairs whose keys are above the last one, in ascending key order.
     Above(Option<&'a String>),
@@ -49,9 +49,9 @@ enum Cursor<'a> {
 impl<'a, V> Model for Iter<'a, V> {
     ghost Value = { List (List ℕ × V) };
 
-    ghost view = { λ a. left a.turn a.pairs.now };
+    ghost view = { λ a. remaining_pairs a.cursor a.pairs.now };
 
-    ghost invariant = { λ a. IsWithin a.turn a.pairs.now };
+    ghost invariant = { λ a. IsCursorInBounds a.cursor a.pairs.now };
 }
 
 impl<V: Drop> SmallPairs<V> {
@@ -64,7 +64,7 @@ impl<V: Drop> SmallPairs<V> {
         let _ = &self.pairs;
         Iter {
             pairs: self,
-            turn: Cursor::From(0),
+            cursor: Cursor::From(0),
         }
     }
 
@@ -73,24 +73,24 @@ impl<V: Drop> SmallPairs<V> {
     /// The iterator allocates no memory. It uses the index, or goes from pair to pair if the keys
     /// ascend. Up to sixteen pairs whose keys do not ascend are searched for each next key.
     pub fn by_key(&self) -> Iter<'_, V>
-        ensures pairs { result ≡ in_order self.now }
+        ensures pairs { result ≡ sorted_by_key self.now }
         ensures distinct { HasDistinctKeys self.now }
     {
-        let turn = turn_by_key(&self.pairs, &self.places);
-        Iter { pairs: self, turn }
+        let cursor = cursor_by_key(&self.pairs, &self.positions);
+        Iter { pairs: self, cursor }
     }
 }
 
-fn turn_by_key<'a, V>(pairs: &Vec<Pair<V>>, places: &'a Option<Box<Index>>) -> Cursor<'a>
-    requires { IsIndexed (stored_pairs pairs.now.items) places.now }
-    ensures { GoesByKey result (stored_pairs pairs.now.items) }
+fn cursor_by_key<'a, V>(pairs: &Vec<Pair<V>>, positions: &'a Option<Box<Index>>) -> Cursor<'a>
+    requires { StoreInvariant (stored_pairs pairs.now.items) positions.now }
+    ensures { IsCursorByKey result (stored_pairs pairs.now.items) }
 {
-    match places {
+    match positions {
         Some(index) => match &**index {
-            Index::Sorted(places) => Cursor::Sorted(places.iter()),
+            Index::Sorted(positions) => Cursor::Sorted(positions.iter()),
             Index::Map(map) => Cursor::Mapped(map.values()),
         },
-        None if pairs.len() > FEW || ascends(pairs) => Cursor::From(0),
+        None if pairs.len() > MAX_UNINDEXED || ascends(pairs) => Cursor::From(0),
         None => Cursor::Above(None),
     }
 }
@@ -103,17 +103,17 @@ impl<'a, V: Drop> Iterator for Iter<'a, V> {
     ghost remaining = { λ s. at_most (length s) };
 
     fn next(&mut self) -> Option<(&'a String, &'a V)> {
-        let at = next_place(self.pairs, &mut self.turn)?;
+        let at = next_position(self.pairs, &mut self.cursor)?;
         Some((self.pairs.key_at(at), self.pairs.value_at(at)))
     }
 }
 
-// The place of the next pair.
-fn next_place<'a, V: Drop>(pairs: &'a SmallPairs<V>, turn: &mut Cursor<'a>) -> Option<usize>
-    requires { IsWithin turn.old pairs.now }
-    ensures { TakesPlace pairs.now turn.old result turn.new }
+// The position of the next pair.
+fn next_position<'a, V: Drop>(pairs: &'a SmallPairs<V>, cursor: &mut Cursor<'a>) -> Option<usize>
+    requires { IsCursorInBounds cursor.old pairs.now }
+    ensures { IsCursorStep pairs.now cursor.old result cursor.new }
 {
-    match turn {
+    match cursor {
         Cursor::From(at) => {
             if *at == pairs.len() {
                 return None;
@@ -121,20 +121,20 @@ fn next_place<'a, V: Drop>(pairs: &'a SmallPairs<V>, turn: &mut Cursor<'a>) -> O
             *at += 1;
             Some(*at - 1)
         }
-        Cursor::Sorted(places) => places.next().copied(),
-        Cursor::Mapped(places) => places.next().copied(),
+        Cursor::Sorted(positions) => positions.next().copied(),
+        Cursor::Mapped(positions) => positions.next().copied(),
         Cursor::Above(last) => {
-            let at = next_by_walk(pairs, *last)?;
+            let at = next_by_scan(pairs, *last)?;
             *last = Some(pairs.key_at(at));
             Some(at)
         }
     }
 }
 
-// The place of the least key above the last one, or of the least key of all. Compares each pair.
-fn next_by_walk<V: Drop>(pairs: &SmallPairs<V>, last: Option<&String>) -> Option<usize>
+// The position of the least key above the last one, or of the least key of all. Compares each pair.
+fn next_by_scan<V: Drop>(pairs: &SmallPairs<V>, last: Option<&String>) -> Option<usize>
     ensures in_bounds { IfSome result (λ i. i < length pairs.now) }
-    ensures least { IsLeast (option_map (λ s. string_bytes s.now) last.entry) pairs.now
+    ensures least { IsLeastKeyAbove (option_map (λ s. string_bytes s.now) last.entry) pairs.now
         (option_and_then (slice_get pairs.now) result) }
 {
     match last {

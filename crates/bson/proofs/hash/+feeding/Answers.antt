@@ -1,7 +1,7 @@
 use Rattle.std.proofs.Common.{string_bytes, ◌≡◌, ◌∙◌, sym, ap, subst, length, drop, fold, arith}
 use Rattle.std.proofs.Common.{[]}
 use Rattle.std.proofs.lemmas.List.{drop_all}
-use Rattle.bson_store.specs.Order.{in_order}
+use Rattle.bson_store.specs.AscendingOrder.{sorted_by_key}
 use Rattle.bson_model.specs.Feed.{feed as words_of}
 use Rattle.bson_model.specs.Value.{document, array}
 use Rattle.bson.specs.View.{values_view, pairs_view}
@@ -45,7 +45,7 @@ feed_pairs-pairs-preserved g t c =
     let next = c.in-Some.ensures.steps in
     record {
       fed = feeds_pair g.H.Hasher.write c.write_usize.new.self at.state c.hash.new.state c.feed.new.state
-          (in_order ps) _ _ k v next c.hash.ensures c.feed.ensures at.invariant.fed;
+          (sorted_by_key ps) _ _ k v next c.hash.ensures c.feed.ensures at.invariant.fed;
       larger = rest_larger c.args.document.now _ c.next.new.self k v next at.invariant.larger;
     }
 
@@ -53,7 +53,7 @@ pub feed_pairs-returns : goal.feed_pairs-returns
 feed_pairs-returns g t c =
     let ps = c.args.document.now.pairs in
     let none = c.in-None.ensures.steps.0 in
-    feeds_all g.H.Hasher.write c.args.state.now c.write_usize.new.self c.pairs.state (turn_words (in_order ps))
+    feeds_all g.H.Hasher.write c.args.state.now c.write_usize.new.self c.pairs.state (turn_words (sorted_by_key ps))
     c.len.result (length ps) (words_of (document (pairs_view ps))) c.write_usize.ensures c.len.ensures.len
     (c.pairs.invariant.fed ∙ ap (λ es. fold g.H.Hasher.write c.pairs.state (turn_words es)) none)
     (document_words ps c.len.ensures.distinct)

@@ -5,7 +5,7 @@ use Rattle.std.proofs.lemmas.Int.{to_z_pos}
 use Rattle.jiff.proofs.SpanFacts.{signed_arith}
 use Rattle.jiff.specs.Types.{Date}
 use Rattle.jiff.specs.Words.{days_in_month, epoch_day}
-use Rattle.bson_datetime.specs.Rfc3339.{day_number}
+use Rattle.bson_datetime.specs.Rfc3339Parser.{day_number}
 use Rattle.bson_datetime.proofs.rfc3339.day_number.Goals as goal
 
 -- the day number of jiff's date with these parts

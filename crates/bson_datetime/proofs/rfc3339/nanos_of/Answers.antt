@@ -4,7 +4,7 @@ use Rattle.std.specs.Int.{w128}
 use Rattle.std.proofs.lemmas.Int.{to_z_pos}
 use Rattle.jiff.proofs.SpanFacts.{signed_arith}
 use Rattle.jiff.specs.Words.{IsEpochDay, IsWithin}
-use Rattle.bson_datetime.specs.Rfc3339.{nanos_of}
+use Rattle.bson_datetime.specs.Rfc3339Parser.{nanos_of}
 use Rattle.bson_datetime.proofs.rfc3339.nanos_of.Goals as goal
 
 -- no step of the sum wraps

@@ -15,16 +15,16 @@ digits-preserved c =
     let j = 9 - (l.digit-index + 1) in
     let next : 9 - l.digit-index ≡ suc j = omega arith in
     let power = 10 ^ j in
-    let place : l.place / 10 ≡ power = omega (arith, tenth _ j next) in
+    let place_value : l.place_value / 10 ≡ power = omega (arith, tenth _ j next) in
     let i = l.digit-index in
     let within : i < c.min.result = omega (arith, length-take c.min.result c.args.digits.now) in
     let read : get_or ds i 0 ≡ get_or c.args.digits.now i 0 = get_or-take _ _ i 0 within in
     let digit : get_or ds i 0 - 48 ≤ 9 =
     omega (arith, c.requires i (omega (arith, length-take c.min.result c.args.digits.now))) in
-    let worth : (get_or ds i 0 - 48) * (l.place / 10) ≤ 9 * (l.place / 10) = mul-le-mul_right _ digit in
+    let worth : (get_or ds i 0 - 48) * (l.place_value / 10) ≤ 9 * (l.place_value / 10) = mul-le-mul_right _ digit in
     let step = fraction_value-drop _ j ds l.digit-index next c.digits-test.true in
-    let same : (get_or ds i 0 - 48) * (l.place / 10) ≡ (get_or ds l.digit-index 0 - 48) * power = rw place in
-    (place, omega arith, short, omega arith)
+    let same : (get_or ds i 0 - 48) * (l.place_value / 10) ≡ (get_or ds l.digit-index 0 - 48) * power = rw place_value in
+    (place_value, omega arith, short, omega arith)
 
 pub returns-clause-value : goal.returns-clause-value
 returns-clause-value c =

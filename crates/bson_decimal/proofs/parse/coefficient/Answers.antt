@@ -1,5 +1,5 @@
 use Rattle.std.proofs.Common.{arith, rules}
-use Rattle.bson_decimal.specs.Steps.{coefficient}
+use Rattle.bson_decimal.specs.ParseSteps.{coefficient}
 use Rattle.bson_decimal.proofs.Tens.{tens-le}
 use Rattle.bson_decimal.proofs.DigitTests.{test-false, test-from_AllDigits, scaled-lt}
 use Rattle.bson_decimal.proofs.parse.coefficient.Goals as goal

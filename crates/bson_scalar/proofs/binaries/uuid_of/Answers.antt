@@ -1,5 +1,5 @@
 use Rattle.std.proofs.Common.{◌≡◌, List, ℕ, Option, Some, None, refl, sym, arith}
-use Rattle.bson_types.specs.Orders.{parsed_hyphenated}
+use Rattle.bson_types.specs.UuidByteOrder.{parsed_hyphenated}
 use Rattle.bson_types.specs.Uuid.{hyphenated}
 use Rattle.bson_types.proofs.Offered.{hyphenated_from, hyphenated_to, long_is_hyphenated}
 use Rattle.bson_scalar.proofs.binaries.uuid_of.Goals as goal

@@ -1,5 +1,5 @@
 use Rattle.std.proofs.Common.{◌≡◌, IsUtf8, rules, subst, sym}
-use Rattle.bson_types.specs.Oid.{encode_lower}
+use Rattle.bson_types.specs.ObjectIds.{encode_lower}
 use Rattle.vbson.proofs.Utf8.{digits_utf8}
 use Rattle.vbson.proofs.scalars.vbson_object_id_print.Goals as goal
 

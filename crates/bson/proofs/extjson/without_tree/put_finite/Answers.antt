@@ -1,5 +1,5 @@
 use Rattle.std.proofs.Common.{sym, subst}
-use Rattle.bson_double.specs.Text.{IsDoubleText}
+use Rattle.bson_double.specs.DoubleText.{IsDoubleText}
 use Rattle.bson_scalar.proofs.Offered.{on_ok}
 use Rattle.bson.proofs.extjson.without_tree.put_finite.Goals as goal
 

@@ -1,6 +1,6 @@
 use Rattle.std.proofs.Common.{◌≡◌, ◌+◌, drop}
 use Rattle.std.specs.List.{prefix_len}
-use Rattle.bson_decimal.specs.Numeral.{is_zero}
+use Rattle.bson_decimal.specs.NumeralGrammar.{is_zero}
 use Rattle.bson_decimal.proofs.digits.Digits.zeros_after.Given as goal
 
 abbrev pub invariant-loop-i : goal.invariant-loop-i

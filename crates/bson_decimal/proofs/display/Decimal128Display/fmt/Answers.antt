@@ -2,8 +2,8 @@ use Rattle.std.proofs.Common.{arith, ◌≡◌, ◌++◌, List, ℕ, ap, subst, 
 use Rattle.std.proofs.lemmas.Fmt.{IsAscii-decimal_wide}
 use Rattle.std.proofs.lemmas.Str.{IsUtf8-from_ascii}
 use Rattle.std.specs.Fmt.{decimal, sign_text, HasWritten}
-use Rattle.bson_decimal.specs.Exponents.{exponent_at}
-use Rattle.bson_decimal.specs.Displayed.{meaning_text, finite_text, decimal128_text}
+use Rattle.bson_decimal.specs.Exponents.{unbiased_exponent}
+use Rattle.bson_decimal.specs.DecimalText.{meaning_text, finite_text, decimal128_text}
 use Rattle.bson_decimal.proofs.display.Decimal128Display.fmt.Goals as goal
 
 pub write_signed-requires-clause-ascii : goal.write_signed-requires-clause-ascii
@@ -22,7 +22,7 @@ returns-in-Ok-clause-writes g c =
     ∙ take_all _ (drop w.result w.new.buffer) (omega (arith, length-drop w.result w.new.buffer))
     ∙ w.ensures.written in
     let is : sign_text c.in-Finite.negative ++ finite_text (decimal c.in-Finite.coefficient)
-    (exponent_at c.in-Finite.stored_exponent) ≡ decimal128_text c.args.self.now =
+    (unbiased_exponent c.in-Finite.stored_exponent) ≡ decimal128_text c.args.self.now =
     ap meaning_text c.in-Finite.ensures in
     λ plain ok. subst (λ (t : List ℕ). HasWritten g.W.Write.write_str_gives c.args.f.now t c.write_signed.new.f) is
     (rw text at (c.write_signed.ensures plain ok))

@@ -1,5 +1,5 @@
 use Rattle.std.proofs.Common.{sym, ◌∙◌}
-use Rattle.bson_store.specs.Small.{stored_pairs}
+use Rattle.bson_store.specs.KeyIndex.{stored_pairs}
 use Rattle.bson_store.proofs.Adjacent.{distinct_from}
 use Rattle.bson_store.proofs.PutInTurn.{put_distinct}
 use Rattle.bson_store.proofs.small.SmallPairs.from_entries.Goals as goal

@@ -1,7 +1,7 @@
 use Rattle.std.proofs.Common.{◌≡◌, false, true, subst, rules}
 use Rattle.std.proofs.lemmas.Bool.{MatchBool-at_true, MatchBool-at_false}
 use Rattle.std.proofs.lemmas.List.Sorted.{answers_always}
-use Rattle.bson_store.specs.Small.{stored_pairs, HasAscendingKeys}
+use Rattle.bson_store.specs.KeyIndex.{stored_pairs, HasAscendingKeys}
 use Rattle.bson_store.proofs.Adjacent.{is_below, ascend_from, not_ascending, distinct_from}
 use Rattle.bson_store.proofs.small.SmallPairs.try_from_ascending.Goals as goal
 

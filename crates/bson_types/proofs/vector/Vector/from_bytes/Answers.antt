@@ -1,12 +1,12 @@
 use Rattle.std.proofs.Common.{◌&&◌, ap, inr}
-use Rattle.bson_types.specs.Vectors.{has_zero_bits}
+use Rattle.bson_types.specs.VectorBytes.{has_zero_ignored_bits}
 use Rattle.bson_types.proofs.VectorLaws.{only_one-read, parts, short}
 use Rattle.bson_types.proofs.VectorMeaning.{vector_meaning}
 use Rattle.bson_types.proofs.vector.Vector.from_bytes.Goals as goal
 
 pub returns-in_default-clause-refused : goal.returns-in_default-clause-refused
 returns-in_default-clause-refused c =
-    inr (tt, ap (λ b. b && has_zero_bits c.args.bytes.now) (short c.args.bytes.now c.in_default.len_below))
+    inr (tt, ap (λ b. b && has_zero_ignored_bits c.args.bytes.now) (short c.args.bytes.now c.in_default.len_below))
 
 pub returns-in-len2-up-clause-only : goal.returns-in-len2-up-clause-only
 returns-in-len2-up-clause-only c =

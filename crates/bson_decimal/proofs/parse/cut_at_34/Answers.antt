@@ -1,5 +1,0 @@
-use Rattle.std.proofs.Common.{arith, ap, length, length-take}
-use Rattle.bson_decimal.proofs.parse.cut_at_34.Goals as goal
-
-pub returns-clause-short : goal.returns-clause-short
-returns-clause-short c = omega (arith, ap length c.first.ensures, length-take 34 c.args.digits)

@@ -1,0 +1,46 @@
+-- How a decimal is printed: the scientific form of IEEE 754-2008, section 5.12, in the form of the BSON specification
+-- of decimal128.
+use Rattle.std.specs.Prelude.{ℕ, ◌-◌, ◌&&◌, ℤ, pos, neg_ℤ, ◌+ℤ◌, ◌-ℤ◌, int_lt, int_le, unsigned_abs, List, [], ◌++◌}
+use Rattle.std.specs.Prelude.{length, take, drop, replicate, codes, nat_lt, ◌==◌, if◌then◌else◌}
+use Rattle.std.specs.Fmt.{decimal, signed_decimal, sign_text}
+use Rattle.bson_decimal.specs.declared.bits.Decoded.{Decoded}
+use Rattle.bson_decimal.specs.declared.bits.Decoded.TheVariants.{Nan, Infinity, Finite}
+use Rattle.bson_decimal.specs.Exponents.{unbiased_exponent}
+use Rattle.bson_decimal.specs.DecimalBits.{decoded_decimal}
+
+-- the digits with a point before the last `places` of them, or after `0.` and zeros if there are no more
+abbrev pub plain_text : List ℕ → ℕ → List ℕ
+plain_text digits places =
+    if places == 0 then digits
+    else (if nat_lt places (length digits) then take (length digits - places) digits ++ (codes "." ++ drop (length digits - places) digits)
+    else codes "0." ++ (replicate (places - length digits) 48 ++ digits))
+
+-- an exponent with its sign, `+` if it is above 0
+abbrev pub power_text : ℤ → List ℕ
+power_text exponent = if int_lt (pos 0) exponent then codes "+" ++ signed_decimal exponent else signed_decimal exponent
+
+-- the exponent of the first digit, from that of the last
+abbrev pub scientific_exponent : List ℕ → ℤ → ℤ
+scientific_exponent digits exponent = exponent +ℤ pos (length digits) -ℤ pos 1
+
+-- the first digit, a point and the other digits if there are any, and the exponent of the first digit
+abbrev pub scientific_text : List ℕ → ℤ → List ℕ
+scientific_text digits first =
+    take 1 digits ++ ((if length digits == 1 then [] else codes "." ++ drop 1 digits) ++ (codes "E" ++ power_text first))
+
+-- plain if the exponent is at most 0 and the exponent of the first digit at least -6
+abbrev pub finite_text : List ℕ → ℤ → List ℕ
+finite_text digits exponent =
+    if int_le exponent (pos 0) && int_le (neg_ℤ (pos 6)) (scientific_exponent digits exponent)
+    then plain_text digits (unsigned_abs exponent)
+    else scientific_text digits (scientific_exponent digits exponent)
+
+-- a NaN has neither a sign nor a mark that it signals
+abbrev pub meaning_text : Decoded → List ℕ
+meaning_text (Nan negative signalling) = codes "NaN"
+meaning_text (Infinity negative) = sign_text negative ++ codes "Infinity"
+meaning_text (Finite negative coefficient stored) = sign_text negative ++ finite_text (decimal coefficient) (unbiased_exponent stored)
+
+-- the string of the decimal of 16 bytes
+unfoldable pub decimal128_text : List ℕ → List ℕ
+decimal128_text bytes = meaning_text (decoded_decimal bytes)
