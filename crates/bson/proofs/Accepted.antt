@@ -6,7 +6,7 @@ use Rattle.serde_json.specs.Read.{read}
 use Rattle.bson_scalar.specs.declared.form.Doubles.{Doubles}
 use Rattle.bson_model.specs.Means.{MeansIn}
 use Rattle.bson_model.specs.Normal.{InRange}
-use Rattle.bson_model.specs.Texts.{ComesBackIn}
+use Rattle.bson_model.specs.Texts.{ValueRoundTripsIn}
 use Rattle.bson_model.specs.Value.{Value}
 use Rattle.bson_model.proofs.Offered.{in_range_in, read_comes_back_in, read_tree}
 use Rattle.bson.specs.TextMeaning.{IsTextOf, HasTextMeaningIn, IsTextFaultIn}
@@ -31,7 +31,7 @@ module _ (D : Doubles) where
   accepted bytes (Err e) f t v is m = memory_alone bytes t v is m e f
 
   pub came_back : {X E : Type 0} (see : X → Value) (bytes : List ℕ) (r : Result X E)
-      → IfOk r (λ x. HasTextMeaningIn D bytes (see x)) → IfOk r (λ x. ComesBackIn D (see x))
+      → IfOk r (λ x. HasTextMeaningIn D bytes (see x)) → IfOk r (λ x. ValueRoundTripsIn D (see x))
   came_back see bytes (Ok x) h = read_comes_back_in D h.tree (see x) (read_tree bytes h.tree h.text.tree_read)
       h.meaning.means
   came_back see bytes (Err e) h = tt

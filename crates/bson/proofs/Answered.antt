@@ -1,6 +1,6 @@
 -- What the walk answers, as a reader of values gives it.
 use Rattle.std.proofs.Common.{◌≡◌, List, Result, Ok, Err, sym, ap, ◌∙◌, subst}
-use Rattle.bson_scalar.specs.Faults.{Fault, Fails, IsIdFault}
+use Rattle.bson_scalar.specs.Faults.{Fault, IsReadError, IsIdFault}
 use Rattle.bson_scalar.specs.declared.error.Error.{Error}
 use Rattle.bson_scalar.specs.declared.error.Error.TheVariants.{InvalidObjectId, DeserializationError, OutOfMemory}
 use Rattle.bson_tree.specs.Built.{Builds}
@@ -11,7 +11,7 @@ use Rattle.bson_tree.specs.declared.place.Reason.TheVariants.{BadObjectId, Wrong
 use Rattle.bson.specs.Refused.{IsErrorOf}
 
 fails : {Y : Type 0} (read : Result Y Fault) (f : Fault) (reason : Reason) (e : Error) → IsErrorOf reason e
-    → IsReason f reason → read ≡ Err f → Fails e read
+    → IsReason f reason → read ≡ Err f → IsReadError e read
 fails read f (BadObjectId id) (InvalidObjectId d) is reported h =
     (reported.0, h ∙ ap Err reported.1, subst (IsIdFault reported.0) (sym is) reported.2)
 fails read f (BadObjectId id) (DeserializationError m) is reported h = absurd is
@@ -29,7 +29,7 @@ module _ {X Y : Type 0} (see : X → Y) (InRange : X → Type 0) (read : Result 
       (built.1 ∙ ap Ok (sym built.2.0), built.2.1)
 
   pub fault_given : (place : Place) (e : Error) → answer ≡ Err place → IsErrorOf place.reason e
-      → ((f : Fault) (path : List PathSegment) → lies f path → read ≡ Err f) → Fails e read
+      → ((f : Fault) (path : List PathSegment) → lies f path → read ≡ Err f) → IsReadError e read
   fault_given place e is error to =
       let at = subst (Builds (λ x y. (see x ≡ y) × InRange x) read lies) is h in
       fails read at.fault place.reason e error at.reason (to at.fault (path_of place) at.path)

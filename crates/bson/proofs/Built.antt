@@ -5,11 +5,11 @@ use Rattle.std.specs.Str.{bytes_eq}
 use Rattle.bson_store.specs.Pairs.{position_of}
 use Rattle.bson_model.specs.Value.{Value, Values, value, Pairs, pair, value_at_key}
 use Rattle.bson_model.specs.Normal.{InRange, ItemsInRange, PairsInRange}
-use Rattle.bson_tree.specs.Built.{then_value, then_pair}
+use Rattle.bson_tree.specs.Built.{push_value, push_pair}
 use Rattle.bson.specs.View.{bson_view, values_view, pairs_view}
 use Rattle.bson.specs.declared.bson.Bson.{Bson}
 
-values_snoc : (bs : List Bson) (b : Bson) → values_view (bs ++ b ∷ []) ≡ then_value (values_view bs) (bson_view b)
+values_snoc : (bs : List Bson) (b : Bson) → values_view (bs ++ b ∷ []) ≡ push_value (values_view bs) (bson_view b)
 values_snoc [] b = refl
 values_snoc (c ∷ bs) b = ap (value (bson_view c)) (values_snoc bs b)
 
@@ -19,7 +19,7 @@ values_in_range [] b h r = (r, tt)
 values_in_range (c ∷ bs) b h r = (h.0, values_in_range bs b h.1 r)
 
 pairs_snoc : (ps : List (List ℕ × Bson)) (k : List ℕ) (b : Bson)
-    → pairs_view (ps ++ (k, b) ∷ []) ≡ then_pair (pairs_view ps) k (bson_view b)
+    → pairs_view (ps ++ (k, b) ∷ []) ≡ push_pair (pairs_view ps) k (bson_view b)
 pairs_snoc [] k b = refl
 pairs_snoc (p ∷ ps) k b = ap (pair p.0 (bson_view p.1)) (pairs_snoc ps k b)
 
@@ -36,13 +36,13 @@ abbrev pub StandForPairs : List (List ℕ × Bson) → Pairs → Type 0
 StandForPairs ps qs = (pairs_view ps ≡ qs) × PairsInRange (pairs_view ps)
 
 pub one_listed : (new bs : List Bson) (b : Bson) (vs : Values) (v : Value) → new ≡ bs ++ b ∷ [] → StandForItems bs vs
-    → (bson_view b ≡ v) × InRange (bson_view b) → StandForItems new (then_value vs v)
+    → (bson_view b ≡ v) × InRange (bson_view b) → StandForItems new (push_value vs v)
 one_listed new bs b vs v is listed built =
     rw (is, ← listed.0, ← built.0) (values_snoc bs b, values_in_range bs b listed.1 built.1)
 
 pub one_paired : (new ps : List (List ℕ × Bson)) (k : List ℕ) (b : Bson) (qs : Pairs) (v : Value)
     → new ≡ ps ++ (k, b) ∷ [] → StandForPairs ps qs → (bson_view b ≡ v) × InRange (bson_view b)
-    → StandForPairs new (then_pair qs k v)
+    → StandForPairs new (push_pair qs k v)
 one_paired new ps k b qs v is paired built =
     rw (is, ← paired.0, ← built.0) (pairs_snoc ps k b, pairs_in_range ps k b paired.1 built.1)
 

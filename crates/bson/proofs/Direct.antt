@@ -13,7 +13,7 @@ use Rattle.bson_scalar.specs.Doubles.{double_text, double_tree, normal_double, i
 use Rattle.bson_scalar.specs.Scalar.{double}
 use Rattle.bson_scalar.specs.TreeText.{IsDouble, float_text}
 use Rattle.bson_scalar.specs.Tokens.{Puts}
-use Rattle.bson_scalar.specs.Written.{double_writes_in, Refusal, WrittenDoubleIn}
+use Rattle.bson_scalar.specs.Written.{double_writes_in, WriteFault, WrittenDoubleIn}
 use Rattle.bson_scalar.specs.declared.form.Doubles.TheVariants.{Finite}
 use Rattle.bson_scalar.specs.declared.form.Form.TheVariants.{Canonical}
 use Rattle.bson_scalar.specs.declared.write_error.WriteError.{WriteError}
@@ -27,7 +27,7 @@ pub then : (old ts mid new : List Token) (t : Token) → mid ≡ old ++ ts → n
 then old ts mid new t p q = in_turn old ts mid (t ∷ []) new p q
 
 -- what is put is printed
-pub prints_put : (r : Result (Unit {0}) WriteError) (w : Result Data Refusal) (old new : List Token) → Puts r w old new
+pub prints_put : (r : Result (Unit {0}) WriteError) (w : Result Data WriteFault) (old new : List Token) → Puts r w old new
     → Prints (λ t. t) r w old new
 prints_put (Ok done) (Ok t) old new h = (t, refl, h)
 prints_put (Ok done) (Err e) old new h = absurd h

@@ -10,8 +10,8 @@ use Rattle.bson_store.specs.AscendingOrder.{sorted_by_key, key_cmp}
 use Rattle.bson_store.specs.Pairs.{HasDistinctKeys}
 use Rattle.bson_store.proofs.Offered.{length-in_order}
 use Rattle.bson_model.specs.Value.{Value, array, document, pair}
-use Rattle.bson_model.specs.Feed.{feed, items_words, pairs_words, items_count, pairs_count}
-use Rattle.bson_model.specs.Sorted.{sorted, sorted_items, sorted_pairs, put_pair}
+use Rattle.bson_model.specs.HashInput.{feed, items_hash_input, pairs_hash_input, items_count, pairs_count}
+use Rattle.bson_model.specs.Sorted.{sorted, sorted_items, sorted_pairs, insert_sorted_pair}
 use Rattle.bson.specs.View.{bson_view, values_view, pairs_from_list, pairs_view}
 use Rattle.bson.specs.declared.bson.Bson.{Bson}
 use Rattle.bson.proofs.Seen.{Entry}
@@ -20,14 +20,14 @@ abbrev pub sorted_views : List Entry → List (List ℕ × Value)
 sorted_views es = map (λ e. (e.0, sorted (bson_view e.1))) es
 
 put_in : (k : List ℕ) (v : Bson) (es : List Entry)
-    → put_pair k (sorted (bson_view v)) (pairs_from_list (sorted_views es)) ≡ pairs_from_list (sorted_views (put key_cmp k v es))
+    → insert_sorted_pair k (sorted (bson_view v)) (pairs_from_list (sorted_views es)) ≡ pairs_from_list (sorted_views (put key_cmp k v es))
 put_in k v [] = refl
 put_in k v (e ∷ es) =
     let s = sorted (bson_view v) in
     let t = sorted (bson_view e.1) in
     let rest = pairs_from_list (sorted_views es) in
     elim (slice_cmp nat_cmp k e.0) as (λ r.
-    match_ordering r (pair k s (pair e.0 t rest)) (pair e.0 s rest) (pair e.0 t (put_pair k s rest))
+    match_ordering r (pair k s (pair e.0 t rest)) (pair e.0 s rest) (pair e.0 t (insert_sorted_pair k s rest))
     ≡ pairs_from_list (sorted_views (by_order r ((k, v) ∷ e ∷ es) ((e.0, v) ∷ es) (e ∷ put key_cmp k v es)))) [
       | Less ↦ refl
       | Equal ↦ refl
@@ -37,7 +37,7 @@ put_in k v (e ∷ es) =
 -- the pairs by ascending key, in the store and in the model
 pub sorted-in_order : (ps : List Entry) → sorted_pairs (pairs_view ps) ≡ pairs_from_list (sorted_views (sorted_by_key ps))
 sorted-in_order [] = refl
-sorted-in_order (p ∷ ps) = ap (put_pair p.0 (sorted (bson_view p.1))) (sorted-in_order ps)
+sorted-in_order (p ∷ ps) = ap (insert_sorted_pair p.0 (sorted (bson_view p.1))) (sorted-in_order ps)
     ∙ put_in p.0 p.1 (sorted_by_key ps)
 
 -- the words of each pair in turn
@@ -45,7 +45,7 @@ abbrev pub turn_words : List Entry → HashWrites
 turn_words [] = []
 turn_words (e ∷ es) = (str e.0 ++ feed (bson_view e.1)) ++ turn_words es
 
-turns : (es : List Entry) → pairs_words (pairs_from_list (sorted_views es)) ≡ turn_words es
+turns : (es : List Entry) → pairs_hash_input (pairs_from_list (sorted_views es)) ≡ turn_words es
 turns [] = refl
 turns (e ∷ es) = ap (λ ws. (str e.0 ++ feed (bson_view e.1)) ++ ws) (turns es)
 
@@ -56,7 +56,7 @@ turn_count (e ∷ es) = ap (λ n. n + 1) (turn_count es) ∙ omega arith
 pub document_words : (ps : List Entry) → HasDistinctKeys ps
     → feed (document (pairs_view ps)) ≡ usize (length ps) ++ turn_words (sorted_by_key ps)
 document_words ps d =
-    ap (λ qs. usize (pairs_count qs) ++ pairs_words qs) (sorted-in_order ps)
+    ap (λ qs. usize (pairs_count qs) ++ pairs_hash_input qs) (sorted-in_order ps)
     ∙ (λ i. usize ((turn_count (sorted_by_key ps) ∙ length-in_order ps d) i) ++ turns (sorted_by_key ps) i)
 
 pub count-items : (vs : List Bson) → items_count (sorted_items (values_view vs)) ≡ length vs
@@ -64,7 +64,7 @@ count-items [] = refl
 count-items (v ∷ vs) = ap (λ n. n + 1) (count-items vs) ∙ omega arith
 
 abbrev pub list_words : List Bson → HashWrites
-list_words vs = items_words (sorted_items (values_view vs))
+list_words vs = items_hash_input (sorted_items (values_view vs))
 
 pub array_words : (vs : List Bson) → feed (array (values_view vs)) ≡ usize (length vs) ++ list_words vs
 array_words vs = ap (λ n. usize n ++ list_words vs) (count-items vs)

@@ -6,7 +6,7 @@ use Rattle.bson_scalar.specs.declared.form.Doubles.{Doubles}
 use Rattle.bson_model.specs.Normal.{InRange}
 use Rattle.bson_model.specs.Sorted.{sorted}
 use Rattle.bson_model.specs.Value.{Value}
-use Rattle.bson_model.specs.Kept.{unordered}
+use Rattle.bson_model.specs.OrderedTrees.{tree_sorted_by_key}
 use Rattle.bson_model.proofs.OfferedInOrder.{forgets, read_forgotten, comes_back}
 use Rattle.bson_tokens.specs.Normalized.{IsNormalizedText}
 use Rattle.bson_tokens.specs.declared.arrangement.Arrangement.TheVariants as normalized
@@ -55,6 +55,6 @@ module _ (D : Doubles) {X : Type 0} (see : X → Value) (bytes : List ℕ) where
       → MeansBy o D bytes v → IfErr r (λ e. e ≡ OutOfMemory)
   accepted_by Ascending r fault v means = accepted D bytes r fault means.0 v means.1 means.2
   accepted_by AsGiven r fault v means =
-      let by_default : IsTextOf bytes (unordered means.0) =
-      record { utf8 = means.1; tree_read = read_forgotten bytes ∙ ap (option_map unordered) means.2 } in
-      accepted D bytes r fault (unordered means.0) (sorted v) by_default (forgets D means.3)
+      let by_default : IsTextOf bytes (tree_sorted_by_key means.0) =
+      record { utf8 = means.1; tree_read = read_forgotten bytes ∙ ap (option_map tree_sorted_by_key) means.2 } in
+      accepted D bytes r fault (tree_sorted_by_key means.0) (sorted v) by_default (forgets D means.3)

@@ -6,7 +6,7 @@ use Rattle.std.specs.List.{insert}
 use Rattle.std.proofs.lemmas.Cmp.{nat_list_cmp_total}
 use Rattle.bson.specs.View.{bson_view}
 use Rattle.bson.specs.declared.bson.Bson.{Bson}
-use Rattle.bson_model.specs.Sorted.{put_pair, IsBelowKeys, KeysAscend}
+use Rattle.bson_model.specs.Sorted.{insert_sorted_pair, IsBelowKeys, KeysAscend}
 use Rattle.bson_model.specs.Value.{pair}
 use Rattle.bson_model.proofs.Offered.{flipped, equal_keys}
 use Rattle.bson.specs.Collected.{Member, member, collected_pairs, StandsAt, FitsAt}
@@ -62,14 +62,14 @@ fits k (m ∷ ms) (suc i) d up l h below =
 -- ---- what an edit at the place does
 
 pub seen_set : (k : String Global) (v : Bson) (ms : List Member) (i : ℕ) → StandsAt (string_bytes k) ms i
-    → collected_pairs (set ms i (member k v)) ≡ put_pair (string_bytes k) (bson_view v) (collected_pairs ms)
+    → collected_pairs (set ms i (member k v)) ≡ insert_sorted_pair (string_bytes k) (bson_view v) (collected_pairs ms)
 seen_set k v [] i h = absurd h
 seen_set k v (m ∷ ms) zero h =
     rw h (ap (λ x. pair x (bson_view v) (collected_pairs ms)) (equal_keys (string_bytes k) (string_bytes m.key) h))
 seen_set k v (m ∷ ms) (suc i) h = rw h.0 (ap (pair (string_bytes m.key) (bson_view m.value)) (seen_set k v ms i h.1))
 
 pub seen_insert : (k : String Global) (v : Bson) (ms : List Member) (i : ℕ) → FitsAt (string_bytes k) ms i
-    → collected_pairs (insert ms i (member k v)) ≡ put_pair (string_bytes k) (bson_view v) (collected_pairs ms)
+    → collected_pairs (insert ms i (member k v)) ≡ insert_sorted_pair (string_bytes k) (bson_view v) (collected_pairs ms)
 seen_insert k v [] zero h = refl
 seen_insert k v [] (suc i) h = absurd h
 seen_insert k v (m ∷ ms) zero h = rw h refl

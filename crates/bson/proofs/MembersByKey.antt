@@ -6,8 +6,8 @@ use Rattle.bson_store.specs.AscendingOrder.{key_cmp}
 use Rattle.bson_store.specs.Pairs.{keys}
 use Rattle.bson_store.specs.KeyIndex as store
 use Rattle.bson_store.specs.KeyIndex.{stored_pairs}
-use Rattle.bson_model.specs.Sorted.{put_pair, IsBelowKeys, KeysAscend}
-use Rattle.bson_model.specs.Stable.{pairs_of}
+use Rattle.bson_model.specs.Sorted.{insert_sorted_pair, IsBelowKeys, KeysAscend}
+use Rattle.bson_model.specs.StableOrder.{pairs_of}
 use Rattle.bson_model.specs.Value.{Pairs, no_pairs, pair}
 use Rattle.bson_model.proofs.Offered.{put_ascending}
 use Rattle.bson.specs.Collected.{Member, collected_pairs, member_key, member_value, put_members}
@@ -16,7 +16,7 @@ use Rattle.bson.proofs.PutAscends.{put_ascends}
 pub all_ascend : (ms : List Member) (ps : Pairs) → KeysAscend ps → KeysAscend (put_members ms ps)
 all_ascend [] ps up = up
 all_ascend (m ∷ ms) ps up =
-    all_ascend ms (put_pair (member_key m) (member_value m) ps) (put_ascends (member_key m) (member_value m) ps up)
+    all_ascend ms (insert_sorted_pair (member_key m) (member_value m) ps) (put_ascends (member_key m) (member_value m) ps up)
 
 as_collected : (ms : List Member) → pairs_of member_key member_value ms ≡ collected_pairs ms
 as_collected [] = refl

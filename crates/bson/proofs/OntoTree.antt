@@ -9,7 +9,7 @@ use Rattle.bson_store.specs.Pairs.{keys, HasDistinctKeys}
 use Rattle.bson_model.specs.Value.{Value, Values, value}
 use Rattle.bson_scalar.specs.declared.form.Doubles.{Doubles}
 use Rattle.bson_scalar.specs.declared.form.Form.{Form}
-use Rattle.bson_scalar.specs.Written.{Refusal, finite, ◌>>=◌, Stops}
+use Rattle.bson_scalar.specs.Written.{WriteFault, finite, ◌>>=◌, Stops}
 use Rattle.bson_model.specs.Writing.{writes_in, writes_items_in, writes_pairs_in}
 use Rattle.bson_scalar.specs.declared.write_error.WriteError.{WriteError}
 use Rattle.bson_scalar.specs.declared.write_error.WriteError.TheVariants.{FiniteDouble, OutOfMemory}
@@ -19,11 +19,11 @@ use Rattle.bson.proofs.Seen.{Entry}
 
 -- ---- a list, from its front
 
-abbrev pub onto_items : List Data → Result Items Refusal → Result Items Refusal
+abbrev pub onto_items : List Data → Result Items WriteFault → Result Items WriteFault
 onto_items [] r = r
 onto_items (x ∷ xs) r = onto_items xs r >>= λ ds. Ok (item x ds)
 
-onto_items-snoc : (xs : List Data) (x : Data) (r : Result Items Refusal)
+onto_items-snoc : (xs : List Data) (x : Data) (r : Result Items WriteFault)
     → onto_items (xs ++ x ∷ []) r ≡ onto_items xs (r >>= λ ds. Ok (item x ds))
 onto_items-snoc [] x r = refl
 onto_items-snoc (y ∷ xs) x r = ap (λ q. q >>= λ ds. Ok (item y ds)) (onto_items-snoc xs x r)
@@ -37,14 +37,14 @@ onto_items-ok [] = refl
 onto_items-ok (y ∷ xs) = ap (λ q. q >>= λ ds. Ok (item y ds)) (onto_items-ok xs)
 
 pub items_stop : (D : Doubles) (f : Form) (e : WriteError) (xs : List Data) (v : Value) (vs : Values)
-    (total : Result Items Refusal)
+    (total : Result Items WriteFault)
     → Stops e (writes_in D f v) → onto_items xs (writes_items_in D f (value v vs)) ≡ total → Stops e total
 items_stop D f OutOfMemory xs v vs total h is = tt
 items_stop D f FiniteDouble xs v vs total h is = sym is
     ∙ ap (λ r. onto_items xs (r >>= λ d. writes_items_in D f vs >>= λ ds. Ok (item d ds))) h ∙ onto_items-err xs
 
 pub items_step : (D : Doubles) (f : Form) (xs : List Data) (v : Value) (d : Data) (vs : Values)
-    (total : Result Items Refusal)
+    (total : Result Items WriteFault)
     → writes_in D f v ≡ Ok d → onto_items xs (writes_items_in D f (value v vs)) ≡ total
     → onto_items (xs ++ d ∷ []) (writes_items_in D f vs) ≡ total
 items_step D f xs v d vs total h is = onto_items-snoc xs d (writes_items_in D f vs)
@@ -53,16 +53,16 @@ items_step D f xs v d vs total h is = onto_items-snoc xs d (writes_items_in D f 
 -- ---- a document, in its order
 
 -- the members, with those of the pairs that are still to be written
-abbrev pub onto_members : Doubles → Form → List Entry → Members → Result Members Refusal
+abbrev pub onto_members : Doubles → Form → List Entry → Members → Result Members WriteFault
 onto_members D f [] ms = Ok ms
 onto_members D f (x ∷ xs) ms = writes_in D f (bson_view x.1) >>= λ d. onto_members D f xs (put x.0 d ms)
 
-pub bind_same : {A B : Type 0} (r : Result A Refusal) (f g : A → Result B Refusal) → ((x : A) → f x ≡ g x)
+pub bind_same : {A B : Type 0} (r : Result A WriteFault) (f g : A → Result B WriteFault) → ((x : A) → f x ≡ g x)
     → (r >>= f) ≡ (r >>= g)
 bind_same (Ok x) f g h = h x
 bind_same (Err e) f g h = refl
 
-bind_out : {A B C : Type 0} (r : Result A Refusal) (f : A → Result B Refusal) (g : B → Result C Refusal)
+bind_out : {A B C : Type 0} (r : Result A WriteFault) (f : A → Result B WriteFault) (g : B → Result C WriteFault)
     → ((r >>= f) >>= g) ≡ (r >>= λ x. f x >>= g)
 bind_out (Ok x) f g = refl
 bind_out (Err e) f g = refl
@@ -91,13 +91,13 @@ onto_members-start D f (x ∷ xs) h =
     ∙ ap (λ r. r >>= λ ns. Ok (put x.0 d ns)) (onto_members-start D f xs h.1))
 
 pub members_stop : (D : Doubles) (f : Form) (e : WriteError) (xs : List Entry) (x : Entry) (ms : Members)
-    (total : Result Members Refusal)
+    (total : Result Members WriteFault)
     → Stops e (writes_in D f (bson_view x.1)) → onto_members D f (x ∷ xs) ms ≡ total → Stops e total
 members_stop D f OutOfMemory xs x ms total h is = tt
 members_stop D f FiniteDouble xs x ms total h is = sym is ∙ ap (λ r. r >>= λ d. onto_members D f xs (put x.0 d ms)) h
 
 pub members_step : (D : Doubles) (f : Form) (xs : List Entry) (x : Entry) (d : Data) (ms : Members)
-    (total : Result Members Refusal)
+    (total : Result Members WriteFault)
     → writes_in D f (bson_view x.1) ≡ Ok d → onto_members D f (x ∷ xs) ms ≡ total
     → onto_members D f xs (put x.0 d ms) ≡ total
 members_step D f xs x d ms total h is = ap (λ r. r >>= λ c. onto_members D f xs (put x.0 c ms)) (sym h) ∙ is

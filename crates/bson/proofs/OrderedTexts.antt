@@ -3,7 +3,7 @@ use Rattle.std.proofs.Common.{◌≡◌, ◌++◌, ℕ, List, true, false, Resul
 use Rattle.std.specs.Prelude.{is_ok, IfOk, OnOk, OnErr}
 use Rattle.serde_json.specs.Data.{Data}
 use Rattle.bson_scalar.specs.TreeText.{text_of}
-use Rattle.bson_scalar.specs.Written.{Refusal}
+use Rattle.bson_scalar.specs.Written.{WriteFault}
 use Rattle.bson_scalar.specs.declared.form.Doubles.{Doubles}
 use Rattle.bson_scalar.specs.declared.form.Form.{Form}
 use Rattle.bson_scalar.specs.declared.write_error.WriteError.{WriteError}
@@ -14,8 +14,8 @@ use Rattle.bson_model.specs.Normal.{writable_in, normal_form, InRange}
 use Rattle.bson_model.specs.Value.{Value}
 use Rattle.bson_model.specs.Writing.{writes_in}
 use Rattle.bson_model.proofs.Offered.{tree_is_in, writable_is_in}
-use Rattle.bson_model.specs.Distinct.{AllDistinct}
-use Rattle.bson_model.specs.Kept.{unordered}
+use Rattle.bson_model.specs.DistinctKeys.{AllKeysDistinct}
+use Rattle.bson_model.specs.OrderedTrees.{tree_sorted_by_key}
 use Rattle.bson_model.specs.OrderedWritten.{WrittenInOrder}
 use Rattle.bson_model.proofs.OfferedInOrder.{default_written, has_no_float, one_written, ordered_text, written_from}
 use Rattle.bson_model.proofs.OfferedInOrder.{writable_is}
@@ -30,21 +30,21 @@ module _ (D : Doubles) (f : Form) (v : Value) where
   is_writable : (t : Data) → writes_by AsGiven D f v ≡ Ok t → writable_in D v ≡ true
   is_writable t h = sym (writable_is D f v) ∙ ap is_ok (sym (as_given_is D f v) ∙ h)
 
-  written_by_default : (r : Result Data Refusal) → r ≡ writes_in D f v → is_ok r ≡ true
+  written_by_default : (r : Result Data WriteFault) → r ≡ writes_in D f v → is_ok r ≡ true
       → (u : Data) × (writes_in D f v ≡ Ok u)
   written_by_default (Ok u) h ok = (u, sym h)
   written_by_default (Err e) h ok = cc
 
   -- with the order forgotten the tree is that of the writers by default
   default_tree : (t : Data) → WrittenInOrder D f (normal_form v) t → writable_in D v ≡ true → InRange v
-      → IsTreeOfIn D f v (unordered t)
+      → IsTreeOfIn D f v (tree_sorted_by_key t)
   default_tree t h w ranged =
       let it = written_by_default (writes_in D f v) refl (writable_is_in D f v ∙ w) in
       let is = tree_is_in D f v it.0 it.1 ranged in
-      subst (IsTreeOfIn D f v) (sym (is.one (unordered t) (default_written D f v t h ranged))) is
+      subst (IsTreeOfIn D f v) (sym (is.one (tree_sorted_by_key t) (default_written D f v t h ranged))) is
 
   -- the text of a tree that writing gives
-  text_of_tree : (t : Data) (s : List ℕ) → writes_by AsGiven D f v ≡ Ok t → s ≡ text_of t → InRange v → AllDistinct v
+  text_of_tree : (t : Data) (s : List ℕ) → writes_by AsGiven D f v ≡ Ok t → s ≡ text_of t → InRange v → AllKeysDistinct v
       → IsTextInOrder D f v s
   text_of_tree t s w is ranged distinct =
       let h = written_from D f v t (sym (as_given_is D f v) ∙ w) in
@@ -58,7 +58,7 @@ module _ (D : Doubles) (f : Form) (v : Value) where
       }
 
   ordered_is : (r : Result (String Global) WriteError) → GivesText r (writes_by AsGiven D f v) → OnOk r (InRange v)
-      → OnOk r (AllDistinct v) → IfOk r (λ s. IsTextInOrder D f v (string_bytes s))
+      → OnOk r (AllKeysDistinct v) → IfOk r (λ s. IsTextInOrder D f v (string_bytes s))
   ordered_is (Ok s) g ranged distinct = text_of_tree g.0 (string_bytes s) g.1 g.2 ranged distinct
   ordered_is (Err e) g ranged distinct = tt
 
@@ -77,7 +77,7 @@ module _ (D : Doubles) (f : Form) (v : Value) where
 
   module _ (old new : List ℕ) where
     pub appended_is : (r : Result (Unit {0}) WriteError) → AppendsText r (writes_by AsGiven D f v) old new → OnOk r (InRange v)
-        → OnOk r (AllDistinct v) → IfOk r (λ _. (s : List ℕ) × IsTextInOrder D f v s × (new ≡ old ++ s))
+        → OnOk r (AllKeysDistinct v) → IfOk r (λ _. (s : List ℕ) × IsTextInOrder D f v s × (new ≡ old ++ s))
     appended_is (Ok done) g ranged distinct =
         (text_of g.0, text_of_tree g.0 (text_of g.0) g.1 refl ranged distinct, g.2)
     appended_is (Err e) g ranged distinct = tt
@@ -101,7 +101,7 @@ module _ (D : Doubles) (f : Form) (v : Value) where
   -- ---- in either order
 
   pub text_by : (o : KeyOrder) (r : Result (String Global) WriteError) → GivesText r (writes_by o D f v)
-      → OnOk r (InRange v) → OnOk r (AllDistinct v) → IfOk r (λ s. IsTextBy o D f v (string_bytes s))
+      → OnOk r (InRange v) → OnOk r (AllKeysDistinct v) → IfOk r (λ s. IsTextBy o D f v (string_bytes s))
   text_by Ascending r g ranged distinct = text_is D f v r (text_by_default D f v r g) ranged
   text_by AsGiven r g ranged distinct = ordered_is r g ranged distinct
 

@@ -10,9 +10,9 @@ use Rattle.std.specs.Str.{bytes_eq}
 use Rattle.json.specs.Token.{Token, end_object, key}
 use Rattle.json.specs.Tree.{items_tokens, members_tokens}
 use Rattle.serde_json.specs.Data.{Data, object, Items, item, Members, member, put}
-use Rattle.bson_scalar.specs.TreeText.{items_outline, members_outline}
+use Rattle.bson_scalar.specs.TreeText.{json_of_items, json_of_members}
 use Rattle.bson_scalar.proofs.Offered.{in_turn}
-use Rattle.bson_scalar.specs.Written.{Refusal, finite, ◌>>=◌, Stops}
+use Rattle.bson_scalar.specs.Written.{WriteFault, finite, ◌>>=◌, Stops}
 use Rattle.bson_scalar.specs.declared.form.Doubles.{Doubles}
 use Rattle.bson_scalar.specs.declared.form.Form.{Form}
 use Rattle.bson_scalar.specs.declared.write_error.WriteError.{WriteError}
@@ -22,7 +22,7 @@ use Rattle.bson_store.specs.Pairs.{keys, HasDistinctKeys}
 use Rattle.bson_model.specs.Value.{Value, code_scope, Values, value, Pairs, no_pairs, pair}
 use Rattle.bson_model.specs.Normal.{InRange, PairsInRange}
 use Rattle.bson_model.specs.Writing.{with_scope}
-use Rattle.bson_model.specs.Distinct.{has_pair, AllDistinct, PairsDistinct}
+use Rattle.bson_model.specs.DistinctKeys.{has_pair, AllKeysDistinct, PairKeysDistinct}
 use Rattle.bson_store.proofs.Offered.{find-in_order, lacks}
 use Rattle.bson.specs.KeyOrders.{ordered, writes_by, writes_items_by, writes_pairs_by, EachValue}
 use Rattle.bson.specs.Texts.{tokens_of, code_tokens, writes_in_turn}
@@ -35,17 +35,17 @@ use Rattle.bson.proofs.OntoTree.{bind_same}
 
 -- ---- arrays
 
-abbrev pub EndsItems : Result Items Refusal → List Token → List Token → Type 0
-EndsItems w old end = (ds : Items) × (w ≡ Ok ds) × (end ≡ old ++ items_tokens (items_outline ds))
+abbrev pub EndsItems : Result Items WriteFault → List Token → List Token → Type 0
+EndsItems w old end = (ds : Items) × (w ≡ Ok ds) × (end ≡ old ++ items_tokens (json_of_items ds))
 
 -- an element before others, whatever writes them
-pub item_more : (a : Result Data Refusal) (r : Result Items Refusal) (old new end : List Token)
+pub item_more : (a : Result Data WriteFault) (r : Result Items WriteFault) (old new end : List Token)
     → ((x : Data) × (a ≡ Ok x) × (new ≡ old ++ tokens_of x)) → EndsItems r new end
     → EndsItems (a >>= λ d. r >>= λ ds. Ok (item d ds)) old end
 item_more a r old new end p q = (
   item p.0 q.0,
   ap (λ b. b >>= λ d. r >>= λ ds. Ok (item d ds)) p.1 ∙ ap (λ b. b >>= λ ds. Ok (item p.0 ds)) q.1,
-  in_turn old (tokens_of p.0) new (items_tokens (items_outline q.0)) end p.2 q.2,
+  in_turn old (tokens_of p.0) new (items_tokens (json_of_items q.0)) end p.2 q.2,
 )
 
 module _ (o : KeyOrder) (D : Doubles) (f : Form) where
@@ -67,10 +67,10 @@ module _ (o : KeyOrder) (D : Doubles) (f : Form) where
 
 -- ---- pairs as they stand, each value written by w
 
-abbrev pub EndsMembers : Result Members Refusal → List Token → List Token → Type 0
-EndsMembers w old end = (ms : Members) × (w ≡ Ok ms) × (end ≡ old ++ members_tokens (members_outline ms))
+abbrev pub EndsMembers : Result Members WriteFault → List Token → List Token → Type 0
+EndsMembers w old end = (ms : Members) × (w ≡ Ok ms) × (end ≡ old ++ members_tokens (json_of_members ms))
 
-module _ (w : Value → Result Data Refusal) where
+module _ (w : Value → Result Data WriteFault) where
   pub members_more : (k : List ℕ) (v : Value) (ps : Pairs) (old near new end : List Token) → near ≡ old ++ key k ∷ []
       → ((x : Data) × (w v ≡ Ok x) × (new ≡ near ++ tokens_of x))
       → EndsMembers (writes_in_turn w ps) new end → EndsMembers (writes_in_turn w (pair k v ps)) old end
@@ -78,8 +78,8 @@ module _ (w : Value → Result Data Refusal) where
     member k p.0 q.0,
     ap (λ r. r >>= λ d. writes_in_turn w ps >>= λ ms. Ok (member k d ms)) p.1
         ∙ ap (λ r. r >>= λ ms. Ok (member k p.0 ms)) q.1,
-    in_turn old (key k ∷ []) near (tokens_of p.0 ++ members_tokens (members_outline q.0)) end n
-        (in_turn near (tokens_of p.0) new (members_tokens (members_outline q.0)) end p.2 q.2),
+    in_turn old (key k ∷ []) near (tokens_of p.0 ++ members_tokens (json_of_members q.0)) end n
+        (in_turn near (tokens_of p.0) new (members_tokens (json_of_members q.0)) end p.2 q.2),
   )
 
   members_here : (e : WriteError) (k : List ℕ) (v : Value) (ps : Pairs) → Stops e (w v)
@@ -119,14 +119,14 @@ pub ranged_more : (left rest : List Entry) (k : List ℕ) (v : Bson) → left �
 ranged_more left rest k v here r h = subst (λ (xs : List Entry). PairsInRange (pairs_view xs)) (sym here) (r, h)
 
 pub distinct_more : (left rest : List Entry) (k : List ℕ) (v : Bson) → left ≡ (k, v) ∷ rest
-    → AllDistinct (bson_view v) → EachValue AllDistinct (pairs_view rest) → EachValue AllDistinct (pairs_view left)
+    → AllKeysDistinct (bson_view v) → EachValue AllKeysDistinct (pairs_view rest) → EachValue AllKeysDistinct (pairs_view left)
 distinct_more left rest k v here r h =
-    subst (λ (xs : List Entry). EachValue AllDistinct (pairs_view xs)) (sym here) (r, h)
+    subst (λ (xs : List Entry). EachValue AllKeysDistinct (pairs_view xs)) (sym here) (r, h)
 
 -- ---- documents by ascending key
 
 -- a key that is less than the first one is put first
-pub put_first : (k l : List ℕ) (d : Data) → key_cmp k l ≡ Less → (a : Result Data Refusal) (b : Result Members Refusal)
+pub put_first : (k l : List ℕ) (d : Data) → key_cmp k l ≡ Less → (a : Result Data WriteFault) (b : Result Members WriteFault)
     → ((a >>= λ e. b >>= λ ms. Ok (member l e ms)) >>= λ ms. Ok (member k d ms))
     ≡ ((a >>= λ e. b >>= λ ms. Ok (member l e ms)) >>= λ ms. Ok (put k d ms))
 put_first k l d h (Ok e) (Ok ms) = rw h refl
@@ -134,7 +134,7 @@ put_first k l d h (Ok e) (Err x) = refl
 put_first k l d h (Err x) b = refl
 
 -- a key that is above the first one goes behind it
-put_later : (k l : List ℕ) → key_cmp k l ≡ Greater → (a b : Result Data Refusal) (r : Result Members Refusal)
+put_later : (k l : List ℕ) → key_cmp k l ≡ Greater → (a b : Result Data WriteFault) (r : Result Members WriteFault)
     → (a >>= λ x. (b >>= λ d. r >>= λ ms. Ok (put k d ms)) >>= λ ms. Ok (member l x ms))
     ≡ (b >>= λ d. (a >>= λ x. r >>= λ ms. Ok (member l x ms)) >>= λ ms. Ok (put k d ms))
 put_later k l h (Ok x) (Ok d) (Ok ms) = rw h refl
@@ -150,7 +150,7 @@ module _ (D : Doubles) (f : Form) where
       >>= λ d. writes_in_turn (writes_by Ascending D f) (pairs_view es) >>= λ ms. Ok (put k d ms))
   written_put k v [] h = refl
   written_put k v (e ∷ es) h =
-      let w : Value → Result Data Refusal = writes_by Ascending D f in
+      let w : Value → Result Data WriteFault = writes_by Ascending D f in
       let a = w (bson_view e.1) in
       let r = writes_in_turn w (pairs_view es) in
       elim (key_cmp k e.0) as (λ o. key_cmp k e.0 ≡ o → cond (is_eq o) (Some e.1) (find key_cmp k es) ≡ None
@@ -217,16 +217,16 @@ none_has : (k : List ℕ) (ps : List Entry) → AllByRecursion (λ y. bytes_eq k
 none_has k [] h = refl
 none_has k (p ∷ ps) h = or_from (bytes_eq k p.0) (has_pair k (pairs_view ps)) h.0 (none_has k ps h.1)
 
-distinct_pairs : (ps : List Entry) → HasDistinctKeys ps → EachValue AllDistinct (pairs_view ps)
-    → PairsDistinct (pairs_view ps)
+distinct_pairs : (ps : List Entry) → HasDistinctKeys ps → EachValue AllKeysDistinct (pairs_view ps)
+    → PairKeysDistinct (pairs_view ps)
 unfolding IsDistinct
 distinct_pairs [] d h = tt
 distinct_pairs (p ∷ ps) d h = (none_has p.0 ps d.0, h.0, distinct_pairs ps d.1 h.1)
 
 -- a document has each key once, and so where each of its values does has the whole
-pub distinct_in : (o : KeyOrder) (ps : List Entry) → HasDistinctKeys ps → EachValue AllDistinct (pairs_view (ordered o ps))
-    → PairsDistinct (pairs_view ps)
-distinct_in o ps d h = distinct_pairs ps d (each_in AllDistinct o ps d h)
+pub distinct_in : (o : KeyOrder) (ps : List Entry) → HasDistinctKeys ps → EachValue AllKeysDistinct (pairs_view (ordered o ps))
+    → PairKeysDistinct (pairs_view ps)
+distinct_in o ps d h = distinct_pairs ps d (each_in AllKeysDistinct o ps d h)
 
 -- ---- documents in their own order
 

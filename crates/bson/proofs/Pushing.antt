@@ -8,7 +8,7 @@ use Rattle.bson_text.specs.Stops.{MayStop, MayStopAt}
 use Rattle.bson_text.specs.Walked.{ItemsWritten, PairsWritten, each_key_once, set_pair, set_each}
 use Rattle.bson_text.specs.declared.stop.Stop.{Stop}
 use Rattle.bson_text.specs.declared.stop.Stop.TheVariants.{OutOfMemory, DuplicateKey, GaveUp, Syntax, Fault}
-use Rattle.bson_model.specs.Sorted.{put_pair, sorted, sorted_items}
+use Rattle.bson_model.specs.Sorted.{insert_sorted_pair, sorted, sorted_items}
 use Rattle.bson_model.specs.Value.{Value, scalar, array, document, code_scope, Values, no_values, value}
 use Rattle.bson_model.specs.Value.{Pairs, no_pairs, pair}
 use Rattle.bson_scalar.specs.Scalar as kind
@@ -222,7 +222,7 @@ array_pushed vs k start mid now new enclosing v w outer (mode, is_array, empty, 
 
 turns_sorted : (ps found : Pairs) → put_turns (each_by Ascending ps) found ≡ put_in_turn ps found
 turns_sorted no_pairs found = refl
-turns_sorted (pair k v ps) found = turns_sorted ps (put_pair k (sorted v) found)
+turns_sorted (pair k v ps) found = turns_sorted ps (insert_sorted_pair k (sorted v) found)
 
 each_as_given : (ps : Pairs) → each_by AsGiven ps ≡ ps
 each_as_given no_pairs = refl
@@ -369,4 +369,4 @@ entries_once es = entries_set es []
 
 pub entries_turned : (es : List Member) (found : Pairs) → put_members es found ≡ put_turns (collected_pairs es) found
 entries_turned [] found = refl
-entries_turned (e ∷ es) found = entries_turned es (put_pair (string_bytes e.key) (bson_view e.value) found)
+entries_turned (e ∷ es) found = entries_turned es (insert_sorted_pair (string_bytes e.key) (bson_view e.value) found)

@@ -8,7 +8,7 @@ use Rattle.json.specs.Tree.{room, items_tokens, members_tokens}
 use Rattle.json.specs.Word.{after_number}
 use Rattle.serde_json.specs.Data.{Num, unsigned, negative, float, Data, Items, no_items, item, Members, no_members, member}
 use Rattle.serde_json.specs.Data as tree
-use Rattle.bson_scalar.specs.TreeText.{number_text, items_outline, members_outline}
+use Rattle.bson_scalar.specs.TreeText.{number_text, json_of_items, json_of_members}
 use Rattle.bson_scalar.specs.Tokens.{tokens_of}
 use Rattle.bson_scalar.specs.declared.form.Doubles.{Doubles}
 use Rattle.bson_scalar.specs.declared.form.Form.{Form}
@@ -79,16 +79,16 @@ mutual
   tree_full (tree.array ds) t = (omega arith, items_full ds t)
   tree_full (tree.object ms) t = (omega arith, members_full ms t.1)
 
-  items_full : (ds : Items) → ItemsAreTrees ds → AreFull (items_tokens (items_outline ds))
+  items_full : (ds : Items) → ItemsAreTrees ds → AreFull (items_tokens (json_of_items ds))
   items_full no_items t = (omega arith, tt)
   items_full (item d ds) t =
-      full_append (tokens_of d) (items_tokens (items_outline ds)) (tree_full d t.0) (items_full ds t.1)
+      full_append (tokens_of d) (items_tokens (json_of_items ds)) (tree_full d t.0) (items_full ds t.1)
 
-  members_full : (ms : Members) → MembersAreTrees ms → AreFull (members_tokens (members_outline ms))
+  members_full : (ms : Members) → MembersAreTrees ms → AreFull (members_tokens (json_of_members ms))
   members_full no_members t = (omega arith, tt)
   members_full (member k d ms) t = (
     key_full k,
-    full_append (tokens_of d) (members_tokens (members_outline ms)) (tree_full d t.0) (members_full ms t.1),
+    full_append (tokens_of d) (members_tokens (json_of_members ms)) (tree_full d t.0) (members_full ms t.1),
   )
 
 -- ---- values
@@ -109,7 +109,7 @@ module _ (D : Doubles) (f : Form) where
                 key_full (codes "$scope"),
                 (
                   omega arith,
-                  full_append (members_tokens (members_outline b.0)) (end_object ∷ []) (pairs_full ps b.0 b.1 r) (omega arith, tt),
+                  full_append (members_tokens (json_of_members b.0)) (end_object ∷ []) (pairs_full ps b.0 b.1 r) (omega arith, tt),
                 ),
               ),
             ),
@@ -121,23 +121,23 @@ module _ (D : Doubles) (f : Form) where
         let b = bind_ok (pairs_in_order D f ps) _ t h in rw (un_ok _ _ b.2) (omega arith, pairs_full ps b.0 b.1 r)
 
     values_full : (vs : Values) (ds : Items) → values_in_order D f vs ≡ Ok ds → ItemsInRange vs
-        → AreFull (items_tokens (items_outline ds))
+        → AreFull (items_tokens (json_of_items ds))
     values_full no_values ds h r = rw (un_ok _ _ h) (omega arith, tt)
     values_full (value v vs) ds h r =
         let b = bind_ok (writes_in_order D f v) _ ds h in
         let c = bind_ok (values_in_order D f vs) _ ds b.2 in
-        rw (un_ok _ _ c.2) (full_append (tokens_of b.0) (items_tokens (items_outline c.0)) (value_full v b.0 b.1 r.0)
+        rw (un_ok _ _ c.2) (full_append (tokens_of b.0) (items_tokens (json_of_items c.0)) (value_full v b.0 b.1 r.0)
         (values_full vs c.0 c.1 r.1))
 
     pairs_full : (ps : Pairs) (ms : Members) → pairs_in_order D f ps ≡ Ok ms → PairsInRange ps
-        → AreFull (members_tokens (members_outline ms))
+        → AreFull (members_tokens (json_of_members ms))
     pairs_full no_pairs ms h r = rw (un_ok _ _ h) (omega arith, tt)
     pairs_full (pair k v ps) ms h r =
         let b = bind_ok (writes_in_order D f v) _ ms h in
         let c = bind_ok (pairs_in_order D f ps) _ ms b.2 in
         rw (un_ok _ _ c.2) (
           key_full k,
-          full_append (tokens_of b.0) (members_tokens (members_outline c.0))
+          full_append (tokens_of b.0) (members_tokens (json_of_members c.0))
               (value_full v b.0 b.1 r.0) (pairs_full ps c.0 c.1 r.1),
         )
 
@@ -148,7 +148,7 @@ module _ (D : Doubles) (f : Form) where
     value_room_is (code_scope s ps) t h =
         let b = bind_ok (pairs_in_order D f ps) _ t h in
         let rest = pairs_room_is ps b.0 b.1 in
-        let end = room_append (members_tokens (members_outline b.0)) (end_object ∷ []) in
+        let end = room_append (members_tokens (json_of_members b.0)) (end_object ∷ []) in
         rw (un_ok _ _ b.2) (omega (arith, rest, end))
     value_room_is (array vs) t h =
         let b = bind_ok (values_in_order D f vs) _ t h in
@@ -160,25 +160,25 @@ module _ (D : Doubles) (f : Form) where
         rw (un_ok _ _ b.2) (omega (arith, rest))
 
     values_room_is : (vs : Values) (ds : Items) → values_in_order D f vs ≡ Ok ds
-        → values_room D f vs ≡ room (items_tokens (items_outline ds))
+        → values_room D f vs ≡ room (items_tokens (json_of_items ds))
     values_room_is no_values ds h = rw (un_ok _ _ h) refl
     values_room_is (value v vs) ds h =
         let b = bind_ok (writes_in_order D f v) _ ds h in
         let c = bind_ok (values_in_order D f vs) _ ds b.2 in
         let one = value_room_is v b.0 b.1 in
         let rest = values_room_is vs c.0 c.1 in
-        let both = room_append (tokens_of b.0) (items_tokens (items_outline c.0)) in
+        let both = room_append (tokens_of b.0) (items_tokens (json_of_items c.0)) in
         rw (un_ok _ _ c.2) (omega (arith, one, rest, both))
 
     pairs_room_is : (ps : Pairs) (ms : Members) → pairs_in_order D f ps ≡ Ok ms
-        → pairs_room D f ps ≡ room (members_tokens (members_outline ms))
+        → pairs_room D f ps ≡ room (members_tokens (json_of_members ms))
     pairs_room_is no_pairs ms h = rw (un_ok _ _ h) refl
     pairs_room_is (pair k v ps) ms h =
         let b = bind_ok (writes_in_order D f v) _ ms h in
         let c = bind_ok (pairs_in_order D f ps) _ ms b.2 in
         let one = value_room_is v b.0 b.1 in
         let rest = pairs_room_is ps c.0 c.1 in
-        let both = room_append (tokens_of b.0) (members_tokens (members_outline c.0)) in
+        let both = room_append (tokens_of b.0) (members_tokens (json_of_members c.0)) in
         rw (un_ok _ _ c.2) (omega (arith, one, rest, both))
 
   pub room_twice : (v : Value) (s : List ℕ) → IsTextInOrder D f v s → InRange v → value_room D f v ≤ 2 * length s

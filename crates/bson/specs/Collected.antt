@@ -5,7 +5,7 @@ use Rattle.std.specs.Cmp.Lexicographic.{slice_cmp}
 use Rattle.std.specs.Ordering.{nat_cmp}
 use Rattle.std.specs.declared.alloc.Global.{Global}
 use Rattle.std.specs.declared.cmp.Ordering.TheVariants.{Less, Equal, Greater}
-use Rattle.bson_model.specs.Stable.{IsStableByKey, put_each}
+use Rattle.bson_model.specs.StableOrder.{IsStableByKey, insert_each}
 use Rattle.bson_model.specs.Value.{Value, Pairs}
 use Rattle.bson_store.specs.KeyIndex.{stored_pairs}
 use Rattle.bson_store.specs.declared.small.Pair.{Pair}
@@ -31,7 +31,7 @@ member_value m = bson_view m.value
 
 -- the pairs after each member is inserted
 abbrev pub put_members : List Member → Pairs → Pairs
-put_members ms ps = put_each member_key member_value ms ps
+put_members ms ps = insert_each member_key member_value ms ps
 
 -- the key is at this position, and is greater than all before it
 abbrev pub StandsAt : List ℕ → List Member → ℕ → Type 0

@@ -4,7 +4,7 @@ use Rattle.std.specs.Prelude.{ℕ, List, Result, Ok}
 use Rattle.serde_json.specs.Data.{Data, Items, no_items, item, Members, no_members, member, put}
 use Rattle.serde_json.specs.Data as tree
 use Rattle.bson_store.specs.AscendingOrder.{sorted_by_key}
-use Rattle.bson_scalar.specs.Written.{writes_scalar_in, Refusal, ◌>>=◌}
+use Rattle.bson_scalar.specs.Written.{writes_scalar_in, WriteFault, ◌>>=◌}
 use Rattle.bson_scalar.specs.declared.form.Doubles.{Doubles}
 use Rattle.bson_scalar.specs.declared.form.Form.{Form}
 use Rattle.bson_model.specs.Value.{Value, scalar, code_scope, array, document, Values, no_values, value, Pairs}
@@ -24,17 +24,17 @@ put_in_order Ascending k d ms = put k d ms
 put_in_order AsGiven k d ms = member k d ms
 
 abbrev mutual
-  pub writes_by : KeyOrder → Doubles → Form → Value → Result Data Refusal
+  pub writes_by : KeyOrder → Doubles → Form → Value → Result Data WriteFault
   writes_by o D f (scalar x) = writes_scalar_in D f x
   writes_by o D f (code_scope s ps) = writes_pairs_by o D f ps >>= λ ms. Ok (with_scope s ms)
   writes_by o D f (array vs) = writes_items_by o D f vs >>= λ ds. Ok (tree.array ds)
   writes_by o D f (document ps) = writes_pairs_by o D f ps >>= λ ms. Ok (tree.object ms)
 
-  pub writes_items_by : KeyOrder → Doubles → Form → Values → Result Items Refusal
+  pub writes_items_by : KeyOrder → Doubles → Form → Values → Result Items WriteFault
   writes_items_by o D f no_values = Ok no_items
   writes_items_by o D f (value v vs) = writes_by o D f v >>= λ d. writes_items_by o D f vs >>= λ ds. Ok (item d ds)
 
-  pub writes_pairs_by : KeyOrder → Doubles → Form → Pairs → Result Members Refusal
+  pub writes_pairs_by : KeyOrder → Doubles → Form → Pairs → Result Members WriteFault
   writes_pairs_by o D f no_pairs = Ok no_members
   writes_pairs_by o D f (pair k v ps) =
       writes_by o D f v >>= λ d. writes_pairs_by o D f ps >>= λ ms. Ok (put_in_order o k d ms)

@@ -2,7 +2,7 @@
 use Rattle.std.specs.Prelude.{◌≡◌, ◌++◌, ◌∷◌, [], ℕ, Bool, true, false, List, map, String, string_bytes}
 use Rattle.std.specs.declared.alloc.Global.{Global}
 use Rattle.bson_text.specs.Walked.{each_key_once}
-use Rattle.bson_model.specs.Sorted.{put_pair, sorted, sorted_pairs}
+use Rattle.bson_model.specs.Sorted.{insert_sorted_pair, sorted, sorted_pairs}
 use Rattle.bson_model.specs.Value.{Value, Pairs, no_pairs, pair}
 use Rattle.bson_store.specs.KeyIndex.{stored_pairs}
 use Rattle.bson.specs.View.{bson_view, document_view}
@@ -28,7 +28,7 @@ pairs_by AsGiven ps = ps
 -- the pairs after each is inserted in ascending key order
 abbrev pub put_turns : Pairs → Pairs → Pairs
 put_turns no_pairs found = found
-put_turns (pair k v ps) found = put_turns ps (put_pair k v found)
+put_turns (pair k v ps) found = put_turns ps (insert_sorted_pair k v found)
 
 -- the document of the pairs, each key once: of a duplicate key the last value
 abbrev pub document_by : KeyOrder → Pairs → Pairs

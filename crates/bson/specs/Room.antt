@@ -6,7 +6,7 @@ use Rattle.json.specs.Tree.{room}
 use Rattle.serde_json.specs.Data.{Data}
 use Rattle.bson_scalar.specs.Scalar.{Scalar, regex, binary, date, decimal}
 use Rattle.bson_scalar.specs.Tokens.{tokens_of, code_tokens}
-use Rattle.bson_scalar.specs.Written.{Refusal, writes_scalar_in}
+use Rattle.bson_scalar.specs.Written.{WriteFault, writes_scalar_in}
 use Rattle.bson_scalar.specs.declared.form.Doubles.{Doubles}
 use Rattle.bson_scalar.specs.declared.form.Form.{Form}
 use Rattle.bson_scalar.specs.declared.form.Form.TheVariants.{Canonical, Relaxed}
@@ -47,7 +47,7 @@ abbrev mutual
 abbrev pub tree_room : Data → ℕ
 tree_room t = room (tokens_of t)
 
-abbrev pub written_room : Result Data Refusal → ℕ
+abbrev pub written_room : Result Data WriteFault → ℕ
 written_room (Ok t) = tree_room t
 written_room (Err e) = 0
 

@@ -7,11 +7,11 @@ use Rattle.bson_scalar.specs.declared.form.Doubles.TheVariants.{Special}
 use Rattle.bson_model.specs.Value.{Value}
 use Rattle.bson_model.specs.Laws.{HasMeaningIn}
 use Rattle.bson_model.specs.Means.{MeansIn}
-use Rattle.bson_model.specs.Texts.{ComesBackIn}
+use Rattle.bson_model.specs.Texts.{ValueRoundTripsIn}
 use Rattle.bson_tree.specs.Place.{IsFirstFaultIn}
-use Rattle.bson_model.specs.Kept.{read_kept}
+use Rattle.bson_model.specs.OrderedTrees.{read_in_order}
 use Rattle.bson_model.specs.OrderedMeans.{MeansInOrder}
-use Rattle.bson_model.specs.OrderedTexts.{HasMeaningInOrder, ComesBackInOrder}
+use Rattle.bson_model.specs.OrderedTexts.{HasMeaningInOrder, ValueRoundTripsInOrder}
 use Rattle.bson.specs.declared.extjson.key_order.KeyOrder.{KeyOrder}
 use Rattle.bson.specs.declared.extjson.key_order.KeyOrder.TheVariants.{Ascending, AsGiven}
 use Rattle.bson.specs.declared.extjson.text_error.TextError.{TextError}
@@ -54,9 +54,9 @@ HasTextMeaningBy AsGiven D bytes v = IsUtf8 bytes × HasMeaningInOrder D bytes v
 -- the bytes are the text of a tree that means the value in the order
 abbrev pub MeansBy : KeyOrder → Doubles → List ℕ → Value → Type 0
 MeansBy Ascending D bytes v = (t : Data) × IsTextOf bytes t × MeansIn D t v
-MeansBy AsGiven D bytes v = (t : Data) × IsUtf8 bytes × (read_kept bytes ≡ Some t) × MeansInOrder D t v
+MeansBy AsGiven D bytes v = (t : Data) × IsUtf8 bytes × (read_in_order bytes ≡ Some t) × MeansInOrder D t v
 
 -- the text of the value in the order and in either form is read as the same value again
 abbrev pub ComesBackBy : KeyOrder → Doubles → Value → Type 0
-ComesBackBy Ascending D v = ComesBackIn D v
-ComesBackBy AsGiven D v = ComesBackInOrder D v
+ComesBackBy Ascending D v = ValueRoundTripsIn D v
+ComesBackBy AsGiven D v = ValueRoundTripsInOrder D v

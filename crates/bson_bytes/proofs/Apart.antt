@@ -6,7 +6,7 @@ use Rattle.std.proofs.lemmas.Slice.Eq.{bytes_eq-Decides}
 use Rattle.std.specs.List.{AllPairs}
 use Rattle.bson_bytes.specs.Grammar.{insert_value, settle, one_each}
 use Rattle.bson_model.specs.Value.{pair_keys, Value, Pairs, no_pairs, pair}
-use Rattle.bson_model.specs.Distinct.{has_pair}
+use Rattle.bson_model.specs.DistinctKeys.{has_pair}
 use Rattle.bson_scalar.specs.KeyHash.{key_hash}
 use Rattle.bson_bytes.specs.Source.{with_pair}
 use Rattle.bson_bytes.proofs.Loop.{join, join_none, join_more}

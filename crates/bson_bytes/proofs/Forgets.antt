@@ -46,6 +46,6 @@ mutual
       → IsDocument Replace d bytes ps
   document_kept (is_document d list ps ws f) = is_document d list ps (list_kept ws) f
 
-pub read_kept : (keys : DuplicateKeys) (d : ℕ) (bytes : List ℕ) (ps : Pairs) → IsReadIn keys d bytes ps → IsRead d bytes ps
-read_kept keys d bytes ps h =
+pub read_in_order : (keys : DuplicateKeys) (d : ℕ) (bytes : List ℕ) (ps : Pairs) → IsReadIn keys d bytes ps → IsRead d bytes ps
+read_in_order keys d bytes ps h =
     record { elements = h.elements; grammar = document_kept h.grammar; once = tt; pairs = h.pairs }

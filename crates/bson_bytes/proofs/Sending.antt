@@ -8,8 +8,8 @@ use Rattle.json.specs.Token.{Token}
 use Rattle.json.specs.Tree.{items_tokens, members_tokens}
 use Rattle.json.specs.declared.Writer.{Writer}
 use Rattle.serde_json.specs.Data.{Data, Items, no_items, item, Members, no_members, member, array, object}
-use Rattle.bson_scalar.specs.Tokens.{tokens_of, code_tokens, tokens_added, members_in_turn}
-use Rattle.bson_scalar.specs.TreeText.{items_outline, members_outline}
+use Rattle.bson_scalar.specs.Tokens.{tokens_of, code_tokens, with_last_member, members_as_tokens}
+use Rattle.bson_scalar.specs.TreeText.{json_of_items, json_of_members}
 use Rattle.bson_scalar.specs.declared.form.Doubles.TheVariants.{Finite}
 use Rattle.bson_scalar.specs.declared.form.Form.{Form}
 use Rattle.bson_scalar.specs.Normal.{writable_scalar_in}
@@ -23,7 +23,7 @@ use Rattle.bson_model.specs.Normal.{PairsInRange, ItemsInRange}
 use Rattle.bson_model.specs.Value as model
 use Rattle.bson_model.specs.Value.{pair_keys, Value, Pairs, no_pairs, pair, document, code_scope}
 use Rattle.bson_model.specs.Writing.{with_scope}
-use Rattle.bson_model.specs.Distinct.{PairsDistinct, ItemsDistinct}
+use Rattle.bson_model.specs.DistinctKeys.{PairKeysDistinct, ItemKeysDistinct}
 use Rattle.bson_model.specs.OrderedWriting.{values_in_order, pairs_in_order}
 use Rattle.bson_bytes.specs.Grammar.{pair_values, one_each}
 use Rattle.bson_scalar.specs.KeyHash.{key_hash}
@@ -59,12 +59,12 @@ items_more f (pair l w ps) us k v d (e, ms, is, tree, rest) t =
     (e, item_last ms d, ap (λ x. item_last x d) is, tree, items_more f ps ms k v d rest t)
 
 items_are : (f : Form) (ps : Pairs) (us : Items) → ItemsOf f ps us
-    → (values_in_order Finite f (pair_values ps) ≡ Ok us) × ItemsInRange (pair_values ps) × ItemsDistinct (pair_values ps)
+    → (values_in_order Finite f (pair_values ps) ≡ Ok us) × ItemsInRange (pair_values ps) × ItemKeysDistinct (pair_values ps)
 items_are f no_pairs us h = (ap Ok (sym h), tt, tt)
 items_are f (pair k v ps) us (d, ms, is, (w, r, a), rest) =
     let g = items_are f ps ms rest in (rw (w, g.0) (ap Ok (sym is)), (r, g.1), (a, g.2))
 
-items_end : (us : Items) → items_in_turn us ++ token.end_array ∷ [] ≡ items_tokens (items_outline us)
+items_end : (us : Items) → items_in_turn us ++ token.end_array ∷ [] ≡ items_tokens (json_of_items us)
 items_end no_items = refl
 items_end (item d ds) =
     append_assoc (tokens_of d) (items_in_turn ds) (token.end_array ∷ []) ∙ ap (λ x. tokens_of d ++ x) (items_end ds)
@@ -86,40 +86,40 @@ keys_more no_pairs k v = refl
 keys_more (pair l w ps) k v = ap (λ ks. l ∷ ks) (keys_more ps k v)
 
 members_more : (f : Form) (ps : Pairs) (us : Members) (k : List ℕ) (v : Value) (d : Data) → MembersOf f ps us
-    → TreeOf f v d → MembersOf f (with_pair ps k v) (tokens_added us k d)
-members_more f no_pairs us k v d h t = (d, no_members, ap (λ x. tokens_added x k d) h, t, refl)
+    → TreeOf f v d → MembersOf f (with_pair ps k v) (with_last_member us k d)
+members_more f no_pairs us k v d h t = (d, no_members, ap (λ x. with_last_member x k d) h, t, refl)
 members_more f (pair l w ps) us k v d (e, ms, is, tree, rest) t =
-    (e, tokens_added ms k d, ap (λ x. tokens_added x k d) is, tree, members_more f ps ms k v d rest t)
+    (e, with_last_member ms k d, ap (λ x. with_last_member x k d) is, tree, members_more f ps ms k v d rest t)
 
 members_are : (f : Form) (ps : Pairs) (us : Members) → MembersOf f ps us → Apart (map key_hash (pair_keys ps))
-    → (pairs_in_order Finite f ps ≡ Ok us) × PairsInRange ps × PairsDistinct ps
+    → (pairs_in_order Finite f ps ≡ Ok us) × PairsInRange ps × PairKeysDistinct ps
 members_are f no_pairs us h apart = (ap Ok (sym h), tt, tt)
 members_are f (pair k v ps) us (d, ms, is, (w, r, a), rest) apart =
     let g = members_are f ps ms rest apart.1 in
     (rw (w, g.0) (ap Ok (sym is)), (r, g.1), (has_none k ps apart.0, a, g.2))
 
 members_snoc : (us : Members) (k : List ℕ) (d : Data)
-    → members_in_turn (tokens_added us k d) ≡ (members_in_turn us ++ token.key k ∷ []) ++ tokens_of d
+    → members_as_tokens (with_last_member us k d) ≡ (members_as_tokens us ++ token.key k ∷ []) ++ tokens_of d
 members_snoc no_members k d = ap (λ l. token.key k ∷ l) (append-nil (tokens_of d))
 members_snoc (member l e us) k d =
     ap (λ x. token.key l ∷ (tokens_of e ++ x)) (members_snoc us k d)
-    ∙ ap (λ x. token.key l ∷ x) (sym (append_assoc (tokens_of e) (members_in_turn us ++ token.key k ∷ []) (tokens_of d)))
-    ∙ ap (λ x. token.key l ∷ (x ++ tokens_of d)) (sym (append_assoc (tokens_of e) (members_in_turn us) (token.key k ∷ [])))
+    ∙ ap (λ x. token.key l ∷ x) (sym (append_assoc (tokens_of e) (members_as_tokens us ++ token.key k ∷ []) (tokens_of d)))
+    ∙ ap (λ x. token.key l ∷ (x ++ tokens_of d)) (sym (append_assoc (tokens_of e) (members_as_tokens us) (token.key k ∷ [])))
 
 -- a key and the tree under it
 member_next : (old before mid new : List Token) (us : Members) (k : List ℕ) (d : Data)
-    → before ≡ old ++ token.begin_object ∷ members_in_turn us → mid ≡ before ++ token.key k ∷ []
-    → new ≡ mid ++ tokens_of d → new ≡ old ++ token.begin_object ∷ members_in_turn (tokens_added us k d)
+    → before ≡ old ++ token.begin_object ∷ members_as_tokens us → mid ≡ before ++ token.key k ∷ []
+    → new ≡ mid ++ tokens_of d → new ≡ old ++ token.begin_object ∷ members_as_tokens (with_last_member us k d)
 member_next old before mid new us k d is key tree =
-    let members = members_in_turn us in
+    let members = members_as_tokens us in
     in_turn old (token.begin_object ∷ (members ++ token.key k ∷ [])) mid (tokens_of d) new
     (in_turn old (token.begin_object ∷ members) before (token.key k ∷ []) mid is key) tree
     ∙ ap (λ l. old ++ token.begin_object ∷ l) (sym (members_snoc us k d))
 
-members_end : (us : Members) → members_in_turn us ++ token.end_object ∷ [] ≡ members_tokens (members_outline us)
+members_end : (us : Members) → members_as_tokens us ++ token.end_object ∷ [] ≡ members_tokens (json_of_members us)
 members_end no_members = refl
 members_end (member k d us) =
-    ap (λ l. token.key k ∷ l) (append_assoc (tokens_of d) (members_in_turn us) (token.end_object ∷ []))
+    ap (λ l. token.key k ∷ l) (append_assoc (tokens_of d) (members_as_tokens us) (token.end_object ∷ []))
     ∙ ap (λ l. token.key k ∷ (tokens_of d ++ l)) (members_end us)
 
 maps_join : (ks ls : List (List ℕ)) → map key_hash (ks ++ ls) ≡ map key_hash ks ++ map key_hash ls
@@ -129,7 +129,7 @@ maps_join (k ∷ ks) ls = ap (λ ds. key_hash k ∷ ds) (maps_join ks ls)
 pub element_given : (b : Bool) (start before mid now : TextSink) (ps : Pairs) (k : List ℕ) (v : Value) (o : ℕ)
     → Begun b start ps o before → Named b before k mid → ValueSent mid v now → Begun b start (with_pair ps k v) o now
 element_given true start before mid now ps k v o (us, are, at, (f, w, ds, is)) (g, x, es, js) (u, tree, (h, y, e, more)) = (
-  tokens_added us k u,
+  with_last_member us k u,
   members_more start.form ps us k v u are (subst (λ m. TreeOf m v u) (g ∙ f) tree),
   at,
   (
@@ -163,7 +163,7 @@ document_given ps start now new o (us, are, at, (f, w, ds, is)) apart g x e more
         g ∙ f,
         x ∙ w,
         e,
-        in_turn start.out.tokens (token.begin_object ∷ members_in_turn us) now.out.tokens (token.end_object ∷ []) new.out.tokens is more
+        in_turn start.out.tokens (token.begin_object ∷ members_as_tokens us) now.out.tokens (token.end_object ∷ []) new.out.tokens is more
             ∙ ap (λ l. start.out.tokens ++ token.begin_object ∷ l) (members_end us),
       ),
     )

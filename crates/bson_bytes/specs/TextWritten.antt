@@ -2,12 +2,12 @@
 use Rattle.std.specs.Prelude.{◌≡◌, ◌++◌, ℕ, Bool, true, false, List, [], ◌∷◌, length, map, Ok}
 use Rattle.json.specs.Token.{Token, begin_object, begin_array, key}
 use Rattle.serde_json.specs.Data.{Data, Items, no_items, item, Members, no_members, member, object}
-use Rattle.bson_scalar.specs.Tokens.{tokens_of, code_tokens, members_in_turn}
+use Rattle.bson_scalar.specs.Tokens.{tokens_of, code_tokens, members_as_tokens}
 use Rattle.bson_scalar.specs.declared.form.Doubles.TheVariants.{Finite}
 use Rattle.bson_scalar.specs.declared.form.Form.{Form}
 use Rattle.bson_model.specs.Normal.{InRange, PairsInRange}
 use Rattle.bson_model.specs.Value.{pair_keys, Value, Pairs, no_pairs, pair}
-use Rattle.bson_model.specs.Distinct.{AllDistinct, PairsDistinct}
+use Rattle.bson_model.specs.DistinctKeys.{AllKeysDistinct, PairKeysDistinct}
 use Rattle.bson_model.specs.OrderedWriting.{writes_in_order, pairs_in_order}
 use Rattle.bson_scalar.specs.KeyHash.{key_hash}
 use Rattle.bson_bytes.specs.declared.text.TextSink.{TextSink}
@@ -19,13 +19,13 @@ Sent old ts new = (new.form ≡ old.form) × (new.out.before ≡ old.out.before)
 
 -- the tree of a value, its keys in their own order
 abbrev pub TreeOf : Form → Value → Data → Type 0
-TreeOf f v u = (writes_in_order Finite f v ≡ Ok u) × InRange v × AllDistinct v
+TreeOf f v u = (writes_in_order Finite f v ≡ Ok u) × InRange v × AllKeysDistinct v
 
 abbrev pub ValueSent : TextSink → Value → TextSink → Type 0
 ValueSent old v new = (u : Data) × TreeOf old.form v u × Sent old (tokens_of u) new
 
 abbrev pub PairsSent : TextSink → Pairs → TextSink → Type 0
-PairsSent old ps new = (us : Members) × ((pairs_in_order Finite old.form ps ≡ Ok us) × PairsInRange ps × PairsDistinct ps)
+PairsSent old ps new = (us : Members) × ((pairs_in_order Finite old.form ps ≡ Ok us) × PairsInRange ps × PairKeysDistinct ps)
     × Sent old (tokens_of (object us)) new
 
 -- the trees of the values of pairs, under their keys
@@ -54,7 +54,7 @@ KeysSent old ks ts new = (new.form ≡ old.form) × (new.out.before ≡ old.out.
 -- a document was begun, and these pairs were written
 abbrev pub DocumentBegun : TextSink → Pairs → ℕ → TextSink → Type 0
 DocumentBegun old ps o new = (us : Members) × MembersOf old.form ps us × (o ≡ length old.key_hashes.items)
-    × KeysSent old (pair_keys ps) (begin_object ∷ members_in_turn us) new
+    × KeysSent old (pair_keys ps) (begin_object ∷ members_as_tokens us) new
 
 abbrev pub Begun : Bool → TextSink → Pairs → ℕ → TextSink → Type 0
 Begun true old ps o new = DocumentBegun old ps o new

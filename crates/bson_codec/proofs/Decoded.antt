@@ -3,7 +3,7 @@ use Rattle.std.proofs.Common.{◌≡◌, ◌++◌, ℕ, List, true, Result, Ok, 
 use Rattle.std.specs.Prelude.{is_ok, IsUtf8}
 use Rattle.std.specs.declared.alloc.Global.{Global}
 use Rattle.serde_json.specs.Data.{Data, object}
-use Rattle.bson_scalar.specs.Written.{Refusal}
+use Rattle.bson_scalar.specs.Written.{WriteFault}
 use Rattle.bson_scalar.specs.declared.form.Doubles.TheVariants.{Finite}
 use Rattle.bson_scalar.specs.declared.form.Form.{Form}
 use Rattle.bson_scalar.proofs.Offered.{text_is}
@@ -12,7 +12,7 @@ use Rattle.bson_model.specs.Normal.{writable_in, normal_form, InRange}
 use Rattle.bson_model.specs.Value.{Value, Pairs, document}
 use Rattle.bson_model.specs.Writing.{writes_in}
 use Rattle.bson_model.proofs.Offered.{tree_is_in, writable_is_in}
-use Rattle.bson_model.specs.Kept.{unordered}
+use Rattle.bson_model.specs.OrderedTrees.{tree_sorted_by_key}
 use Rattle.bson_model.specs.OrderedWriting.{writes_in_order}
 use Rattle.bson_model.specs.OrderedWritten.{WrittenInOrder}
 use Rattle.bson_model.proofs.OfferedInOrder.{default_written, has_no_float, one_written, ordered_text, written_from}
@@ -26,17 +26,17 @@ use Rattle.bson_codec.specs.Diagnostics.{newline}
 use Rattle.bson_codec.specs.declared.documents.Line.TheVariants.{Text}
 use Rattle.bson_codec.specs.declared.documents.Run.{Run}
 
-written_tree : (r : Result Data Refusal) → is_ok r ≡ true → (u : Data) × (r ≡ Ok u)
+written_tree : (r : Result Data WriteFault) → is_ok r ≡ true → (u : Data) × (r ≡ Ok u)
 written_tree (Ok u) ok = (u, refl)
 written_tree (Err e) ok = cc
 
 -- with the order forgotten the tree is that of the writers by default
 default_tree : (f : Form) (v : Value) (t : Data) → WrittenInOrder Finite f (normal_form v) t → writable_in Finite v ≡ true
-    → InRange v → IsTreeOfIn Finite f v (unordered t)
+    → InRange v → IsTreeOfIn Finite f v (tree_sorted_by_key t)
 default_tree f v t h w ranged =
     let it = written_tree (writes_in Finite f v) (writable_is_in Finite f v ∙ w) in
     let is = tree_is_in Finite f v it.0 it.1 ranged in
-    subst (IsTreeOfIn Finite f v) (sym (is.one (unordered t) (default_written Finite f v t h ranged))) is
+    subst (IsTreeOfIn Finite f v) (sym (is.one (tree_sorted_by_key t) (default_written Finite f v t h ranged))) is
 
 pub printed_is : (f : Form) (ps : Pairs) (s : String Global) → IsPrinted f ps (string_bytes s)
     → IsTextInOrder Finite f (document ps) (string_bytes s)

@@ -15,14 +15,14 @@ use Rattle.serde_json.specs.Data.{unsigned, negative, float, Data, Items, no_ite
 use Rattle.serde_json.specs.Data.{depth, items_depth, members_depth}
 use Rattle.serde_json.specs.Data as tree
 use Rattle.serde_json.specs.Read.{max_depth, of_json, read}
-use Rattle.bson_scalar.specs.TreeText.{HasNoFloatIn, outline, items_outline, members_outline, text_of, tree_text}
+use Rattle.bson_scalar.specs.TreeText.{HasNoFloatIn, json_of_tree, json_of_items, json_of_members, text_of, tree_text}
 use Rattle.bson_scalar.specs.declared.form.Doubles.{Doubles}
 use Rattle.bson_scalar.specs.declared.form.Form.{Form}
 use Rattle.bson_scalar.proofs.Offered.{float_is_number, text_is}
 use Rattle.bson_model.specs.Texts.{IsTree, ItemsAreTrees, MembersAreTrees}
 
 mutual
-  pub numbers : (d : Data) → IsTree d → parsed.HasNumbers (outline d)
+  pub numbers : (d : Data) → IsTree d → parsed.HasNumbers (json_of_tree d)
   numbers tree.null t = tt
   numbers (tree.boolean b) t = tt
   numbers (tree.number (unsigned n)) t = IsNumber-decimal n t
@@ -33,16 +33,16 @@ mutual
   numbers (tree.array ds) t = items_numbers ds t
   numbers (tree.object ms) t = members_numbers ms t.1
 
-  items_numbers : (ds : Items) → ItemsAreTrees ds → parsed.ItemsHaveNumbers (items_outline ds)
+  items_numbers : (ds : Items) → ItemsAreTrees ds → parsed.ItemsHaveNumbers (json_of_items ds)
   items_numbers no_items t = tt
   items_numbers (item d ds) t = (numbers d t.0, items_numbers ds t.1)
 
-  members_numbers : (ms : Members) → MembersAreTrees ms → parsed.MembersHaveNumbers (members_outline ms)
+  members_numbers : (ms : Members) → MembersAreTrees ms → parsed.MembersHaveNumbers (json_of_members ms)
   members_numbers no_members t = tt
   members_numbers (member k d ms) t = (numbers d t.0, members_numbers ms t.1)
 
 mutual
-  same_depth : (d : Data) → parsed.depth (outline d) ≡ depth d
+  same_depth : (d : Data) → parsed.depth (json_of_tree d) ≡ depth d
   same_depth tree.null = refl
   same_depth (tree.boolean b) = refl
   same_depth (tree.number n) = refl
@@ -50,11 +50,11 @@ mutual
   same_depth (tree.array ds) = ap suc (items_same_depth ds)
   same_depth (tree.object ms) = ap suc (members_same_depth ms)
 
-  items_same_depth : (ds : Items) → parsed.items_depth (items_outline ds) ≡ items_depth ds
+  items_same_depth : (ds : Items) → parsed.items_depth (json_of_items ds) ≡ items_depth ds
   items_same_depth no_items = refl
   items_same_depth (item d ds) = ap₂ max (same_depth d) (items_same_depth ds)
 
-  members_same_depth : (ms : Members) → parsed.members_depth (members_outline ms) ≡ members_depth ms
+  members_same_depth : (ms : Members) → parsed.members_depth (json_of_members ms) ≡ members_depth ms
   members_same_depth no_members = refl
   members_same_depth (member k d ms) = ap₂ max (same_depth d) (members_same_depth ms)
 
@@ -77,17 +77,17 @@ parsed_whole of None t h = absurd cc
 parsed_whole of (Some (j, [])) t h = (j, refl)
 parsed_whole of (Some (j, x ∷ xs)) t h = absurd cc
 
-nests_within : (n : ℕ) (d : Data) (j : Json) → parsed.HasNumbers (outline d) → value n (tokens (text_of d)) ≡ Some (j, [])
+nests_within : (n : ℕ) (d : Data) (j : Json) → parsed.HasNumbers (json_of_tree d) → value n (tokens (text_of d)) ≡ Some (j, [])
     → depth d ≤ n
 nests_within n d j fit h =
-    let ts = parsed.json_tokens (outline d) in
-    let printed : tokens (print ts) ≡ ts = tokens-print ts (ArePrintable-json_tokens (outline d) fit) in
+    let ts = parsed.json_tokens (json_of_tree d) in
+    let printed : tokens (print ts) ≡ ts = tokens-print ts (ArePrintable-json_tokens (json_of_tree d) fit) in
     let spelled : tokens (text_of d) ≡ parsed.json_tokens j ++ [] = value-json_tokens_back n (tokens (text_of d)) [] j h in
-    let same : j ≡ outline d =
-    one_value j (outline d) (sym (append-nil (parsed.json_tokens j)) ∙ sym spelled ∙ printed) in
+    let same : j ≡ json_of_tree d =
+    one_value j (json_of_tree d) (sym (append-nil (parsed.json_tokens j)) ∙ sym spelled ∙ printed) in
     omega (arith, value-depth n (tokens (text_of d)) [] j h, ap parsed.depth same, same_depth d)
 
-module _ (D : Doubles) (f : Form) (d : Data) (no_float : HasNoFloatIn D f d) (fit : parsed.HasNumbers (outline d)) where
+module _ (D : Doubles) (f : Form) (d : Data) (no_float : HasNoFloatIn D f d) (fit : parsed.HasNumbers (json_of_tree d)) where
   pub shallow : (t : Data) → read (tree_text D f d) ≡ Some t → depth d ≤ max_depth
   shallow t h =
       let text = text_is D f d no_float in
@@ -95,9 +95,9 @@ module _ (D : Doubles) (f : Form) (d : Data) (no_float : HasNoFloatIn D f d) (fi
       nests_within max_depth d it.0 fit it.1
 
   -- its tokens are one value, as deep as the tree
-  pub text_parsed : value (depth d) (tokens (tree_text D f d)) ≡ Some (outline d, [])
+  pub text_parsed : value (depth d) (tokens (tree_text D f d)) ≡ Some (json_of_tree d, [])
   text_parsed =
-      let ts = parsed.json_tokens (outline d) in
-      let printed : tokens (print ts) ≡ ts = tokens-print ts (ArePrintable-json_tokens (outline d) fit) in
+      let ts = parsed.json_tokens (json_of_tree d) in
+      let printed : tokens (print ts) ≡ ts = tokens-print ts (ArePrintable-json_tokens (json_of_tree d) fit) in
       ap (λ s. value (depth d) (tokens s)) (text_is D f d no_float) ∙ ap (value (depth d)) (printed ∙ sym (append-nil ts))
-      ∙ value-json_tokens (outline d) (depth d) [] (omega (arith, same_depth d))
+      ∙ value-json_tokens (json_of_tree d) (depth d) [] (omega (arith, same_depth d))

@@ -4,7 +4,7 @@ use Rattle.std.specs.Prelude.{is_ok, IsUtf8}
 use Rattle.serde_json.specs.Data.{Data}
 use Rattle.serde_json.specs.Read.{read}
 use Rattle.bson_scalar.specs.TreeText.{HasNoFloatIn}
-use Rattle.bson_scalar.specs.Written.{Refusal}
+use Rattle.bson_scalar.specs.Written.{WriteFault}
 use Rattle.bson_scalar.specs.declared.form.Form.{Form}
 use Rattle.bson_scalar.specs.declared.form.Form.TheVariants as form
 use Rattle.bson_model.specs.Laws.{HasMeaningIn, IsTreeOfIn}
@@ -25,7 +25,7 @@ use Rattle.bson_convert.proofs.Converting.{text_converts}
 use Rattle.bson_convert.proofs.Deep.{numbers, shallow}
 use Rattle.bson_convert.proofs.Newline.{read_then}
 
-some_tree : (r : Result Data Refusal) → is_ok r ≡ true → (u : Data) × (r ≡ Ok u)
+some_tree : (r : Result Data WriteFault) → is_ok r ≡ true → (u : Data) × (r ≡ Ok u)
 some_tree (Ok u) h = (u, refl)
 some_tree (Err e) h = cc
 

@@ -5,7 +5,7 @@ use Rattle.json.specs.Json as json
 use Rattle.json.specs.Lex.{token, lex, between, Place, fresh, after_value, after_comma, may_begin, punctuate, tokens}
 use Rattle.json.specs.Token.{Token}
 use Rattle.json.specs.Tree.{json_tokens, items_tokens, members_tokens}
-use Rattle.bson_json.specs.Grammar.{IsWs, no_ws, IsMark, mark}
+use Rattle.bson_json.specs.Grammar.{IsWs, no_ws, IsStructural, mark}
 use Rattle.bson_json.specs.Grammar.{IsJsonValue, false_name, null_name, true_name, an_object, an_array, a_number, a_string, AreValues, no_values, values, MoreValues, no_more_values, next_value}
 use Rattle.bson_json.specs.Grammar.{AreMembers, no_pairs, pairs, MoreMembers, no_more_pairs, next_pair, IsMember, pair, IsJson, text}
 use Rattle.bson_json.proofs.Firsts.{Read, seen_as, IsKey, First, first, Comma, After, after, comma_before}
@@ -21,7 +21,7 @@ record Closed (P : List ℕ → Type 0) (c : ℕ) (t : List ℕ) (ts : List Toke
   split : t ≡ white ++ (part ++ (close ++ rest))
   is_white : IsWs white
   is : P part
-  is_close : IsMark c close
+  is_close : IsStructural c close
   left : ts ≡ punctuate after_value (lex between rest)
 
 -- a part, a closing character and a rest
@@ -31,7 +31,7 @@ record Ends (P : List ℕ → Type 0) (c : ℕ) (t : List ℕ) (ts : List Token)
   rest : List ℕ
   split : t ≡ part ++ (close ++ rest)
   is : P part
-  is_close : IsMark c close
+  is_close : IsStructural c close
   left : ts ≡ punctuate after_value (lex between rest)
 
 closing : (P : List ℕ → Type 0) (c : ℕ) (t : List ℕ) (ts : List Token) → P [] → Read (λ b. b ≡ c ∷ []) t ts after_value → Ends P c t ts
@@ -63,7 +63,7 @@ beside P Q R c t us ts f r e = record {
 }
 
 -- a comma, and then what follows it
-after_one : (P R : List ℕ → Type 0) (c : ℕ) (t : List ℕ) (us ts : List Token) → ((m u : List ℕ) → IsMark 0x2C m → P u → R (m ++ u)) → (q : Comma t us) → Closed P c q.rest ts → Ends R c t ts
+after_one : (P R : List ℕ → Type 0) (c : ℕ) (t : List ℕ) (us ts : List Token) → ((m u : List ℕ) → IsStructural 0x2C m → P u → R (m ++ u)) → (q : Comma t us) → Closed P c q.rest ts → Ends R c t ts
 after_one P R c t us ts f q e = record {
   part = (q.gap ++ 0x2C ∷ e.white) ++ e.part;
   close = e.close;
@@ -76,7 +76,7 @@ after_one P R c t us ts f q e = record {
 }
 
 -- an opening character, what is inside, and the closing one
-around : (P R : List ℕ → Type 0) (o c : ℕ) (t : List ℕ) (us ts : List Token) → ((a b d : List ℕ) → IsMark o a → P b → IsMark c d → R (a ++ (b ++ d))) → (r : Read (λ b. b ≡ o ∷ []) t us fresh) → Closed P c r.rest ts
+around : (P R : List ℕ → Type 0) (o c : ℕ) (t : List ℕ) (us ts : List Token) → ((a b d : List ℕ) → IsStructural o a → P b → IsStructural c d → R (a ++ (b ++ d))) → (r : Read (λ b. b ≡ o ∷ []) t us fresh) → Closed P c r.rest ts
     → Read R t ts after_value
 around P R o c t us ts f r e = record {
   white = r.white;
@@ -120,10 +120,10 @@ null_is b h = subst (λ z. IsJsonValue z json.null) (sym h) null_name
 abbrev ReadsValue : Json → List ℕ → List Token → Type 0
 ReadsValue j t ts = Read (λ b. IsJsonValue b j) t ts after_value
 
-next_values : {j : Json} {js : Items} (m u : List ℕ) → IsMark 0x2C m → AreValues u (item j js) → MoreValues (m ++ u) (item j js)
+next_values : {j : Json} {js : Items} (m u : List ℕ) → IsStructural 0x2C m → AreValues u (item j js) → MoreValues (m ++ u) (item j js)
 next_values m u h (values v k) = next_value h v k
 
-next_members : {k : List ℕ} {j : Json} {ms : Members} (m u : List ℕ) → IsMark 0x2C m → AreMembers u (member k j ms) → MoreMembers (m ++ u) (member k j ms)
+next_members : {k : List ℕ} {j : Json} {ms : Members} (m u : List ℕ) → IsStructural 0x2C m → AreMembers u (member k j ms) → MoreMembers (m ++ u) (member k j ms)
 next_members m u h (pairs v k) = next_pair h v k
 
 mutual

@@ -6,8 +6,8 @@ use Rattle.json.specs.Json.{Json}
 use Rattle.json.specs.Word.{is_space}
 use Rattle.bson_json.specs.Grammar.{IsWs, no_ws, space, tab, line_feed, carriage_return}
 use Rattle.bson_json.specs.Grammar.{IsJson}
-use Rattle.bson_json.specs.Sequence.{IsBare, AreTexts, no_texts, texts, no_more_texts, more_texts}
-use Rattle.bson_json.specs.Sequence.{Scan, outside, in_string, in_escape, scan, separates, onto_part, part_from, parts, filled, texts_in}
+use Rattle.bson_json.specs.Sequence.{IsTrimmed, AreTexts, no_texts, texts, no_more_texts, more_texts}
+use Rattle.bson_json.specs.Sequence.{Scan, outside, in_string, in_escape, scan, separates, prepend_byte, split_or_prepend, parts, nonempty_parts, texts_in}
 use Rattle.bson_json.proofs.Scanned.{put_before, put_first, Passes}
 use Rattle.bson_json.proofs.Sequences.{cons_not_nil, text_full, ws-append, core_in, with_full, behind_space, nothing_in}
 
@@ -19,11 +19,11 @@ not_nil e = cc
 pub tail_nil : {q r : List ℕ} {qs : List (List ℕ)} → q ∷ qs ≡ r ∷ [] → qs ≡ []
 tail_nil e = cc
 
-pub onto_full : (x : ℕ) (ps : List (List ℕ)) → onto_part x ps ≡ [] → ⊥
+pub onto_full : (x : ℕ) (ps : List (List ℕ)) → prepend_byte x ps ≡ [] → ⊥
 onto_full x [] e = not_nil e
 onto_full x (p ∷ ps) e = not_nil e
 
-pub part_full : (b : Bool) (x : ℕ) (next same : List (List ℕ)) → part_from b x next same ≡ [] → ⊥
+pub part_full : (b : Bool) (x : ℕ) (next same : List (List ℕ)) → split_or_prepend b x next same ≡ [] → ⊥
 part_full true x next same e = not_nil e
 part_full false x next same e = onto_full x same e
 
@@ -52,14 +52,14 @@ unfolding parts
 at_separator m x xs e = record {
   part = [];
   more = parts (outside zero) xs;
-  is = ap (λ b. part_from b x (parts (outside zero) xs) (parts (scan m x) xs)) e;
+  is = ap (λ b. split_or_prepend b x (parts (outside zero) xs) (parts (scan m x) xs)) e;
   whole = refl;
   rest = inr (x, xs, refl, is_separator m x e, refl);
 }
 
-pub within_part : (m : Scan) (x : ℕ) (xs : List ℕ) → separates m x ≡ false → parts m (x ∷ xs) ≡ onto_part x (parts (scan m x) xs)
+pub within_part : (m : Scan) (x : ℕ) (xs : List ℕ) → separates m x ≡ false → parts m (x ∷ xs) ≡ prepend_byte x (parts (scan m x) xs)
 unfolding parts
-within_part m x xs e = ap (λ b. part_from b x (parts (outside zero) xs) (parts (scan m x) xs)) e
+within_part m x xs e = ap (λ b. split_or_prepend b x (parts (outside zero) xs) (parts (scan m x) xs)) e
 
 abbrev pub Rest : (xs part : List ℕ) → (more : List (List ℕ)) → Type 0
 Rest xs part more = ((xs ≡ part) × (more ≡ []))
@@ -73,8 +73,8 @@ pub longer : (m : Scan) (x : ℕ) (xs : List ℕ) → separates m x ≡ false �
 longer m x xs e f = record {
   part = x ∷ f.part;
   more = f.more;
-  is = within_part m x xs e ∙ ap (onto_part x) f.is;
-  whole = within_part m x f.part e ∙ ap (onto_part x) f.whole;
+  is = within_part m x xs e ∙ ap (prepend_byte x) f.is;
+  whole = within_part m x f.part e ∙ ap (prepend_byte x) f.whole;
   rest = longer_rest x f.rest;
 }
 
@@ -93,12 +93,12 @@ first_of m (x ∷ xs) = bool_cases (separates m x) (First m (x ∷ xs)) (at_sepa
 abbrev pub IsSingle : List (List ℕ) → Type 0
 IsSingle ps = (p : List ℕ) × (ps ≡ p ∷ [])
 
-pub single_onto : (x : ℕ) (ps : List (List ℕ)) → IsSingle (onto_part x ps) → ps ≢ [] → IsSingle ps
+pub single_onto : (x : ℕ) (ps : List (List ℕ)) → IsSingle (prepend_byte x ps) → ps ≢ [] → IsSingle ps
 single_onto x [] h full = absurd (full refl)
 single_onto x (p ∷ ps) h full = (p, ap (λ qs. p ∷ qs) (tail_nil h.1))
 
-pub onto_single : (x : ℕ) (ps : List (List ℕ)) → IsSingle ps → IsSingle (onto_part x ps)
-onto_single x ps h = (x ∷ h.0, ap (onto_part x) h.1)
+pub onto_single : (x : ℕ) (ps : List (List ℕ)) → IsSingle ps → IsSingle (prepend_byte x ps)
+onto_single x ps h = (x ∷ h.0, ap (prepend_byte x) h.1)
 
 pub not_single : (p : List ℕ) (m : Scan) (xs : List ℕ) → IsSingle (p ∷ parts m xs) → ⊥
 not_single p m xs h = parts_full m xs (tail_nil h.1)
@@ -125,7 +125,7 @@ goes_on (in_escape n) (carriage_return h) s = (_, refl)
 
 pub separated : (m : Scan) (x : ℕ) (xs : List ℕ) → separates m x ≡ true → parts m (x ∷ xs) ≡ [] ∷ parts (outside zero) xs
 unfolding parts
-separated m x xs e = ap (λ b. part_from b x (parts (outside zero) xs) (parts (scan m x) xs)) e
+separated m x xs e = ap (λ b. split_or_prepend b x (parts (outside zero) xs) (parts (scan m x) xs)) e
 
 pub more_space : (m : Scan) (r : List ℕ) {y : ℕ} → IsWs (y ∷ []) → IsSingle (parts m (r ++ y ∷ []))
     → IsSingle (parts m (r ++ y ∷ 0x20 ∷ []))
@@ -192,7 +192,7 @@ no_back {t = t} j s r (x ∷ a) e h =
     ∙ append_assoc c.core c.back (0x20 ∷ []) in
     absurd (two_parts c.core c.back c.passes c.is_back (subst (λ z. IsSingle (parts (outside zero) z)) same spaced))
 
-pub bare_part : {t : List ℕ} {j : Json} → IsJson t j → IsSingle (parts (outside zero) t) → IsBare t
+pub bare_part : {t : List ℕ} {j : Json} → IsJson t j → IsSingle (parts (outside zero) t) → IsTrimmed t
 bare_part {t = t} j s = record { front = no_front t s (text_full j); back = no_back j s }
 
 -- ---- a sequence of them
@@ -211,12 +211,12 @@ space_is x e = bool_cases (x == 0x20) (IsWs (x ∷ [])) (λ f. subst (λ y. IsWs
     (λ h. bool_cases (x == 0x0D) (IsWs (x ∷ [])) (λ k. subst (λ y. IsWs (y ∷ [])) (sym (eqb-true x 0x0D k)) (carriage_return no_ws))
     (λ k. absurd (false≢true (sym (none_of f g h k) ∙ e))))))
 
-pub filled_nil : filled [] ≡ []
-unfolding filled
+pub filled_nil : nonempty_parts [] ≡ []
+unfolding nonempty_parts
 filled_nil = refl
 
-pub filled_empty : (ps : List (List ℕ)) → filled ([] ∷ ps) ≡ filled ps
-unfolding filled
+pub filled_empty : (ps : List (List ℕ)) → nonempty_parts ([] ∷ ps) ≡ nonempty_parts ps
+unfolding nonempty_parts
 filled_empty ps = refl
 
 pub shorter : (n : ℕ) (xs part : List ℕ) (x : ℕ) (r : List ℕ) → xs ≡ part ++ x ∷ r → length xs ≤ suc n → length r ≤ n
@@ -238,19 +238,19 @@ by_first n xs [] more few is whole (inl h) all =
     subst (λ z. AreTexts z (texts_in z)) (sym h.0) (subst (AreTexts []) (sym nothing_in) (no_texts no_ws))
 by_first n xs (y ∷ part) more few is whole (inl h) all =
     let found : texts_in xs ≡ (y ∷ part) ∷ [] =
-    ap filled (is ∙ ap (λ m. (y ∷ part) ∷ m) h.1) ∙ with_full (y ∷ part) [] (cons_not_nil y part) ∙ ap (λ m. (y ∷ part) ∷ m) filled_nil in
+    ap nonempty_parts (is ∙ ap (λ m. (y ∷ part) ∷ m) h.1) ∙ with_full (y ∷ part) [] (cons_not_nil y part) ∙ ap (λ m. (y ∷ part) ∷ m) filled_nil in
     let json = (subst AreJson found all).0 in
     subst (AreTexts xs) (sym found)
     (subst (λ z. AreTexts z ((y ∷ part) ∷ [])) (sym h.0) (alone_text json.1 whole))
 by_first zero xs part more few is whole (inr h) all = absurd (no_room xs part h.0 h.1 h.2 few)
 by_first (suc n) xs [] more few is whole (inr h) all =
-    let found : texts_in xs ≡ texts_in h.1 = ap filled (is ∙ ap (λ m. [] ∷ m) h.4) ∙ filled_empty (parts (outside zero) h.1) in
+    let found : texts_in xs ≡ texts_in h.1 = ap nonempty_parts (is ∙ ap (λ m. [] ∷ m) h.4) ∙ filled_empty (parts (outside zero) h.1) in
     subst (AreTexts xs) (sym found) (subst (λ z. AreTexts z (texts_in h.1)) (sym h.2) (behind_ws (space_is h.0 h.3)
     (let f = first_of (outside zero) h.1 in
     by_first n h.1 f.part f.more (shorter n xs [] h.0 h.1 h.2 few) f.is (f.part, f.whole) f.rest (subst AreJson found all))))
 by_first (suc n) xs (y ∷ part) more few is whole (inr h) all =
     let found : texts_in xs ≡ (y ∷ part) ∷ texts_in h.1 =
-    ap filled (is ∙ ap (λ m. (y ∷ part) ∷ m) h.4) ∙ with_full (y ∷ part) (parts (outside zero) h.1) (cons_not_nil y part) in
+    ap nonempty_parts (is ∙ ap (λ m. (y ∷ part) ∷ m) h.4) ∙ with_full (y ∷ part) (parts (outside zero) h.1) (cons_not_nil y part) in
     let both = subst AreJson found all in
     subst (AreTexts xs) (sym found) (subst (λ z. AreTexts z ((y ∷ part) ∷ texts_in h.1)) (sym h.2)
     (texts no_ws both.0.1 (bare_part both.0.1 whole)

@@ -2,7 +2,7 @@
 use Rattle.std.proofs.Common.{◌≡◌, ℕ, true, false, List, [], ◌∷◌, ◌++◌, refl, ap, ◌∙◌, append_assoc}
 use Rattle.json.specs.Word.{ends_word}
 use Rattle.json.specs.Lex.{Lexeme, lex, lex_byte, class, operator, between, operator_lexeme, begins_colon}
-use Rattle.bson_json.specs.Grammar.{IsWs, no_ws, space, tab, line_feed, carriage_return, IsMark, mark}
+use Rattle.bson_json.specs.Grammar.{IsWs, no_ws, space, tab, line_feed, carriage_return, IsStructural, mark}
 
 pub lex-ws : {w : List ℕ} (r : List ℕ) → IsWs w → lex between (w ++ r) ≡ lex between r
 unfolding lex
@@ -23,11 +23,11 @@ pub lex-operator : (c : ℕ) (r : List ℕ) → class c ≡ operator → lex bet
 unfolding lex
 lex-operator c r e = ap (λ k. lex_byte between k c r (λ m. lex m r)) e
 
-pub lex-mark : {c : ℕ} {m : List ℕ} (r : List ℕ) → class c ≡ operator → IsMark c m → lex between (m ++ r) ≡ operator_lexeme c ∷ lex between r
+pub lex-mark : {c : ℕ} {m : List ℕ} (r : List ℕ) → class c ≡ operator → IsStructural c m → lex between (m ++ r) ≡ operator_lexeme c ∷ lex between r
 lex-mark {c = c} r e (mark {a = a} {b = b} h k) =
     ap (lex between) (append_assoc a (c ∷ b) r) ∙ lex-ws (c ∷ (b ++ r)) h ∙ lex-operator c (b ++ r) e ∙ ap (λ l. operator_lexeme c ∷ l) (lex-ws r k)
 
-pub ends-mark : {c : ℕ} {m : List ℕ} (r : List ℕ) → ends_word (c ∷ []) ≡ true → IsMark c m → ends_word (m ++ r) ≡ true
+pub ends-mark : {c : ℕ} {m : List ℕ} (r : List ℕ) → ends_word (c ∷ []) ≡ true → IsStructural c m → ends_word (m ++ r) ≡ true
 ends-mark {c = c} r e (mark {a = a} {b = b} h k) = ap ends_word (append_assoc a (c ∷ b) r) ∙ ends-ws (c ∷ (b ++ r)) h e
 
 -- what may follow a value: the end, or white space and then a character that is no colon
@@ -43,7 +43,7 @@ follows-ws (tab h) = record { ended = refl; no_colon = (follows-ws h).no_colon }
 follows-ws (line_feed h) = record { ended = refl; no_colon = (follows-ws h).no_colon }
 follows-ws (carriage_return h) = record { ended = refl; no_colon = (follows-ws h).no_colon }
 
-pub follows-mark : {c : ℕ} {m : List ℕ} (r : List ℕ) → class c ≡ operator → ends_word (c ∷ []) ≡ true → begins_colon (operator_lexeme c ∷ []) ≡ false → IsMark c m → Follows (m ++ r)
+pub follows-mark : {c : ℕ} {m : List ℕ} (r : List ℕ) → class c ≡ operator → ends_word (c ∷ []) ≡ true → begins_colon (operator_lexeme c ∷ []) ≡ false → IsStructural c m → Follows (m ++ r)
 follows-mark {c = c} r o e n h = record {
   ended = ends-mark r e h;
   no_colon = ap begins_colon (lex-mark r o h) ∙ one (operator_lexeme c) (lex between r) n;

@@ -3,7 +3,7 @@ use Rattle.std.proofs.Common.{◌≡◌, ◌≢◌, ℕ, zero, suc, ◌<◌, tru
 use Rattle.std.proofs.lemmas.Bool.{ne_eqb}
 use Rattle.json.specs.Json.{Json}
 use Rattle.json.specs.Word.{is_space}
-use Rattle.bson_json.specs.Grammar.{IsWs, no_ws, space, tab, line_feed, carriage_return, IsMark, mark}
+use Rattle.bson_json.specs.Grammar.{IsWs, no_ws, space, tab, line_feed, carriage_return, IsStructural, mark}
 use Rattle.bson_json.specs.Grammar.{IsDigit, AreDigits, no_digits, digit, IsDigits, digits, IsMinus, no_minus, minus, IsInt, zero_alone, from_one}
 use Rattle.bson_json.specs.Grammar.{IsFrac, no_frac, frac, IsSign, no_sign, minus_sign, plus_sign, IsExp, no_exp, lower_exp, upper_exp, IsNumber, number}
 use Rattle.bson_json.specs.Grammar.{IsHex, hex_digit, hex_upper, hex_lower, IsCode, code}
@@ -11,27 +11,27 @@ use Rattle.bson_json.specs.Grammar.{IsChar, unescaped, quotation_mark, reverse_s
 use Rattle.bson_json.specs.Grammar.{AreChars, no_chars, char, IsString, string}
 use Rattle.bson_json.specs.Grammar.{IsJsonValue, false_name, null_name, true_name, an_object, an_array, a_number, a_string, AreValues, no_values, values, MoreValues, no_more_values, next_value}
 use Rattle.bson_json.specs.Grammar.{AreMembers, no_pairs, pairs, MoreMembers, no_more_pairs, next_pair, IsMember, pair}
-use Rattle.bson_json.specs.Sequence.{Scan, outside, in_string, in_escape, is_opener, is_closer, scan, separates, onto_part, part_from, parts}
+use Rattle.bson_json.specs.Sequence.{Scan, outside, in_string, in_escape, is_opener, is_closer, scan, separates, prepend_byte, split_or_prepend, parts}
 
 -- ---- bytes that lie within a part
 
 pub put_before : List ℕ → List (List ℕ) → List (List ℕ)
 put_before [] ps = ps
-put_before (x ∷ t) ps = onto_part x (put_before t ps)
+put_before (x ∷ t) ps = prepend_byte x (put_before t ps)
 
 pub put_twice : (s t : List ℕ) (ps : List (List ℕ)) → put_before (s ++ t) ps ≡ put_before s (put_before t ps)
 unfolding put_before
 put_twice [] t ps = refl
-put_twice (x ∷ s) t ps = ap (onto_part x) (put_twice s t ps)
+put_twice (x ∷ s) t ps = ap (prepend_byte x) (put_twice s t ps)
 
-pub put_one : (x : ℕ) (ps : List (List ℕ)) → put_before (x ∷ []) ps ≡ onto_part x ps
+pub put_one : (x : ℕ) (ps : List (List ℕ)) → put_before (x ∷ []) ps ≡ prepend_byte x ps
 unfolding put_before
 put_one x ps = refl
 
 pub put_first : (t p : List ℕ) (ps : List (List ℕ)) → put_before t (p ∷ ps) ≡ (t ++ p) ∷ ps
 unfolding put_before
 put_first [] p ps = refl
-put_first (x ∷ t) p ps = ap (onto_part x) (put_first t p ps)
+put_first (x ∷ t) p ps = ap (prepend_byte x) (put_first t p ps)
 
 pub put_none : (ps : List (List ℕ)) → put_before [] ps ≡ ps
 unfolding put_before
@@ -53,7 +53,7 @@ then {m = m} {k = k} {s = s} {t = t} p q = record {
 
 pub one : (m : Scan) (x : ℕ) → separates m x ≡ false → Passes m (x ∷ []) (scan m x)
 unfolding parts put_before
-one m x e = record { passed = λ u. ap (λ b. part_from b x (parts (outside zero) u) (parts (scan m x) u)) e }
+one m x e = record { passed = λ u. ap (λ b. split_or_prepend b x (parts (outside zero) u) (parts (scan m x) u)) e }
 
 -- the next state is this one
 pub byte : {m : Scan} {x : ℕ} (n : Scan) → separates m x ≡ false → scan m x ≡ n → Passes m (x ∷ []) n
@@ -206,15 +206,15 @@ open_byte {n = n} {x = x} s q o = byte (outside (suc n)) (separates-plain n x s)
 pub close_byte : {n x : ℕ} → (x == 0x22) ≡ false → is_opener x ≡ false → is_closer x ≡ true → Passes (outside (suc n)) (x ∷ []) (outside n)
 close_byte {n = n} {x = x} q o c = byte (outside n) refl (rw q (rw o (rw c refl)))
 
-pub pass_open : {n x : ℕ} {t : List ℕ} → is_space x ≡ false → (x == 0x22) ≡ false → is_opener x ≡ true → IsMark x t
+pub pass_open : {n x : ℕ} {t : List ℕ} → is_space x ≡ false → (x == 0x22) ≡ false → is_opener x ≡ true → IsStructural x t
     → Passes (outside (suc n)) t (outside (suc (suc n)))
 pass_open s q o (mark a b) = then (pass_ws a) (then (open_byte s q o) (pass_ws b))
 
-pub pass_close : {n x : ℕ} {t : List ℕ} → (x == 0x22) ≡ false → is_opener x ≡ false → is_closer x ≡ true → IsMark x t
+pub pass_close : {n x : ℕ} {t : List ℕ} → (x == 0x22) ≡ false → is_opener x ≡ false → is_closer x ≡ true → IsStructural x t
     → Passes (outside (suc (suc n))) t (outside (suc n))
 pass_close q o c (mark a b) = then (pass_ws a) (then (close_byte q o c) (pass_ws b))
 
-pub pass_mark : {n x : ℕ} {t : List ℕ} → Plain x → IsMark x t → Passes (outside (suc n)) t (outside (suc n))
+pub pass_mark : {n x : ℕ} {t : List ℕ} → Plain x → IsStructural x t → Passes (outside (suc n)) t (outside (suc n))
 pass_mark p (mark a b) = then (pass_ws a) (then (plain p) (pass_ws b))
 
 pub comma : Plain 0x2C

@@ -2,14 +2,14 @@
 use Rattle.std.proofs.Common.{◌≡◌, ℕ, zero, suc, true, false, ◌==◌, List, [], ◌∷◌, ◌++◌, refl, sym, ap, ◌∙◌, subst, append_assoc, append-nil}
 use Rattle.json.specs.Json.{Json}
 use Rattle.json.specs.Word.{is_space}
-use Rattle.bson_json.specs.Grammar.{IsWs, no_ws, space, tab, line_feed, carriage_return, IsMark, mark}
+use Rattle.bson_json.specs.Grammar.{IsWs, no_ws, space, tab, line_feed, carriage_return, IsStructural, mark}
 use Rattle.bson_json.specs.Grammar.{IsInt, zero_alone, from_one}
 use Rattle.bson_json.specs.Grammar.{number}
 use Rattle.bson_json.specs.Grammar.{string}
 use Rattle.bson_json.specs.Grammar.{IsJsonValue, false_name, null_name, true_name, an_object, an_array, a_number, a_string}
 use Rattle.bson_json.specs.Grammar.{IsJson, text}
-use Rattle.bson_json.specs.Sequence.{IsBare, AreTexts, no_texts, texts, MoreTexts, no_more_texts, more_texts}
-use Rattle.bson_json.specs.Sequence.{outside, is_opener, is_closer, scan, part_from, parts, filled, texts_in}
+use Rattle.bson_json.specs.Sequence.{IsTrimmed, AreTexts, no_texts, texts, MoreTexts, no_more_texts, more_texts}
+use Rattle.bson_json.specs.Sequence.{outside, is_opener, is_closer, scan, split_or_prepend, parts, nonempty_parts, texts_in}
 use Rattle.bson_json.proofs.Forward.{three}
 use Rattle.bson_json.proofs.Scanned.{put_before, put_first, Passes, then, pass_number, pass_false, pass_true, pass_null, pass_string}
 use Rattle.bson_json.proofs.Scanned.{pass_ws, open_byte, close_byte, pass_values, pass_members}
@@ -35,7 +35,7 @@ pub alone : {t : List ℕ} → Passes (outside zero) t (outside zero) → Core t
 alone {t = t} p = record { front = []; core = t; back = []; split = sym (append-nil t); is_front = no_ws; is_back = no_ws; passes = p }
 
 pub bracketed : {o c : ℕ} {a b : List ℕ} (t : List ℕ) → is_space o ≡ false → (o == 0x22) ≡ false → is_opener o ≡ true → (c == 0x22) ≡ false
-    → is_opener c ≡ false → is_closer c ≡ true → IsMark o a → Passes (outside (suc zero)) t (outside (suc zero)) → IsMark c b
+    → is_opener c ≡ false → is_closer c ≡ true → IsStructural o a → Passes (outside (suc zero)) t (outside (suc zero)) → IsStructural c b
     → Core (a ++ (t ++ b))
 bracketed {o = o} {c = c} t so qo oo qc oc sc (mark {a = a} {b = b} wa wb) p (mark {a = d} {b = e} wd we) = record {
   front = a;
@@ -67,7 +67,7 @@ nil_right (x ∷ s) t e = absurd cc
 pub cons_not_nil : (x : ℕ) (xs : List ℕ) → x ∷ xs ≡ [] → ⊥
 cons_not_nil x xs e = cc
 
-pub not_marked : {c : ℕ} {t : List ℕ} → IsMark c t → t ≡ [] → ⊥
+pub not_marked : {c : ℕ} {t : List ℕ} → IsStructural c t → t ≡ [] → ⊥
 not_marked (mark {a = a} {b = b} h k) e = cons_not_nil _ b (nil_right a _ e)
 
 pub int_full : {t : List ℕ} → IsInt t → t ≡ [] → ⊥
@@ -108,7 +108,7 @@ core_in (text {a = a} {t = t} {b = b} h v k) =
       passes = c.passes;
     }
 
-pub bare_passes : {t : List ℕ} {j : Json} → IsJson t j → IsBare t → Passes (outside zero) t (outside zero)
+pub bare_passes : {t : List ℕ} {j : Json} → IsJson t j → IsTrimmed t → Passes (outside zero) t (outside zero)
 bare_passes {t = t} h bare =
     let c = core_in h in
     let no_front : c.front ≡ [] = bare.front c.front (c.core ++ c.back) c.split c.is_front in
@@ -118,8 +118,8 @@ bare_passes {t = t} h bare =
     c.split ∙ ap (λ l. l ++ (c.core ++ c.back)) no_front ∙ ap (λ l. c.core ++ l) no_back ∙ append-nil c.core in
     subst (λ s. Passes (outside zero) s (outside zero)) (sym same) c.passes
 
-pub with_full : (t : List ℕ) (ps : List (List ℕ)) → (t ≡ [] → ⊥) → filled (t ∷ ps) ≡ t ∷ filled ps
-unfolding filled
+pub with_full : (t : List ℕ) (ps : List (List ℕ)) → (t ≡ [] → ⊥) → nonempty_parts (t ∷ ps) ≡ t ∷ nonempty_parts ps
+unfolding nonempty_parts
 with_full [] ps full = absurd (full refl)
 with_full (x ∷ t) ps full = refl
 
@@ -131,11 +131,11 @@ one_space (carriage_return h) = refl
 
 pub behind_space : (x : ℕ) (u : List ℕ) → is_space x ≡ true → parts (outside zero) (x ∷ u) ≡ [] ∷ parts (outside zero) u
 unfolding parts
-behind_space x u e = ap (λ b. part_from b x (parts (outside zero) u) (parts (scan (outside zero) x) u)) e
+behind_space x u e = ap (λ b. split_or_prepend b x (parts (outside zero) u) (parts (scan (outside zero) x) u)) e
 
 pub skip_one : (x : ℕ) (u : List ℕ) → is_space x ≡ true → texts_in (x ∷ u) ≡ texts_in u
-unfolding filled
-skip_one x u e = ap filled (behind_space x u e)
+unfolding nonempty_parts
+skip_one x u e = ap nonempty_parts (behind_space x u e)
 
 pub skip_ws : {a : List ℕ} (u : List ℕ) → IsWs a → texts_in (a ++ u) ≡ texts_in u
 skip_ws u no_ws = refl
@@ -145,28 +145,28 @@ skip_ws u (line_feed h) = skip_one _ _ refl ∙ skip_ws u h
 skip_ws u (carriage_return h) = skip_one _ _ refl ∙ skip_ws u h
 
 pub nothing_in : texts_in [] ≡ []
-unfolding filled parts
+unfolding nonempty_parts parts
 nothing_in = refl
 
-pub at_end : (t : List ℕ) → (t ≡ [] → ⊥) → filled (put_before t (parts (outside zero) [])) ≡ t ∷ []
-unfolding filled parts
-at_end t full = ap filled (put_first t [] [] ∙ ap (λ s. s ∷ []) (append-nil t)) ∙ with_full t [] full
+pub at_end : (t : List ℕ) → (t ≡ [] → ⊥) → nonempty_parts (put_before t (parts (outside zero) [])) ≡ t ∷ []
+unfolding nonempty_parts parts
+at_end t full = ap nonempty_parts (put_first t [] [] ∙ ap (λ s. s ∷ []) (append-nil t)) ∙ with_full t [] full
 
 pub at_space : (t : List ℕ) (x : ℕ) (u : List ℕ) → (t ≡ [] → ⊥) → is_space x ≡ true
-    → filled (put_before t (parts (outside zero) (x ∷ u))) ≡ t ∷ texts_in u
+    → nonempty_parts (put_before t (parts (outside zero) (x ∷ u))) ≡ t ∷ texts_in u
 at_space t x u full e =
-    ap (λ ps. filled (put_before t ps)) (behind_space x u e)
-    ∙ ap filled (put_first t [] (parts (outside zero) u) ∙ ap (λ s. s ∷ parts (outside zero) u) (append-nil t))
+    ap (λ ps. nonempty_parts (put_before t ps)) (behind_space x u e)
+    ∙ ap nonempty_parts (put_first t [] (parts (outside zero) u) ∙ ap (λ s. s ∷ parts (outside zero) u) (append-nil t))
     ∙ with_full t (parts (outside zero) u) full
 
 mutual
   pub texts_found : {content : List ℕ} {ts : List (List ℕ)} → AreTexts content ts → texts_in content ≡ ts
   texts_found (no_texts {a = a} h) = ap texts_in (sym (append-nil a)) ∙ skip_ws [] h ∙ nothing_in
   texts_found (texts {a = a} {t = t} {u = u} h j bare m) =
-      skip_ws (t ++ u) h ∙ ap filled ((bare_passes j bare).passed u) ∙ more_found t (text_full j) m
+      skip_ws (t ++ u) h ∙ ap nonempty_parts ((bare_passes j bare).passed u) ∙ more_found t (text_full j) m
 
   pub more_found : {u : List ℕ} {ts : List (List ℕ)} (t : List ℕ) → (t ≡ [] → ⊥) → MoreTexts u ts
-      → filled (put_before t (parts (outside zero) u)) ≡ t ∷ ts
+      → nonempty_parts (put_before t (parts (outside zero) u)) ≡ t ∷ ts
   more_found t full no_more_texts = at_end t full
   more_found t full (more_texts {x = x} {u = u} h k) =
       at_space t x u full (one_space h) ∙ ap (λ ts. t ∷ ts) (texts_found k)

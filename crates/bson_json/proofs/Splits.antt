@@ -1,6 +1,6 @@
 -- The first text, a byte at a time.
 use Rattle.std.proofs.Common.{◌≡◌, ℕ, zero, suc, ◌+◌, ◌<◌, ◌≤◌, true, false, List, [], ◌∷◌, ◌++◌, length, drop, take, get_or, refl, sym, ap, ◌∙◌, append-nil, ◌-◌, add-one, arith}
-use Rattle.bson_json.specs.Sequence.{Scan, outside, scan, separates, parts, filled, texts_in, with_part}
+use Rattle.bson_json.specs.Sequence.{Scan, outside, scan, separates, parts, nonempty_parts, texts_in, prepend_part}
 use Rattle.bson_json.proofs.Scanned.{put_before, put_twice, put_one, put_first, put_none}
 use Rattle.bson_json.proofs.Sequences.{nothing_in}
 use Rattle.bson_json.proofs.FoundTexts.{within_part, separated, filled_nil}
@@ -34,17 +34,17 @@ split_on xs at m inside e h =
     ∙ sym (put_twice (take at xs) (x ∷ []) (parts (scan m x) rest))
     ∙ ap (λ z. put_before z (parts (scan m x) rest)) (sym (take_next xs at inside))
 
-pub filled_with : (t : List ℕ) (ps : List (List ℕ)) → filled (t ∷ ps) ≡ with_part t (filled ps)
-unfolding filled
+pub filled_with : (t : List ℕ) (ps : List (List ℕ)) → nonempty_parts (t ∷ ps) ≡ prepend_part t (nonempty_parts ps)
+unfolding nonempty_parts
 filled_with t ps = refl
 
 -- at a separator
 pub split_at_space : (xs : List ℕ) (at : ℕ) (m : Scan) → at < length xs → separates m (get_or xs at 0) ≡ true → IsSplit xs at m
-    → texts_in xs ≡ with_part (take at xs) (texts_in (drop (suc at) xs))
+    → texts_in xs ≡ prepend_part (take at xs) (texts_in (drop (suc at) xs))
 split_at_space xs at m inside e h =
     let x = get_or xs at 0 in
     let rest = drop (suc at) xs in
-    ap filled (h ∙ ap (λ z. put_before (take at xs) (parts m z)) (drop_next xs at inside)
+    ap nonempty_parts (h ∙ ap (λ z. put_before (take at xs) (parts m z)) (drop_next xs at inside)
     ∙ ap (put_before (take at xs)) (separated m x rest e)
     ∙ put_first (take at xs) [] (parts (outside zero) rest)
     ∙ ap (λ z. z ∷ parts (outside zero) rest) (append-nil (take at xs)))
@@ -74,12 +74,12 @@ drop-all (suc n) (x ∷ xs) h = drop-all n xs (omega arith)
 
 -- at the end
 pub split_at_end : (xs : List ℕ) (at : ℕ) (m : Scan) → length xs ≤ at → IsSplit xs at m
-    → texts_in xs ≡ with_part xs (texts_in [])
+    → texts_in xs ≡ prepend_part xs (texts_in [])
 split_at_end xs at m all h =
-    ap filled (h ∙ ap (λ z. put_before z (parts m (drop at xs))) (take-all at xs all)
+    ap nonempty_parts (h ∙ ap (λ z. put_before z (parts m (drop at xs))) (take-all at xs all)
     ∙ ap (λ z. put_before xs (parts m z)) (drop-all at xs all) ∙ ap (put_before xs) (parts_end m)
     ∙ put_first xs [] [] ∙ ap (λ z. z ∷ []) (append-nil xs))
-    ∙ filled_with xs [] ∙ ap (with_part xs) (filled_nil ∙ sym nothing_in)
+    ∙ filled_with xs [] ∙ ap (prepend_part xs) (filled_nil ∙ sym nothing_in)
 
 pub length-dropped : (n : ℕ) (xs : List ℕ) → length (drop n xs) ≤ length xs - n
 length-dropped zero xs = omega arith
@@ -95,9 +95,9 @@ split_there (x ∷ xs) zero inside = refl
 split_there (x ∷ xs) (suc at) inside = ap (λ z. x ∷ z) (split_there xs at (omega arith))
 
 pub found_at_space : (xs : List ℕ) (at : ℕ) (m : Scan) → at < length xs → separates m (get_or xs at 0) ≡ true → IsSplit xs at m
-    → texts_in xs ≡ with_part (take at xs) (texts_in (take (length xs - (at + 1)) (drop (at + 1) xs)))
+    → texts_in xs ≡ prepend_part (take at xs) (texts_in (take (length xs - (at + 1)) (drop (at + 1) xs)))
 found_at_space xs at m inside e h =
-    split_at_space xs at m inside e h ∙ ap (λ z. with_part (take at xs) (texts_in z)) (sym (tail_of xs at))
+    split_at_space xs at m inside e h ∙ ap (λ z. prepend_part (take at xs) (texts_in z)) (sym (tail_of xs at))
 
 pub placed_at_space : (xs : List ℕ) (at : ℕ) → at < length xs
     → (x : ℕ) × (xs ≡ take at xs ++ x ∷ take (length xs - (at + 1)) (drop (at + 1) xs))

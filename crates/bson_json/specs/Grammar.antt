@@ -19,26 +19,26 @@ pub data IsWs : List ℕ → Type 0 where
   carriage_return : {t : List ℕ} → IsWs t → IsWs (0x0D ∷ t)
 
 -- begin-array = ws %x5B ws, and so each of the six structural characters
-pub data IsMark (c : ℕ) : List ℕ → Type 0 where
-  mark : {a b : List ℕ} → IsWs a → IsWs b → IsMark c (a ++ c ∷ b)
+pub data IsStructural (c : ℕ) : List ℕ → Type 0 where
+  mark : {a b : List ℕ} → IsWs a → IsWs b → IsStructural c (a ++ c ∷ b)
 
 abbrev pub IsBeginArray : List ℕ → Type 0
-IsBeginArray = IsMark 0x5B
+IsBeginArray = IsStructural 0x5B
 
 abbrev pub IsBeginObject : List ℕ → Type 0
-IsBeginObject = IsMark 0x7B
+IsBeginObject = IsStructural 0x7B
 
 abbrev pub IsEndArray : List ℕ → Type 0
-IsEndArray = IsMark 0x5D
+IsEndArray = IsStructural 0x5D
 
 abbrev pub IsEndObject : List ℕ → Type 0
-IsEndObject = IsMark 0x7D
+IsEndObject = IsStructural 0x7D
 
 abbrev pub IsNameSeparator : List ℕ → Type 0
-IsNameSeparator = IsMark 0x3A
+IsNameSeparator = IsStructural 0x3A
 
 abbrev pub IsValueSeparator : List ℕ → Type 0
-IsValueSeparator = IsMark 0x2C
+IsValueSeparator = IsStructural 0x2C
 
 -- ---- section 6: numbers
 

@@ -8,7 +8,7 @@ use Rattle.bson_json.specs.declared.sequence.Scan as declared
 use Rattle.bson_json.specs.declared.sequence.Scan.TheVariants as scans
 
 -- no white space begins or ends the bytes
-pub record IsBare (t : List ℕ) : Type 0 where
+pub record IsTrimmed (t : List ℕ) : Type 0 where
   pub front : (a r : List ℕ) → t ≡ a ++ r → IsWs a → a ≡ []
   pub back : (r a : List ℕ) → t ≡ r ++ a → IsWs a → a ≡ []
 
@@ -16,7 +16,7 @@ mutual
   -- texts = ws [ text ( end / ws-byte texts ) ]
   pub data AreTexts : List ℕ → List (List ℕ) → Type 0 where
     no_texts : {a : List ℕ} → IsWs a → AreTexts a []
-    texts : {a t u : List ℕ} {j : Json} {ts : List (List ℕ)} → IsWs a → IsJson t j → IsBare t → MoreTexts u ts
+    texts : {a t u : List ℕ} {j : Json} {ts : List (List ℕ)} → IsWs a → IsJson t j → IsTrimmed t → MoreTexts u ts
         → AreTexts (a ++ (t ++ u)) (t ∷ ts)
 
   pub data MoreTexts : List ℕ → List (List ℕ) → Type 0 where
@@ -38,13 +38,13 @@ abbrev pub is_closer : ℕ → Bool
 is_closer x = (x == 0x5D) || (x == 0x7D)
 
 -- the number minus 1, or 0
-abbrev pub less : ℕ → ℕ
-less zero = zero
-less (suc n) = n
+abbrev pub minus_one : ℕ → ℕ
+minus_one zero = zero
+minus_one (suc n) = n
 
 abbrev pub scan : Scan → ℕ → Scan
 scan (outside n) x = if x == 0x22 then in_string n
-    else (if is_opener x then outside (suc n) else (if is_closer x then outside (less n) else outside n))
+    else (if is_opener x then outside (suc n) else (if is_closer x then outside (minus_one n) else outside n))
 scan (in_string n) x = if x == 0x22 then outside n else (if x == 0x5C then in_escape n else in_string n)
 scan (in_escape n) x = in_string n
 
@@ -53,30 +53,30 @@ abbrev pub separates : Scan → ℕ → Bool
 separates (outside zero) x = is_space x
 separates other x = false
 
-abbrev pub onto_part : ℕ → List (List ℕ) → List (List ℕ)
-onto_part x [] = (x ∷ []) ∷ []
-onto_part x (part ∷ parts) = (x ∷ part) ∷ parts
+abbrev pub prepend_byte : ℕ → List (List ℕ) → List (List ℕ)
+prepend_byte x [] = (x ∷ []) ∷ []
+prepend_byte x (part ∷ parts) = (x ∷ part) ∷ parts
 
-abbrev pub part_from : (ends : Bool) → ℕ → (next same : List (List ℕ)) → List (List ℕ)
-part_from true x next same = [] ∷ next
-part_from false x next same = onto_part x same
+abbrev pub split_or_prepend : (ends : Bool) → ℕ → (next same : List (List ℕ)) → List (List ℕ)
+split_or_prepend true x next same = [] ∷ next
+split_or_prepend false x next same = prepend_byte x same
 
 -- the parts between this white space; some parts are empty
 unfoldable pub parts : Scan → List ℕ → List (List ℕ)
 parts at [] = [] ∷ []
-parts at (x ∷ xs) = part_from (separates at x) x (parts (outside zero) xs) (parts (scan at x) xs)
+parts at (x ∷ xs) = split_or_prepend (separates at x) x (parts (outside zero) xs) (parts (scan at x) xs)
 
-abbrev pub with_part : List ℕ → List (List ℕ) → List (List ℕ)
-with_part [] more = more
-with_part (x ∷ part) more = (x ∷ part) ∷ more
+abbrev pub prepend_part : List ℕ → List (List ℕ) → List (List ℕ)
+prepend_part [] more = more
+prepend_part (x ∷ part) more = (x ∷ part) ∷ more
 
-unfoldable pub filled : List (List ℕ) → List (List ℕ)
-filled [] = []
-filled (part ∷ more) = with_part part (filled more)
+unfoldable pub nonempty_parts : List (List ℕ) → List (List ℕ)
+nonempty_parts [] = []
+nonempty_parts (part ∷ more) = prepend_part part (nonempty_parts more)
 
 -- those that are not empty
 abbrev pub texts_in : List ℕ → List (List ℕ)
-texts_in content = filled (parts (outside zero) content)
+texts_in content = nonempty_parts (parts (outside zero) content)
 
 -- ---- for private clauses
 

@@ -34,8 +34,8 @@ pub fn reading_is_the_grammar()
 /// value with that tree. A text means the values that this tree means.
 pub fn texts_mean_by_the_grammar()
     ensures read { (text : List ℕ) (t : Data) → (read text ≡ Some t) ↔ IsJsonOf text t }
-    ensures means { (D : Doubles) (text : List ℕ) (v : Value)
-        → MeansByDefault D text v ↔ ((t : Data) × IsJsonOf text t × HasMeaningIn D t v) }
+    ensures means { (doubles : Doubles) (text : List ℕ) (v : Value)
+        → MeansByDefault doubles text v ↔ ((t : Data) × IsJsonOf text t × HasMeaningIn doubles t v) }
 {}
 
 /// Proves that the kit's reader of numbers reads all of a text if and only if the grammar has this

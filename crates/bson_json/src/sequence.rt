@@ -1,6 +1,6 @@
 //! Where the texts of a sequence of JSON texts end.
 ghost use Rattle.std.specs.Prelude.{◌≡◌, ◌≤◌, ◌<◌, ◌+◌, ◌^◌, ◌-◌, ◌++◌, ◌∷◌, ◌⊎◌, [], ℕ, length};
-ghost use Rattle.bson_json.specs.Sequence.{depth_of, is_closer, is_opener, less, scan, scan_of, separates, texts_in, with_part};
+ghost use Rattle.bson_json.specs.Sequence.{depth_of, is_closer, is_opener, minus_one, scan, scan_of, separates, texts_in, prepend_part};
 ghost use Rattle.json.specs.Word.{is_space};
 
 /// Where a byte is: so many brackets are open.
@@ -28,7 +28,7 @@ impl Scan {
                 } else if is_opener(byte) {
                     Scan::Outside(brackets + 1)
                 } else if is_closer(byte) {
-                    Scan::Outside(less(brackets))
+                    Scan::Outside(minus_one(brackets))
                 } else {
                     Scan::Outside(brackets)
                 }
@@ -68,7 +68,7 @@ impl Scan {
 /// println!(rt; "{} {}", text.len(), rest.len())?; // 6 1
 /// ```
 pub fn split_text(content: &[u8]) -> (&[u8], &[u8])
-    ensures found { texts_in content.now ≡ with_part result.0.now (texts_in result.1.now) }
+    ensures found { texts_in content.now ≡ prepend_part result.0.now (texts_in result.1.now) }
     ensures place { ((content.now ≡ result.0.now) × (result.1.now ≡ []))
         ⊎ ((x : ℕ) × (content.now ≡ result.0.now ++ x ∷ result.1.now)) }
 {
@@ -104,8 +104,8 @@ fn is_space(byte: u8) -> bool
 }
 
 // Subtracts 1, unless the number is 0.
-fn less(brackets: usize) -> usize
-    ensures { result ≡ less brackets }
+fn minus_one(brackets: usize) -> usize
+    ensures { result ≡ minus_one brackets }
 {
     match brackets {
         0 => 0,

@@ -5,13 +5,13 @@ use Rattle.bson_model.specs.Value.{Value, code_scope, Values, Pairs, pair}
 use Rattle.bson_model.specs.Value as model
 use Rattle.bson_model.specs.Means.{MeansIn, scalar, code_with_scope, array, document, MeansItemsIn, nothing, then}
 use Rattle.bson_model.specs.Means.{MeansDocumentIn, empty, entry}
-use Rattle.bson_model.specs.Sorted.{put_pair, sorted, sorted_items, sorted_pairs, IsBelowKeys, KeysAscend}
+use Rattle.bson_model.specs.Sorted.{insert_sorted_pair, sorted, sorted_items, sorted_pairs, IsBelowKeys, KeysAscend}
 use Rattle.bson_model.specs.Texts.{IsBelow, Ascends, IsTree, ItemsAreTrees, MembersAreTrees}
 use Rattle.bson_scalar.specs.declared.form.Doubles.{Doubles}
 
 module _ (D : Doubles) where
   put_first : {ms : Members} {ps : Pairs} (k : List ℕ) (v : Value) → MeansDocumentIn D ms ps → IsBelow k ms
-      → put_pair k v ps ≡ pair k v ps
+      → insert_sorted_pair k v ps ≡ pair k v ps
   put_first k v empty below = refl
   put_first k v (entry l e w ms ps m n) below = rw below.0 refl
 

@@ -2,10 +2,10 @@
 use Rattle.std.proofs.Common.{◌≡◌, Bool, true, false, ◌||◌, Result, Ok, Err, refl}
 use Rattle.bson_scalar.specs.Faults.{Fault}
 use Rattle.bson_scalar.specs.Faults as fault
-use Rattle.bson_scalar.specs.Written.{Refusal, ◌>>=◌}
+use Rattle.bson_scalar.specs.Written.{WriteFault, ◌>>=◌}
 
 -- both steps of a writing that succeeds do
-pub bind_ok : {A B : Type 0} (r : Result A Refusal) (f : A → Result B Refusal) (y : B) → (r >>= f) ≡ Ok y
+pub bind_ok : {A B : Type 0} (r : Result A WriteFault) (f : A → Result B WriteFault) (y : B) → (r >>= f) ≡ Ok y
     → (x : A) × (r ≡ Ok x) × (f x ≡ Ok y)
 bind_ok (Ok x) f y h = (x, refl, h)
 bind_ok (Err e) f y h = cc

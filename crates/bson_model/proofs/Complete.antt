@@ -16,8 +16,8 @@ use Rattle.bson_model.specs.Reading.{reads_in, reads_items_in, reads_members_in,
 use Rattle.bson_model.specs.Reading.{code_at, code_value}
 use Rattle.bson_model.specs.Value.{Value, scalar, array, document, Values, no_values, value, Pairs, no_pairs, pair}
 use Rattle.bson_model.proofs.Offered.{fault_bind_ok}
-use Rattle.bson_model.specs.Kept.{unordered, unordered_items, unordered_members, has_key, KeysDiffer, IsKeptTree}
-use Rattle.bson_model.specs.Kept.{ItemsAreKept, MembersAreKept}
+use Rattle.bson_model.specs.OrderedTrees.{tree_sorted_by_key, items_sorted_by_key, members_sorted_by_key, has_key, KeysDiffer, IsTreeInOrder}
+use Rattle.bson_model.specs.OrderedTrees.{ItemsAreTreesInOrder, MembersAreTreesInOrder}
 use Rattle.bson_model.specs.OrderedReading.{reads_in_order, items_in_order, members_in_order, wrapper_in_order}
 use Rattle.bson_model.specs.OrderedReading.{scope_in_order}
 use Rattle.bson_model.proofs.Options.{same_bytes}
@@ -83,7 +83,7 @@ module _ (D : Doubles) where
       (same_bytes k (codes "$code") both.0, same_bytes l (codes "$scope") both.1)
 
   abbrev Scopes : Data → Type 0
-  Scopes e = (ps : Option Pairs) → reads_scope_in D (unordered e) ≡ Ok ps
+  Scopes e = (ps : Option Pairs) → reads_scope_in D (tree_sorted_by_key e) ≡ Ok ps
       → (qs : Option Pairs) × (scope_in_order D e ≡ Ok qs)
 
   remade : (b : Bool) (o : Option (List ℕ)) (r q : Result (Option Pairs) Fault) (w : Value)
@@ -101,78 +101,78 @@ module _ (D : Doubles) where
 
   two_at : (o : Ordering) (k l : List ℕ) (d e : Data) (w : Value) → cmp k l ≡ o → bytes_eq k l ≡ false → Scopes d
       → Scopes e
-      → reads_wrapper_in D (match_ordering o (member k (unordered d) (member l (unordered e) no_members))
-      (member l (unordered d) no_members) (member l (unordered e) (member k (unordered d) no_members)))
+      → reads_wrapper_in D (match_ordering o (member k (tree_sorted_by_key d) (member l (tree_sorted_by_key e) no_members))
+      (member l (tree_sorted_by_key d) no_members) (member l (tree_sorted_by_key e) (member k (tree_sorted_by_key d) no_members)))
       ≡ Ok w
       → (v : Value)
-      × (cond (bytes_eq k (codes "$scope")) (code_at l (unordered e) k (scope_in_order D d))
-      (code_at k (unordered d) l (scope_in_order D e)) ≡ Ok v)
+      × (cond (bytes_eq k (codes "$scope")) (code_at l (tree_sorted_by_key e) k (scope_in_order D d))
+      (code_at k (tree_sorted_by_key d) l (scope_in_order D e)) ≡ Ok v)
   two_at Less k l d e w c differ f g h =
       let keys = is_code k l _ w h in
       let other : bytes_eq k (codes "$scope") ≡ false =
       subst (λ q. bytes_eq q (codes "$scope") ≡ false) (sym keys.0) refl in
-      let m = remade (bytes_eq k (codes "$code") && bytes_eq l (codes "$scope")) (as_str (unordered d))
-      (reads_scope_in D (unordered e)) (scope_in_order D e) w g h in
+      let m = remade (bytes_eq k (codes "$code") && bytes_eq l (codes "$scope")) (as_str (tree_sorted_by_key d))
+      (reads_scope_in D (tree_sorted_by_key e)) (scope_in_order D e) w g h in
       (m.0, rw other m.1)
   two_at Equal k l d e w c differ f g h = not_equal k l c differ
   two_at Greater k l d e w c differ f g h =
       let keys = is_code l k _ w h in
       let same : bytes_eq k (codes "$scope") ≡ true =
       subst (λ q. bytes_eq q (codes "$scope") ≡ true) (sym keys.1) refl in
-      let m = remade (bytes_eq l (codes "$code") && bytes_eq k (codes "$scope")) (as_str (unordered e))
-      (reads_scope_in D (unordered d)) (scope_in_order D d) w f h in
+      let m = remade (bytes_eq l (codes "$code") && bytes_eq k (codes "$scope")) (as_str (tree_sorted_by_key e))
+      (reads_scope_in D (tree_sorted_by_key d)) (scope_in_order D d) w f h in
       (m.0, chosen (bytes_eq k (codes "$scope")) _ _ m.0 same m.1)
 
   -- ---- the whole tree
 
   object_read : (b : Bool) (ms : Members) (w : Value)
-      → (reads_wrapper_in D (unordered_members ms) ≡ Ok w → (v : Value) × (wrapper_in_order D ms ≡ Ok v))
-      → ((ps : Pairs) → reads_members_in D (unordered_members ms) ≡ Ok ps
+      → (reads_wrapper_in D (members_sorted_by_key ms) ≡ Ok w → (v : Value) × (wrapper_in_order D ms ≡ Ok v))
+      → ((ps : Pairs) → reads_members_in D (members_sorted_by_key ms) ≡ Ok ps
       → (qs : Pairs) × (members_in_order D ms ≡ Ok qs))
-      → cond b (reads_wrapper_in D (unordered_members ms))
-      (reads_members_in D (unordered_members ms) >>= λ ps. Ok (document ps))
+      → cond b (reads_wrapper_in D (members_sorted_by_key ms))
+      (reads_members_in D (members_sorted_by_key ms) >>= λ ps. Ok (document ps))
       ≡ Ok w
       → (v : Value) × (cond b (wrapper_in_order D ms) (members_in_order D ms >>= λ ps. Ok (document ps)) ≡ Ok v)
   object_read true ms w f g h = f h
   object_read false ms w f g h =
-      let b = fault_bind_ok (reads_members_in D (unordered_members ms)) _ w h in
+      let b = fault_bind_ok (reads_members_in D (members_sorted_by_key ms)) _ w h in
       let m = g b.0 b.1 in (document m.0, rw m.1 refl)
 
   mutual
-    pub read_in_order : (t : Data) (w : Value) → IsKeptTree t → reads_in D (unordered t) ≡ Ok w
+    pub read_in_order : (t : Data) (w : Value) → IsTreeInOrder t → reads_in D (tree_sorted_by_key t) ≡ Ok w
         → (v : Value) × (reads_in_order D t ≡ Ok v)
     read_in_order tree.null w is h = (scalar null, refl)
     read_in_order (tree.boolean b) w is h = (scalar (boolean b), refl)
     read_in_order (tree.number n) w is h = (w, h)
     read_in_order (tree.string s) w is h = (scalar (text s), refl)
     read_in_order (tree.array ds) w is h =
-        let b = fault_bind_ok (reads_items_in D (unordered_items ds)) _ w h in
+        let b = fault_bind_ok (reads_items_in D (items_sorted_by_key ds)) _ w h in
         let m = items_read ds b.0 is b.1 in (array m.0, rw m.1 refl)
     read_in_order (tree.object ms) w is h =
         object_read (has_wrapper ms) ms w (λ g. wrapper_read ms w is.0 is.1 g)
         (λ ps g. members_read ms ps is.0 is.1 g)
-        (subst (λ b. cond b (reads_wrapper_in D (unordered_members ms))
-        (reads_members_in D (unordered_members ms) >>= λ ps. Ok (document ps)) ≡ Ok w) (same_wrapper ms) h)
+        (subst (λ b. cond b (reads_wrapper_in D (members_sorted_by_key ms))
+        (reads_members_in D (members_sorted_by_key ms) >>= λ ps. Ok (document ps)) ≡ Ok w) (same_wrapper ms) h)
 
-    items_read : (ds : Items) (ws : Values) → ItemsAreKept ds → reads_items_in D (unordered_items ds) ≡ Ok ws
+    items_read : (ds : Items) (ws : Values) → ItemsAreTreesInOrder ds → reads_items_in D (items_sorted_by_key ds) ≡ Ok ws
         → (vs : Values) × (items_in_order D ds ≡ Ok vs)
     items_read no_items ws is h = (no_values, refl)
     items_read (item d ds) ws is h =
-        let b = fault_bind_ok (reads_in D (unordered d)) _ ws h in
-        let c = fault_bind_ok (reads_items_in D (unordered_items ds)) _ ws b.2 in
+        let b = fault_bind_ok (reads_in D (tree_sorted_by_key d)) _ ws h in
+        let c = fault_bind_ok (reads_items_in D (items_sorted_by_key ds)) _ ws b.2 in
         let m = read_in_order d b.0 is.0 b.1 in
         let n = items_read ds c.0 is.1 c.1 in (value m.0 n.0, rw (m.1, n.1) refl)
 
-    members_read : (ms : Members) (ps : Pairs) → KeysDiffer ms → MembersAreKept ms
-        → reads_members_in D (unordered_members ms) ≡ Ok ps → (qs : Pairs) × (members_in_order D ms ≡ Ok qs)
+    members_read : (ms : Members) (ps : Pairs) → KeysDiffer ms → MembersAreTreesInOrder ms
+        → reads_members_in D (members_sorted_by_key ms) ≡ Ok ps → (qs : Pairs) × (members_in_order D ms ≡ Ok qs)
     members_read no_members ps differ is h = (no_pairs, refl)
     members_read (member k d ms) ps differ is h =
-        let p = put_parts k (unordered d) (unordered_members ms) ps (same_key k ms ∙ differ.0) h in
+        let p = put_parts k (tree_sorted_by_key d) (members_sorted_by_key ms) ps (same_key k ms ∙ differ.0) h in
         let m = read_in_order d p.0.0 is.0 p.0.1 in
         let n = members_read ms p.1.0 differ.1 is.1 p.1.1 in (pair k m.0 n.0, rw (m.1, n.1) refl)
 
-    wrapper_read : (ms : Members) (w : Value) → KeysDiffer ms → MembersAreKept ms
-        → reads_wrapper_in D (unordered_members ms) ≡ Ok w → (v : Value) × (wrapper_in_order D ms ≡ Ok v)
+    wrapper_read : (ms : Members) (w : Value) → KeysDiffer ms → MembersAreTreesInOrder ms
+        → reads_wrapper_in D (members_sorted_by_key ms) ≡ Ok w → (v : Value) × (wrapper_in_order D ms ≡ Ok v)
     wrapper_read no_members w differ is h = cc
     wrapper_read (member k d no_members) w differ is h = (w, h)
     wrapper_read (member k d (member l e no_members)) w differ is h =
@@ -180,10 +180,10 @@ module _ (D : Doubles) where
         (λ ps g. scope_read d ps is.0 g) (λ ps g. scope_read e ps is.1.0 g) h
     wrapper_read (member k d (member l e (member m f ms))) w differ is h =
         let long = same_size (member k d (member l e (member m f ms))) differ in
-        let short = few (unordered_members (member k d (member l e (member m f ms)))) w h in
+        let short = few (members_sorted_by_key (member k d (member l e (member m f ms)))) w h in
         absurd (omega (arith, long, short))
 
-    scope_read : (e : Data) (ps : Option Pairs) → IsKeptTree e → reads_scope_in D (unordered e) ≡ Ok ps
+    scope_read : (e : Data) (ps : Option Pairs) → IsTreeInOrder e → reads_scope_in D (tree_sorted_by_key e) ≡ Ok ps
         → (qs : Option Pairs) × (scope_in_order D e ≡ Ok qs)
     scope_read tree.null ps is h = (None, refl)
     scope_read (tree.boolean b) ps is h = cc
@@ -191,5 +191,5 @@ module _ (D : Doubles) where
     scope_read (tree.string s) ps is h = cc
     scope_read (tree.array ds) ps is h = cc
     scope_read (tree.object ms) ps is h =
-        let b = fault_bind_ok (reads_members_in D (unordered_members ms)) _ ps h in
+        let b = fault_bind_ok (reads_members_in D (members_sorted_by_key ms)) _ ps h in
         let m = members_read ms b.0 is.0 is.1 b.1 in (Some m.0, rw m.1 refl)

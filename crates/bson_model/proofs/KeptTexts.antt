@@ -13,21 +13,21 @@ use Rattle.serde_json.specs.Data.{Num, unsigned, negative, float, Data, Items, n
 use Rattle.serde_json.specs.Data.{member, depth, items_depth, members_depth}
 use Rattle.serde_json.specs.Data as tree
 use Rattle.serde_json.specs.Read.{max_depth}
-use Rattle.bson_scalar.specs.TreeText.{outline, items_outline, members_outline, text_of, HasNoFloatIn, tree_text}
+use Rattle.bson_scalar.specs.TreeText.{json_of_tree, json_of_items, json_of_members, text_of, HasNoFloatIn, tree_text}
 use Rattle.bson_scalar.specs.declared.form.Doubles.{Doubles}
 use Rattle.bson_scalar.specs.declared.form.Form.{Form}
 use Rattle.bson_scalar.proofs.Offered.{float_is_number, text_is}
 use Rattle.bson_model.proofs.Offered.{number_back}
-use Rattle.bson_model.specs.Kept.{put_kept, kept, kept_items, kept_members, unordered, has_key, KeysDiffer, read_kept}
-use Rattle.bson_model.specs.Kept.{IsKeptTree, ItemsAreKept, MembersAreKept}
-use Rattle.bson_model.specs.OrderedTexts.{HasOwnTextInOrder}
+use Rattle.bson_model.specs.OrderedTrees.{put_in_place, kept, kept_items, kept_members, tree_sorted_by_key, has_key, KeysDiffer, read_in_order}
+use Rattle.bson_model.specs.OrderedTrees.{IsTreeInOrder, ItemsAreTreesInOrder, MembersAreTreesInOrder}
+use Rattle.bson_model.specs.OrderedTexts.{TextReadsBackInOrder}
 use Rattle.bson_model.proofs.Forgetting.{read_forgotten}
 use Rattle.bson_model.proofs.Options.{un_some, turned}
 
 -- ---- the tokens of the text are those of the tree
 
 mutual
-  numbers : (d : Data) → IsKeptTree d → parsed.HasNumbers (outline d)
+  numbers : (d : Data) → IsTreeInOrder d → parsed.HasNumbers (json_of_tree d)
   numbers tree.null t = tt
   numbers (tree.boolean b) t = tt
   numbers (tree.number (unsigned n)) t = IsNumber-decimal n t
@@ -38,16 +38,16 @@ mutual
   numbers (tree.array ds) t = items_numbers ds t
   numbers (tree.object ms) t = members_numbers ms t.1
 
-  items_numbers : (ds : Items) → ItemsAreKept ds → parsed.ItemsHaveNumbers (items_outline ds)
+  items_numbers : (ds : Items) → ItemsAreTreesInOrder ds → parsed.ItemsHaveNumbers (json_of_items ds)
   items_numbers no_items t = tt
   items_numbers (item d ds) t = (numbers d t.0, items_numbers ds t.1)
 
-  members_numbers : (ms : Members) → MembersAreKept ms → parsed.MembersHaveNumbers (members_outline ms)
+  members_numbers : (ms : Members) → MembersAreTreesInOrder ms → parsed.MembersHaveNumbers (json_of_members ms)
   members_numbers no_members t = tt
   members_numbers (member k d ms) t = (numbers d t.0, members_numbers ms t.1)
 
 mutual
-  same_depth : (d : Data) → parsed.depth (outline d) ≡ depth d
+  same_depth : (d : Data) → parsed.depth (json_of_tree d) ≡ depth d
   same_depth tree.null = refl
   same_depth (tree.boolean b) = refl
   same_depth (tree.number n) = refl
@@ -55,11 +55,11 @@ mutual
   same_depth (tree.array ds) = ap suc (items_same_depth ds)
   same_depth (tree.object ms) = ap suc (members_same_depth ms)
 
-  items_same_depth : (ds : Items) → parsed.items_depth (items_outline ds) ≡ items_depth ds
+  items_same_depth : (ds : Items) → parsed.items_depth (json_of_items ds) ≡ items_depth ds
   items_same_depth no_items = refl
   items_same_depth (item d ds) = ap₂ max (same_depth d) (items_same_depth ds)
 
-  members_same_depth : (ms : Members) → parsed.members_depth (members_outline ms) ≡ members_depth ms
+  members_same_depth : (ms : Members) → parsed.members_depth (json_of_members ms) ≡ members_depth ms
   members_same_depth no_members = refl
   members_same_depth (member k d ms) = ap₂ max (same_depth d) (members_same_depth ms)
 
@@ -86,7 +86,7 @@ apart_from l (member a e found) k d ms h =
 
 -- a new key goes last
 pub put_last : (found : Members) (k : List ℕ) (d : Data) (ms : Members) → KeysDiffer (joined found (member k d ms))
-    → put_kept k d found ≡ joined found (member k d no_members)
+    → put_in_place k d found ≡ joined found (member k d no_members)
 put_last no_members k d ms h = refl
 put_last (member l e found) k d ms h =
     let apart : bytes_eq k l ≡ false = turned l k (apart_from l found k d ms h.0) in
@@ -95,7 +95,7 @@ put_last (member l e found) k d ms h =
 -- ---- what is parsed is the tree
 
 mutual
-  data_back : (d : Data) → IsKeptTree d → kept (outline d) ≡ Some d
+  data_back : (d : Data) → IsTreeInOrder d → kept (json_of_tree d) ≡ Some d
   data_back tree.null t = refl
   data_back (tree.boolean b) t = refl
   data_back (tree.number n) t = ap (option_map tree.number) (number_back n t)
@@ -103,12 +103,12 @@ mutual
   data_back (tree.array ds) t = ap (option_map tree.array) (items_back ds t)
   data_back (tree.object ms) t = ap (option_map tree.object) (members_back ms no_members t.0 t.1)
 
-  items_back : (ds : Items) → ItemsAreKept ds → kept_items (items_outline ds) ≡ Some ds
+  items_back : (ds : Items) → ItemsAreTreesInOrder ds → kept_items (json_of_items ds) ≡ Some ds
   items_back no_items t = refl
   items_back (item d ds) t = rw (data_back d t.0, items_back ds t.1) refl
 
-  members_back : (ms found : Members) → KeysDiffer (joined found ms) → MembersAreKept ms
-      → kept_members (members_outline ms) found ≡ Some (joined found ms)
+  members_back : (ms found : Members) → KeysDiffer (joined found ms) → MembersAreTreesInOrder ms
+      → kept_members (json_of_members ms) found ≡ Some (joined found ms)
   members_back no_members found up t = ap Some (sym (joined_none found))
   members_back (member k d ms) found up t =
       let last = put_last found k d ms up in
@@ -121,25 +121,25 @@ mutual
 abbrev read_within : ℕ → List ℕ → Option Data
 read_within n text = option_and_then kept (option_and_then (λ p. json.if_last p.0 p.1) (json.value n (tokens text)))
 
-back_within : (n : ℕ) (d : Data) → IsKeptTree d → depth d ≤ n → read_within n (text_of d) ≡ Some d
+back_within : (n : ℕ) (d : Data) → IsTreeInOrder d → depth d ≤ n → read_within n (text_of d) ≡ Some d
 back_within n d t shallow =
-    let printed = tokens-print (parsed.json_tokens (outline d)) (ArePrintable-json_tokens (outline d) (numbers d t)) in
-    let value = ap (json.value n) (printed ∙ sym (append-nil (parsed.json_tokens (outline d))))
-    ∙ value-json_tokens (outline d) n [] (omega (arith, same_depth d)) in
+    let printed = tokens-print (parsed.json_tokens (json_of_tree d)) (ArePrintable-json_tokens (json_of_tree d) (numbers d t)) in
+    let value = ap (json.value n) (printed ∙ sym (append-nil (parsed.json_tokens (json_of_tree d))))
+    ∙ value-json_tokens (json_of_tree d) n [] (omega (arith, same_depth d)) in
     ap (λ o. option_and_then kept (option_and_then (λ p. json.if_last p.0 p.1) o)) value ∙ data_back d t
 
 -- two trees, however deep, have one text only where they are equal
-one_text : (d e : Data) → IsKeptTree d → IsKeptTree e → text_of d ≡ text_of e → d ≡ e
+one_text : (d e : Data) → IsTreeInOrder d → IsTreeInOrder e → text_of d ≡ text_of e → d ≡ e
 one_text d e t s same =
     let n = max (depth d) (depth e) in
     un_some d e (sym (back_within n d t (omega arith)) ∙ ap (read_within n) same ∙ back_within n e s (omega arith))
 
-pub own_text : (D : Doubles) (f : Form) (t : Data) → HasNoFloatIn D f t → IsKeptTree t → HasOwnTextInOrder D f t
+pub own_text : (D : Doubles) (f : Form) (t : Data) → HasNoFloatIn D f t → IsTreeInOrder t → TextReadsBackInOrder D f t
 own_text D f d h t =
     let is = text_is D f d h in
     let read = λ (shallow : depth d ≤ max_depth). back_within max_depth d t shallow in
     record {
-      in_order = λ shallow. ap read_kept is ∙ read shallow;
-      sorted = λ shallow. read_forgotten (tree_text D f d) ∙ ap (option_map unordered) (ap read_kept is ∙ read shallow);
+      in_order = λ shallow. ap read_in_order is ∙ read shallow;
+      sorted = λ shallow. read_forgotten (tree_text D f d) ∙ ap (option_map tree_sorted_by_key) (ap read_in_order is ∙ read shallow);
       one = λ e g s same. one_text d e t s (sym is ∙ same ∙ text_is D f e g);
     }

@@ -2,7 +2,7 @@
 use Rattle.std.proofs.Common.{◌≡◌, true, false, Result, Ok, Err}
 use Rattle.std.specs.Prelude.{IfOk, OnOk, is_ok}
 use Rattle.serde_json.specs.Data.{Data, Members}
-use Rattle.bson_scalar.specs.Faults.{Gives}
+use Rattle.bson_scalar.specs.Faults.{IsReadResult}
 use Rattle.bson_scalar.specs.Written.{Writes}
 use Rattle.bson_scalar.specs.declared.error.Error.{Error}
 use Rattle.bson_scalar.specs.declared.form.Doubles.TheVariants.{Special}
@@ -15,7 +15,7 @@ use Rattle.bson_model.specs.Means.{Means, MeansDocument}
 use Rattle.bson_model.specs.Normal.{normal_form, plain, writable, InRange}
 use Rattle.bson_model.specs.Reading.{reads, reads_members}
 use Rattle.bson_model.specs.Sorted.{KeysAscend}
-use Rattle.bson_model.specs.Texts.{Ascends, HasText, ComesBack, IsTree}
+use Rattle.bson_model.specs.Texts.{Ascends, HasText, ValueRoundTrips, IsTree}
 use Rattle.bson_scalar.specs.Normal.{IsNormalOrNan}
 use Rattle.bson_model.specs.Value.{Value, Pairs, IfScalar}
 use Rattle.bson_model.specs.Writing.{writes}
@@ -31,7 +31,7 @@ pub use Rattle.bson_model.proofs.SameSorted.{at_each, from_each, option_same, sa
 pub use Rattle.bson_model.proofs.TextLaws.{number_back}
 pub use Rattle.bson_model.proofs.TreeLaws.{ascends_put, trees_put}
 pub use Rattle.bson_model.proofs.Stable.{sorted_by, turned, put_last, put_ascending}
-use Rattle.bson_model.proofs.ComesBack as whole
+use Rattle.bson_model.proofs.ValueRoundTrips as whole
 use Rattle.bson_model.proofs.MeansLaws as meaning
 use Rattle.bson_model.proofs.RangeLaws as range
 use Rattle.bson_model.proofs.ReadBack as back
@@ -39,8 +39,8 @@ use Rattle.bson_model.proofs.ReadForm as form
 use Rattle.bson_model.proofs.ReadLaws as reading
 use Rattle.bson_model.proofs.WriteLaws as writing
 -- in each mode of doubles
-pub use Rattle.bson_model.proofs.ComesBack.{has_text as has_text_in, read_comes_back as read_comes_back_in}
-pub use Rattle.bson_model.proofs.ComesBack.{read_back_ok as read_back_ok_in}
+pub use Rattle.bson_model.proofs.ValueRoundTrips.{has_text as has_text_in, read_comes_back as read_comes_back_in}
+pub use Rattle.bson_model.proofs.ValueRoundTrips.{read_back_ok as read_back_ok_in}
 pub use Rattle.bson_model.proofs.MeansLaws.{means_from as means_from_in, means_to as means_to_in}
 pub use Rattle.bson_model.proofs.MeansLaws.{means_one as means_one_in}
 pub use Rattle.bson_model.proofs.Modes.{all_writable}
@@ -59,11 +59,11 @@ pub use Rattle.bson_model.proofs.WriteLaws.{canon_from as canon_from_in, writabl
 pub has_text : (f : Form) (v : Value) (u : Data) → writes f v ≡ Ok u → plain v ≡ true → InRange v → HasText f v u
 has_text = whole.has_text Special
 
-pub read_comes_back : (t : Data) (v : Value) → IsTree t → Means t v → ComesBack v
+pub read_comes_back : (t : Data) (v : Value) → IsTree t → Means t v → ValueRoundTrips v
 read_comes_back = whole.read_comes_back Special
 
-pub read_back_ok : {X : Type 0} (see : X → Value) (t : Data) (r : Result X Error) → Gives see r (reads t)
-    → IfOk r (λ v. InRange (see v)) → IfOk r (λ v. ComesBack (see v))
+pub read_back_ok : {X : Type 0} (see : X → Value) (t : Data) (r : Result X Error) → IsReadResult see r (reads t)
+    → IfOk r (λ v. InRange (see v)) → IfOk r (λ v. ValueRoundTrips (see v))
 read_back_ok = whole.read_back_ok Special
 
 pub means_from : (t : Data) (v : Value) → reads t ≡ Ok v → Means t v
@@ -102,16 +102,16 @@ pub write_both : {X : Type 0} (f : Form) (see : X → Data) (v : Value) (r : Res
     → Writes see r (writes f v) → OnOk r (InRange v) → ((x : X) → writes f v ≡ Ok (see x) → InRange v → P x) → IfOk r P
 write_both = back.write_both Special
 
-pub value_read : {X : Type 0} (see : X → Value) (t : Data) (r : Result X Error) → Gives see r (reads t)
+pub value_read : {X : Type 0} (see : X → Value) (t : Data) (r : Result X Error) → IsReadResult see r (reads t)
     → IsRead see r (Means t) (HasMeaning t) (IsFaultOf t)
 value_read = reading.value_read Special
 
-pub document_read : {X : Type 0} (see : X → Pairs) (ms : Members) (r : Result X Error) → Gives see r (reads_members ms)
+pub document_read : {X : Type 0} (see : X → Pairs) (ms : Members) (r : Result X Error) → IsReadResult see r (reads_members ms)
     → IsRead see r (MeansDocument ms) (HasDocumentMeaning ms) (IsDocumentFault ms)
 document_read = reading.document_read Special
 
 pub document_read_ascends : {X : Type 0} (see : X → Pairs) (ms : Members) (r : Result X Error)
-    → Gives see r (reads_members ms) → Ascends ms → IfOk r (λ v. KeysAscend (see v))
+    → IsReadResult see r (reads_members ms) → Ascends ms → IfOk r (λ v. KeysAscend (see v))
 document_read_ascends = reading.document_read_ascends Special
 
 pub canon_from : (f : Form) (v : Value) (t : Data) → writes f v ≡ Ok t → Written f (normal_form v) t

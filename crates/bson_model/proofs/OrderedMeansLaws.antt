@@ -7,7 +7,7 @@ use Rattle.serde_json.specs.Data.{Data, Items, no_items, item, Members, no_membe
 use Rattle.serde_json.specs.Data as tree
 use Rattle.bson_scalar.specs.Faults.{Fault, wrong_shape}
 use Rattle.bson_scalar.specs.Means.{MeansScalarIn, null, boolean, text, code_without_scope}
-use Rattle.bson_scalar.specs.Reading.{number_read_in, single_at_in, on_text}
+use Rattle.bson_scalar.specs.Reading.{number_read_in, optional_wrapper_read_in, on_text}
 use Rattle.bson_scalar.specs.Scalar.{Scalar}
 use Rattle.bson_scalar.specs.Scalar as kind
 use Rattle.bson_scalar.specs.TreeParts.{object_of_one, object_of_two}
@@ -20,7 +20,7 @@ use Rattle.bson_model.specs.Sorted.{sorted}
 use Rattle.bson_model.specs.Value.{Value, Values, Pairs}
 use Rattle.bson_model.specs.Value as model
 use Rattle.bson_model.proofs.Offered.{fault_bind_ok, un_ok, means_one_in, means_to_in}
-use Rattle.bson_model.specs.Kept.{unordered, IsKeptTree, ItemsAreKept, MembersAreKept}
+use Rattle.bson_model.specs.OrderedTrees.{tree_sorted_by_key, IsTreeInOrder, ItemsAreTreesInOrder, MembersAreTreesInOrder}
 use Rattle.bson_model.specs.OrderedMeans.{MeansInOrder, scalar, code_with_scope, scope_with_code, array, document}
 use Rattle.bson_model.specs.OrderedMeans.{MeansItemsInOrder, nothing, then, MeansDocumentInOrder, empty, entry}
 use Rattle.bson_model.specs.OrderedReading.{reads_in_order, items_in_order, members_in_order, wrapper_in_order}
@@ -33,11 +33,11 @@ module _ (D : Doubles) where
   -- ---- from reading to the grammar
 
   scalar_from : (t : Data) (r : Result Scalar Fault) (v : Value)
-      → ((x : Scalar) → r ≡ Ok x → MeansScalarIn D (unordered t) x) → scalar_value r ≡ Ok v → MeansInOrder D t v
+      → ((x : Scalar) → r ≡ Ok x → MeansScalarIn D (tree_sorted_by_key t) x) → scalar_value r ≡ Ok v → MeansInOrder D t v
   scalar_from t r v f h = let b = fault_bind_ok r _ v h in rw (un_ok _ _ b.2) (scalar t b.0 (f b.0 b.1))
 
   -- no order is forgotten in a text
-  text_alone : (d : Data) (s : List ℕ) → unordered d ≡ tree.string s → d ≡ tree.string s
+  text_alone : (d : Data) (s : List ℕ) → tree_sorted_by_key d ≡ tree.string s → d ≡ tree.string s
   text_alone tree.null s h = cc
   text_alone (tree.boolean b) s h = cc
   text_alone (tree.number n) s h = cc
@@ -61,12 +61,12 @@ module _ (D : Doubles) where
 
   -- the two keys, the code, and what was read of the scope
   code_parts : (k l : List ℕ) (d : Data) (scope : Result (Option Pairs) Fault) (v : Value)
-      → code_at k (unordered d) l scope ≡ Ok v
+      → code_at k (tree_sorted_by_key d) l scope ≡ Ok v
       → (k ≡ codes "$code") × (l ≡ codes "$scope") × (s : List ℕ) × (d ≡ tree.string s) × (scope_value s scope ≡ Ok v)
   code_parts k l d scope v h =
       let g = guarded _ _ v h in
       let keys = and_parts _ _ g.0 in
-      let t = on_text_at (unordered d) _ v g.1 in
+      let t = on_text_at (tree_sorted_by_key d) _ v g.1 in
       (same_bytes k _ keys.0, same_bytes l _ keys.1, t.0, text_alone d t.0 t.1, t.2)
 
   either : (b : Bool) (x y : Result Value Fault) (v : Value) (P : Type 0) → cond b x y ≡ Ok v → (x ≡ Ok v → P)
@@ -107,8 +107,8 @@ module _ (D : Doubles) where
     wrapper_from : (ms : Members) (v : Value) → wrapper_in_order D ms ≡ Ok v → MeansInOrder D (tree.object ms) v
     wrapper_from no_members v h = cc
     wrapper_from (member k d no_members) v h =
-        scalar_from (object_of_one k d) (single_at_in D (wrapper_of k) (unordered d)) v
-        (scalars.scalar_from D (object_of_one k (unordered d))) h
+        scalar_from (object_of_one k d) (optional_wrapper_read_in D (wrapper_of k) (tree_sorted_by_key d)) v
+        (scalars.scalar_from D (object_of_one k (tree_sorted_by_key d))) h
     wrapper_from (member k d (member l e no_members)) v h =
         either (bytes_eq k (codes "$scope")) _ _ v (MeansInOrder D (object_of_two k d l e) v) h
         (λ g. let c = code_parts l k e (scope_in_order D d) v g in rw (c.0, c.1, c.3) (scope_first c.2 d v c.4))
@@ -148,41 +148,41 @@ module _ (D : Doubles) where
   scalar_alone (model.document ps) x h = cc
 
   -- a tree that means a scalar is read as it, since it is read as something
-  scalar_to : (d : Data) (x : Scalar) → MeansScalarIn D (unordered d) x → IsKeptTree d
+  scalar_to : (d : Data) (x : Scalar) → MeansScalarIn D (tree_sorted_by_key d) x → IsTreeInOrder d
       → reads_in_order D d ≡ Ok (model.scalar x)
   scalar_to d x m is =
-      let sorted_means : by_default.MeansIn D (unordered d) (model.scalar x) = by_default.scalar (unordered d) x m in
+      let sorted_means : by_default.MeansIn D (tree_sorted_by_key d) (model.scalar x) = by_default.scalar (tree_sorted_by_key d) x m in
       let it = read_in_order D d (model.scalar x) is (means_to_in D sorted_means) in
       let means = forgets D (means_from d it.0 it.1) in
-      let same = means_one_in D (unordered d) (sorted it.0) (model.scalar x) means sorted_means in
+      let same = means_one_in D (tree_sorted_by_key d) (sorted it.0) (model.scalar x) means sorted_means in
       it.1 ∙ ap Ok (scalar_alone it.0 x same)
 
   mutual
-    pub means_in : {t : Data} {v : Value} → MeansInOrder D t v → IsKeptTree t → reads_in_order D t ≡ Ok v
+    pub means_in : {t : Data} {v : Value} → MeansInOrder D t v → IsTreeInOrder t → reads_in_order D t ≡ Ok v
     means_in (scalar d x m) is = scalar_to d x m is
     means_in (code_with_scope s ms ps m) is = rw (document_in m is.1.1.0.1) refl
     means_in (scope_with_code s ms ps m) is = rw (document_in m is.1.0.1) refl
     means_in (array ds vs m) is = rw (items_in m is) refl
     means_in (document ms ps none m) is = rw (none, document_in m is.1) refl
 
-    pub items_in : {ds : Items} {vs : Values} → MeansItemsInOrder D ds vs → ItemsAreKept ds
+    pub items_in : {ds : Items} {vs : Values} → MeansItemsInOrder D ds vs → ItemsAreTreesInOrder ds
         → items_in_order D ds ≡ Ok vs
     items_in nothing is = refl
     items_in (then d v ds vs m n) is = rw (means_in m is.0, items_in n is.1) refl
 
-    pub document_in : {ms : Members} {ps : Pairs} → MeansDocumentInOrder D ms ps → MembersAreKept ms
+    pub document_in : {ms : Members} {ps : Pairs} → MeansDocumentInOrder D ms ps → MembersAreTreesInOrder ms
         → members_in_order D ms ≡ Ok ps
     document_in empty is = refl
     document_in (entry k d v ms ps m n) is = rw (means_in m is.0, document_in n is.1) refl
 
-  pub one_in_order : (t : Data) (v w : Value) → IsKeptTree t → MeansInOrder D t v → MeansInOrder D t w → v ≡ w
+  pub one_in_order : (t : Data) (v w : Value) → IsTreeInOrder t → MeansInOrder D t v → MeansInOrder D t w → v ≡ w
   one_in_order t v w is m n = un_ok _ _ (sym (means_in n is) ∙ means_in m is)
 
   -- ---- what has a meaning by default has one in order
 
-  pub meant_in_order : (t : Data) (w : Value) → IsKeptTree t → by_default.MeansIn D (unordered t) w
+  pub meant_in_order : (t : Data) (w : Value) → IsTreeInOrder t → by_default.MeansIn D (tree_sorted_by_key t) w
       → (v : Value) × MeansInOrder D t v × (sorted v ≡ w)
   meant_in_order t w is m =
       let it = read_in_order D t w is (means_to_in D m) in
       let means = means_from t it.0 it.1 in
-      (it.0, means, means_one_in D (unordered t) (sorted it.0) w (forgets D means) m)
+      (it.0, means, means_one_in D (tree_sorted_by_key t) (sorted it.0) w (forgets D means) m)

@@ -11,8 +11,8 @@ use Rattle.bson_model.specs.Laws.{IsReadFormIn}
 use Rattle.bson_model.specs.Normal.{plain_items, plain_keys, plain_values, writable_items_in, writable_pairs_in}
 use Rattle.bson_model.specs.Normal.{InRange, ItemsInRange, PairsInRange}
 use Rattle.bson_model.specs.Value.{Value, Values, Pairs}
-use Rattle.bson_model.specs.Distinct.{has_pair, AllDistinct, ItemsDistinct, PairsDistinct}
-use Rattle.bson_model.specs.Kept.{has_key, KeysDiffer, IsKeptTree, unordered, ItemsAreKept, MembersAreKept}
+use Rattle.bson_model.specs.DistinctKeys.{has_pair, AllKeysDistinct, ItemKeysDistinct, PairKeysDistinct}
+use Rattle.bson_model.specs.OrderedTrees.{has_key, KeysDiffer, IsTreeInOrder, tree_sorted_by_key, ItemsAreTreesInOrder, MembersAreTreesInOrder}
 use Rattle.bson_model.specs.OrderedMeans.{MeansInOrder, scalar, code_with_scope, scope_with_code, array, document}
 use Rattle.bson_model.specs.OrderedMeans.{MeansItemsInOrder, nothing, then, MeansDocumentInOrder, empty, entry}
 use Rattle.bson_model.proofs.Scalars.{ranged}
@@ -41,7 +41,7 @@ module _ (D : Doubles) where
 
   mutual
     pub form : {t : Data} {v : Value} → MeansInOrder D t v → IsReadFormIn D v
-    form (scalar d x m) = (refl, (scalars.scalar_form D (unordered d) x m).0)
+    form (scalar d x m) = (refl, (scalars.scalar_form D (tree_sorted_by_key d) x m).0)
     form (code_with_scope s ms ps m) = document_form m
     form (scope_with_code s ms ps m) = document_form m
     form (array ds vs m) = items_form m
@@ -60,18 +60,18 @@ module _ (D : Doubles) where
   -- ---- in range
 
   mutual
-    pub in_range : {t : Data} {v : Value} → MeansInOrder D t v → IsKeptTree t → InRange v
-    in_range (scalar d x m) is = ranged D (unordered d) x m (kept_tree d is)
+    pub in_range : {t : Data} {v : Value} → MeansInOrder D t v → IsTreeInOrder t → InRange v
+    in_range (scalar d x m) is = ranged D (tree_sorted_by_key d) x m (kept_tree d is)
     in_range (code_with_scope s ms ps m) is = document_range m is.1.1.0.1
     in_range (scope_with_code s ms ps m) is = document_range m is.1.0.1
     in_range (array ds vs m) is = items_range m is
     in_range (document ms ps none m) is = document_range m is.1
 
-    items_range : {ds : Items} {vs : Values} → MeansItemsInOrder D ds vs → ItemsAreKept ds → ItemsInRange vs
+    items_range : {ds : Items} {vs : Values} → MeansItemsInOrder D ds vs → ItemsAreTreesInOrder ds → ItemsInRange vs
     items_range nothing is = tt
     items_range (then d v ds vs m n) is = (in_range m is.0, items_range n is.1)
 
-    document_range : {ms : Members} {ps : Pairs} → MeansDocumentInOrder D ms ps → MembersAreKept ms → PairsInRange ps
+    document_range : {ms : Members} {ps : Pairs} → MeansDocumentInOrder D ms ps → MembersAreTreesInOrder ms → PairsInRange ps
     document_range empty is = tt
     document_range (entry k d v ms ps m n) is = (in_range m is.0, document_range n is.1)
 
@@ -82,19 +82,19 @@ module _ (D : Doubles) where
   same_keys q (entry k d v ms ps m n) = ap (λ b. bytes_eq q k || b) (same_keys q n)
 
   mutual
-    pub distinct : {t : Data} {v : Value} → MeansInOrder D t v → IsKeptTree t → AllDistinct v
+    pub distinct : {t : Data} {v : Value} → MeansInOrder D t v → IsTreeInOrder t → AllKeysDistinct v
     distinct (scalar d x m) is = tt
     distinct (code_with_scope s ms ps m) is = document_distinct m is.1.1.0.0 is.1.1.0.1
     distinct (scope_with_code s ms ps m) is = document_distinct m is.1.0.0 is.1.0.1
     distinct (array ds vs m) is = items_distinct m is
     distinct (document ms ps none m) is = document_distinct m is.0 is.1
 
-    items_distinct : {ds : Items} {vs : Values} → MeansItemsInOrder D ds vs → ItemsAreKept ds → ItemsDistinct vs
+    items_distinct : {ds : Items} {vs : Values} → MeansItemsInOrder D ds vs → ItemsAreTreesInOrder ds → ItemKeysDistinct vs
     items_distinct nothing is = tt
     items_distinct (then d v ds vs m n) is = (distinct m is.0, items_distinct n is.1)
 
-    document_distinct : {ms : Members} {ps : Pairs} → MeansDocumentInOrder D ms ps → KeysDiffer ms → MembersAreKept ms
-        → PairsDistinct ps
+    document_distinct : {ms : Members} {ps : Pairs} → MeansDocumentInOrder D ms ps → KeysDiffer ms → MembersAreTreesInOrder ms
+        → PairKeysDistinct ps
     document_distinct empty differ is = tt
     document_distinct (entry k d v ms ps m n) differ is =
         (same_keys k n ∙ differ.0, distinct m is.0, document_distinct n differ.1 is.1)

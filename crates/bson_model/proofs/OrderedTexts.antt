@@ -5,7 +5,7 @@ use Rattle.std.proofs.lemmas.Bool.{or_from}
 use Rattle.serde_json.specs.Data.{Data, Items, Members}
 use Rattle.serde_json.specs.Written.{has_float, items_have_float, members_have_float}
 use Rattle.bson_scalar.specs.TreeText.{HasNoFloatIn, tree_text}
-use Rattle.bson_scalar.specs.Normal.{normal_scalar, scalar_as_read}
+use Rattle.bson_scalar.specs.Normal.{normal_scalar, scalar_as_read_back}
 use Rattle.bson_scalar.specs.Scalar.{Scalar}
 use Rattle.bson_scalar.specs.Written.{writes_scalar_in}
 use Rattle.bson_scalar.specs.declared.form.Doubles.{Doubles}
@@ -13,15 +13,15 @@ use Rattle.bson_scalar.specs.declared.form.Doubles.TheVariants.{Special, Finite}
 use Rattle.bson_scalar.specs.declared.form.Form.{Form}
 use Rattle.bson_scalar.specs.declared.form.Form.TheVariants.{Canonical, Relaxed}
 use Rattle.bson_scalar.proofs.Offered as scalars
-use Rattle.bson_model.specs.Normal.{InRange, ItemsInRange, PairsInRange, normal_form, as_read, plain, map_scalars}
+use Rattle.bson_model.specs.Normal.{InRange, ItemsInRange, PairsInRange, normal_form, as_read_back, plain, map_scalars}
 use Rattle.bson_model.specs.Normal.{map_scalars_of_items, map_scalars_of_pairs}
 use Rattle.bson_model.specs.Value.{Value, scalar, code_scope, array, document, Values, no_values, value, Pairs}
 use Rattle.bson_model.specs.Value.{no_pairs, pair}
 use Rattle.bson_model.proofs.Offered.{as_read_each, un_ok}
-use Rattle.bson_model.specs.Distinct.{has_pair, AllDistinct, ItemsDistinct, PairsDistinct}
-use Rattle.bson_model.specs.Kept.{has_key, KeysDiffer, IsKeptTree, ItemsAreKept, MembersAreKept}
+use Rattle.bson_model.specs.DistinctKeys.{has_pair, AllKeysDistinct, ItemKeysDistinct, PairKeysDistinct}
+use Rattle.bson_model.specs.OrderedTrees.{has_key, KeysDiffer, IsTreeInOrder, ItemsAreTreesInOrder, MembersAreTreesInOrder}
 use Rattle.bson_model.specs.OrderedMeans.{MeansInOrder}
-use Rattle.bson_model.specs.OrderedTexts.{HasEqualTextsInOrder, HasMeaningInOrder, IsOrderedTextOf, ComesBackInOrder}
+use Rattle.bson_model.specs.OrderedTexts.{HasEqualTextsInOrder, HasMeaningInOrder, IsOrderedTextOf, ValueRoundTripsInOrder}
 use Rattle.bson_model.specs.OrderedWriting.{writes_in_order, values_in_order, pairs_in_order}
 use Rattle.bson_model.specs.OrderedWritten.{WrittenInOrder, WrittenItemsInOrder, WrittenDocumentInOrder}
 use Rattle.bson_model.proofs.KeptTexts.{own_text}
@@ -39,28 +39,28 @@ module _ (D : Doubles) where
   same_keys f q (pair k v ps) ms h = ap (has_key q) h.4 ∙ ap (λ x. bytes_eq q k || x) (same_keys f q ps h.1 h.3)
 
   mutual
-    is_kept : (f : Form) (v : Value) (t : Data) → WrittenInOrder D f (normal_form v) t → InRange v → AllDistinct v
-        → IsKeptTree t
+    is_kept : (f : Form) (v : Value) (t : Data) → WrittenInOrder D f (normal_form v) t → InRange v → AllKeysDistinct v
+        → IsTreeInOrder t
     is_kept f (scalar x) t h r a = tree_kept t (is_tree D f x t h r)
     is_kept f (code_scope s ps) t h r a =
-        subst IsKeptTree (sym h.2) ((refl, (refl, tt)), (tt, (pairs_are_kept f ps h.0 h.1 r a, tt)))
-    is_kept f (array vs) t h r a = subst IsKeptTree (sym h.2) (items_are_kept f vs h.0 h.1 r a)
-    is_kept f (document ps) t h r a = subst IsKeptTree (sym h.2) (pairs_are_kept f ps h.0 h.1 r a)
+        subst IsTreeInOrder (sym h.2) ((refl, (refl, tt)), (tt, (pairs_are_kept f ps h.0 h.1 r a, tt)))
+    is_kept f (array vs) t h r a = subst IsTreeInOrder (sym h.2) (items_are_kept f vs h.0 h.1 r a)
+    is_kept f (document ps) t h r a = subst IsTreeInOrder (sym h.2) (pairs_are_kept f ps h.0 h.1 r a)
 
     items_are_kept : (f : Form) (vs : Values) (ds : Items)
-        → WrittenItemsInOrder D f (map_scalars_of_items normal_scalar vs) ds → ItemsInRange vs → ItemsDistinct vs
-        → ItemsAreKept ds
-    items_are_kept f no_values ds h r a = subst ItemsAreKept (sym h) tt
+        → WrittenItemsInOrder D f (map_scalars_of_items normal_scalar vs) ds → ItemsInRange vs → ItemKeysDistinct vs
+        → ItemsAreTreesInOrder ds
+    items_are_kept f no_values ds h r a = subst ItemsAreTreesInOrder (sym h) tt
     items_are_kept f (value v vs) ds h r a =
-        subst ItemsAreKept (sym h.4) (is_kept f v h.0 h.2 r.0 a.0, items_are_kept f vs h.1 h.3 r.1 a.1)
+        subst ItemsAreTreesInOrder (sym h.4) (is_kept f v h.0 h.2 r.0 a.0, items_are_kept f vs h.1 h.3 r.1 a.1)
 
     pairs_are_kept : (f : Form) (ps : Pairs) (ms : Members)
-        → WrittenDocumentInOrder D f (map_scalars_of_pairs normal_scalar ps) ms → PairsInRange ps → PairsDistinct ps
-        → KeysDiffer ms × MembersAreKept ms
-    pairs_are_kept f no_pairs ms h r a = subst (λ m. KeysDiffer m × MembersAreKept m) (sym h) (tt, tt)
+        → WrittenDocumentInOrder D f (map_scalars_of_pairs normal_scalar ps) ms → PairsInRange ps → PairKeysDistinct ps
+        → KeysDiffer ms × MembersAreTreesInOrder ms
+    pairs_are_kept f no_pairs ms h r a = subst (λ m. KeysDiffer m × MembersAreTreesInOrder m) (sym h) (tt, tt)
     pairs_are_kept f (pair k v ps) ms h r a =
         let is = pairs_are_kept f ps h.1 h.3 r.1 a.2 in
-        subst (λ m. KeysDiffer m × MembersAreKept m) (sym h.4)
+        subst (λ m. KeysDiffer m × MembersAreTreesInOrder m) (sym h.4)
         ((same_keys f k ps h.1 h.3 ∙ a.0, is.0), (is_kept f v h.0 h.2 r.0 a.1, is.1))
 
 module _ (D : Doubles) (f : Form) (other : (D ≡ Finite) × (f ≡ Relaxed) → ⊥) where
@@ -114,29 +114,29 @@ module _ (D : Doubles) where
     each_pair f g k no_pairs = refl
     each_pair f g k (pair l v ps) = rw (each_written f g k v, each_pair f g k ps) refl
 
-  as_read_written : (f : Form) (v : Value) → writes_in_order D f (as_read f (normal_form v)) ≡ writes_in_order D f v
+  as_read_written : (f : Form) (v : Value) → writes_in_order D f (as_read_back f (normal_form v)) ≡ writes_in_order D f v
   as_read_written f v =
       subst (λ w. writes_in_order D f w ≡ writes_in_order D f v) (as_read_each f (normal_form v))
-      (each_written f (scalar_as_read f) (scalars.as_read_written D f) (normal_form v)
+      (each_written f (scalar_as_read_back f) (scalars.as_read_written D f) (normal_form v)
       ∙ each_written f normal_scalar (scalars.nf_written D f) v)
 
   -- ---- its text
 
   -- one text only where the normal forms are equal, and there always
   equal_texts : (f : Form) (v : Value) (t : Data) (w : Value) (u : Data) → WrittenInOrder D f (normal_form v) t
-      → plain v ≡ true → InRange v → AllDistinct v → HasEqualTextsInOrder D f v t w u
+      → plain v ≡ true → InRange v → AllKeysDistinct v → HasEqualTextsInOrder D f v t w u
   equal_texts f v t w u h p r a q s b g =
       let kept_t = is_kept D f v t h r a in
       let kept_u = is_kept D f w u g s b in (
         λ e. let one = (own_text D f t (has_no_float D f v t h) kept_t).one u (has_no_float D f w u g) kept_u e in
             one_in_order D t _ _ kept_t (back_as_read D f v t h p r)
-            (subst (λ d. MeansInOrder D d (as_read f (normal_form w))) (sym one) (back_as_read D f w u g q s)),
+            (subst (λ d. MeansInOrder D d (as_read_back f (normal_form w))) (sym one) (back_as_read D f w u g q s)),
         λ e. ap (tree_text D f) (un_ok _ _ (sym (written_to D f w u g) ∙ sym (as_read_written f w)
             ∙ ap (writes_in_order D f) (sym e) ∙ as_read_written f v ∙ written_to D f v t h)),
       )
 
   pub ordered_text : (f : Form) (v : Value) (t : Data) → WrittenInOrder D f (normal_form v) t → plain v ≡ true
-      → InRange v → AllDistinct v → IsOrderedTextOf D f v t
+      → InRange v → AllKeysDistinct v → IsOrderedTextOf D f v t
   ordered_text f v t h p r a = record {
     written = h;
     one = λ u g. one_written D f v t u h g;
@@ -148,7 +148,7 @@ module _ (D : Doubles) where
 
   -- ---- what is read
 
-  pub comes_back : (v : Value) (text : List ℕ) → HasMeaningInOrder D text v → ComesBackInOrder D v
+  pub comes_back : (v : Value) (text : List ℕ) → HasMeaningInOrder D text v → ValueRoundTripsInOrder D v
   comes_back v text m f =
       let it = writable_has_tree D f v m.read_form.1 in
       (it.0, ordered_text f v it.0 it.1 m.read_form.0 m.ranged m.distinct)

@@ -7,14 +7,14 @@ use Rattle.std.proofs.lemmas.Bool.{and_parts, or_from}
 use Rattle.serde_json.specs.Data.{Data, Items, no_items, item, Members, no_members, member}
 use Rattle.serde_json.specs.Data as tree
 use Rattle.bson_scalar.specs.Means.{MeansScalarIn}
-use Rattle.bson_scalar.specs.Normal.{normal_scalar, scalar_as_read}
+use Rattle.bson_scalar.specs.Normal.{normal_scalar, scalar_as_read_back}
 use Rattle.bson_scalar.specs.Scalar.{Scalar}
 use Rattle.bson_scalar.specs.Table.{wrapper_of, has_wrapper}
-use Rattle.bson_scalar.specs.Written.{WrittenScalarIn, Refusal, ◌>>=◌}
+use Rattle.bson_scalar.specs.Written.{WrittenScalarIn, WriteFault, ◌>>=◌}
 use Rattle.bson_scalar.specs.declared.form.Doubles.{Doubles}
 use Rattle.bson_scalar.specs.declared.form.Form.{Form}
 use Rattle.bson_scalar.proofs.Offered as scalars
-use Rattle.bson_model.specs.Normal.{normal_form, map_scalars, map_scalars_of_items, map_scalars_of_pairs, as_read}
+use Rattle.bson_model.specs.Normal.{normal_form, map_scalars, map_scalars_of_items, map_scalars_of_pairs, as_read_back}
 use Rattle.bson_model.specs.Normal.{plain, plain_items, plain_keys, plain_values, writable_in}
 use Rattle.bson_model.specs.Normal.{writable_items_in, writable_pairs_in, InRange, ItemsInRange, PairsInRange}
 use Rattle.bson_model.specs.Value.{Value, scalar, code_scope, array, document, Values, no_values, value, Pairs}
@@ -22,7 +22,7 @@ use Rattle.bson_model.specs.Value.{no_pairs, pair}
 use Rattle.bson_model.specs.Writing.{with_scope}
 use Rattle.bson_model.specs.Written.{WrittenIn, WrittenItemsIn, WrittenDocumentIn}
 use Rattle.bson_model.proofs.Offered.{as_read_each, bind_ok, un_ok}
-use Rattle.bson_model.specs.Kept.{unordered, unordered_items, unordered_members}
+use Rattle.bson_model.specs.OrderedTrees.{tree_sorted_by_key, items_sorted_by_key, members_sorted_by_key}
 use Rattle.bson_model.specs.OrderedMeans.{MeansInOrder, MeansItemsInOrder, MeansDocumentInOrder}
 use Rattle.bson_model.specs.OrderedMeans as means
 use Rattle.bson_model.specs.OrderedWriting.{writes_in_order, values_in_order, pairs_in_order}
@@ -85,11 +85,11 @@ module _ (D : Doubles) where
 
   -- ---- what is written
 
-  ok_bind : {A B : Type 0} (r : Result A Refusal) (f : A → B) → is_ok (r >>= λ x. Ok (f x)) ≡ is_ok r
+  ok_bind : {A B : Type 0} (r : Result A WriteFault) (f : A → B) → is_ok (r >>= λ x. Ok (f x)) ≡ is_ok r
   ok_bind (Ok x) f = refl
   ok_bind (Err e) f = refl
 
-  ok_both : {A B C : Type 0} (r : Result A Refusal) (q : Result B Refusal) (f : A → B → C)
+  ok_both : {A B C : Type 0} (r : Result A WriteFault) (q : Result B WriteFault) (f : A → B → C)
       → is_ok (r >>= λ x. q >>= λ y. Ok (f x y)) ≡ (is_ok r && is_ok q)
   ok_both (Ok x) q f = ok_bind q (f x)
   ok_both (Err e) q f = refl
@@ -112,7 +112,7 @@ module _ (D : Doubles) where
         ok_both (writes_in_order D f v) (pairs_in_order D f ps) (member k)
         ∙ rw (writable_is f v, pairs_writable f ps) refl
 
-  tree_of : (r : Result Data Refusal) → is_ok r ≡ true → (t : Data) × (r ≡ Ok t)
+  tree_of : (r : Result Data WriteFault) → is_ok r ≡ true → (t : Data) × (r ≡ Ok t)
   tree_of (Ok t) h = (t, refl)
   tree_of (Err e) h = cc
 
@@ -125,41 +125,41 @@ module _ (D : Doubles) where
 
   -- the tree of a scalar has no order to forget
   scalar_settled : (f : Form) (x : Scalar) (t : Data) → WrittenScalarIn D f (normal_scalar x) t → InRange (scalar x)
-      → unordered t ≡ t
+      → tree_sorted_by_key t ≡ t
   scalar_settled f x t h r = settled t (is_tree D f x t h r)
 
   mutual
     pub default_written : (f : Form) (v : Value) (t : Data) → WrittenInOrder D f (normal_form v) t → InRange v
-        → WrittenIn D f (normal_form v) (unordered t)
+        → WrittenIn D f (normal_form v) (tree_sorted_by_key t)
     default_written f (scalar x) t h r =
         subst (WrittenScalarIn D f (normal_scalar x)) (sym (scalar_settled f x t h r)) h
     default_written f (code_scope s ps) t h r =
-        (unordered_members h.0, default_pairs f ps h.0 h.1 r, ap unordered h.2)
-    default_written f (array vs) t h r = (unordered_items h.0, default_items f vs h.0 h.1 r, ap unordered h.2)
-    default_written f (document ps) t h r = (unordered_members h.0, default_pairs f ps h.0 h.1 r, ap unordered h.2)
+        (members_sorted_by_key h.0, default_pairs f ps h.0 h.1 r, ap tree_sorted_by_key h.2)
+    default_written f (array vs) t h r = (items_sorted_by_key h.0, default_items f vs h.0 h.1 r, ap tree_sorted_by_key h.2)
+    default_written f (document ps) t h r = (members_sorted_by_key h.0, default_pairs f ps h.0 h.1 r, ap tree_sorted_by_key h.2)
 
     default_items : (f : Form) (vs : Values) (ds : Items)
         → WrittenItemsInOrder D f (map_scalars_of_items normal_scalar vs) ds → ItemsInRange vs
-        → WrittenItemsIn D f (map_scalars_of_items normal_scalar vs) (unordered_items ds)
-    default_items f no_values ds h r = ap unordered_items h
+        → WrittenItemsIn D f (map_scalars_of_items normal_scalar vs) (items_sorted_by_key ds)
+    default_items f no_values ds h r = ap items_sorted_by_key h
     default_items f (value v vs) ds h r = (
-      unordered h.0,
-      unordered_items h.1,
+      tree_sorted_by_key h.0,
+      items_sorted_by_key h.1,
       default_written f v h.0 h.2 r.0,
       default_items f vs h.1 h.3 r.1,
-      ap unordered_items h.4,
+      ap items_sorted_by_key h.4,
     )
 
     default_pairs : (f : Form) (ps : Pairs) (ms : Members)
         → WrittenDocumentInOrder D f (map_scalars_of_pairs normal_scalar ps) ms → PairsInRange ps
-        → WrittenDocumentIn D f (map_scalars_of_pairs normal_scalar ps) (unordered_members ms)
-    default_pairs f no_pairs ms h r = ap unordered_members h
+        → WrittenDocumentIn D f (map_scalars_of_pairs normal_scalar ps) (members_sorted_by_key ms)
+    default_pairs f no_pairs ms h r = ap members_sorted_by_key h
     default_pairs f (pair k v ps) ms h r = (
-      unordered h.0,
-      unordered_members h.1,
+      tree_sorted_by_key h.0,
+      members_sorted_by_key h.1,
       default_written f v h.0 h.2 r.0,
       default_pairs f ps h.1 h.3 r.1,
-      ap unordered_members h.4,
+      ap members_sorted_by_key h.4,
     )
 
   -- ---- a plain value's tree means its normal form, in the same order
@@ -177,14 +177,14 @@ module _ (D : Doubles) where
       ap has_wrapper h.4 ∙ or_from _ _ (no_wrapper (wrapper_of k) q.0) (keys_plain f ps h.1 h.3 q.1)
 
   scalar_back : (f : Form) (x : Scalar) (t : Data) → WrittenScalarIn D f (normal_scalar x) t → InRange (scalar x)
-      → MeansInOrder D t (scalar (scalar_as_read f (normal_scalar x)))
+      → MeansInOrder D t (scalar (scalar_as_read_back f (normal_scalar x)))
   scalar_back f x t h r =
-      let y = scalar_as_read f (normal_scalar x) in
+      let y = scalar_as_read_back f (normal_scalar x) in
       means.scalar t y (subst (λ u. MeansScalarIn D u y) (sym (scalar_settled f x t h r)) (reads_back D f x t h r))
 
   mutual
     back : (f : Form) (v : Value) (t : Data) → WrittenInOrder D f (normal_form v) t → plain v ≡ true → InRange v
-        → MeansInOrder D t (map_scalars (scalar_as_read f) (normal_form v))
+        → MeansInOrder D t (map_scalars (scalar_as_read_back f) (normal_form v))
     back f (scalar x) t h p r = scalar_back f x t h r
     back f (code_scope s ps) t h p r = rw h.2 (means.code_with_scope s h.0 _ (pairs_back f ps h.0 h.1 p r))
     back f (array vs) t h p r = rw h.2 (means.array h.0 _ (items_back f vs h.0 h.1 p r))
@@ -194,7 +194,7 @@ module _ (D : Doubles) where
 
     items_back : (f : Form) (vs : Values) (ds : Items)
         → WrittenItemsInOrder D f (map_scalars_of_items normal_scalar vs) ds → plain_items vs ≡ true → ItemsInRange vs
-        → MeansItemsInOrder D ds (map_scalars_of_items (scalar_as_read f) (map_scalars_of_items normal_scalar vs))
+        → MeansItemsInOrder D ds (map_scalars_of_items (scalar_as_read_back f) (map_scalars_of_items normal_scalar vs))
     items_back f no_values ds h p r = rw h means.nothing
     items_back f (value v vs) ds h p r =
         let q = and_parts _ _ p in
@@ -203,12 +203,12 @@ module _ (D : Doubles) where
     pairs_back : (f : Form) (ps : Pairs) (ms : Members)
         → WrittenDocumentInOrder D f (map_scalars_of_pairs normal_scalar ps) ms → plain_values ps ≡ true
         → PairsInRange ps
-        → MeansDocumentInOrder D ms (map_scalars_of_pairs (scalar_as_read f) (map_scalars_of_pairs normal_scalar ps))
+        → MeansDocumentInOrder D ms (map_scalars_of_pairs (scalar_as_read_back f) (map_scalars_of_pairs normal_scalar ps))
     pairs_back f no_pairs ms h p r = rw h means.empty
     pairs_back f (pair k v ps) ms h p r =
         let q = and_parts _ _ p in
         rw h.4 (means.entry k h.0 _ h.1 _ (back f v h.0 h.2 q.0 r.0) (pairs_back f ps h.1 h.3 q.1 r.1))
 
   pub back_as_read : (f : Form) (v : Value) (t : Data) → WrittenInOrder D f (normal_form v) t → plain v ≡ true
-      → InRange v → MeansInOrder D t (as_read f (normal_form v))
+      → InRange v → MeansInOrder D t (as_read_back f (normal_form v))
   back_as_read f v t h p r = subst (MeansInOrder D t) (as_read_each f (normal_form v)) (back f v t h p r)

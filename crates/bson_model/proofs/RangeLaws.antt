@@ -10,7 +10,7 @@ use Rattle.bson_scalar.specs.Means.{number_double, binary, uuid, timestamp, date
 use Rattle.bson_scalar.specs.Means.{date_of_number, db_pointer}
 use Rattle.bson_scalar.specs.Normal.{ScalarInRange}
 use Rattle.bson_scalar.specs.Scalar.{Scalar}
-use Rattle.bson_scalar.specs.TreeParts.{small_number, whole}
+use Rattle.bson_scalar.specs.TreeParts.{small_number, i64_at}
 use Rattle.bson_scalar.proofs.Offered.{subtype_byte-of, finite_range}
 use Rattle.bson_model.specs.Value.{Value, Values, Pairs}
 use Rattle.bson_model.specs.Means.{MeansIn, scalar, code_with_scope, array, document, MeansItemsIn, nothing, then}
@@ -73,7 +73,7 @@ scalar_range (binary s k bytes n is byte) t =
     (subst (λ m. m < 256) (sym (subtype_byte-of n)) fits, is.0)
 scalar_range (uuid s id is) t =
     let byte : 4 < 256 = omega arith in (byte, (hex_bytes is.0 16 id (sized_to 16 is.0 id is.1.0 is.1.1)).1)
-scalar_range (timestamp i e m n i_is e_is) t = (small_range (whole e) n e_is, small_range (whole i) m i_is)
+scalar_range (timestamp i e m n i_is e_is) t = (small_range (i64_at e) n e_is, small_range (i64_at i) m i_is)
 scalar_range (date_of_millis s z is) t = is.2
 scalar_range (date_of_text s z is) t = named_fits s z is
 scalar_range (date_of_number n z is) t = whole_fits n z t.1.0 is

@@ -2,7 +2,7 @@
 use Rattle.std.proofs.Common.{refl}
 use Rattle.serde_json.specs.Data.{Data}
 use Rattle.bson_scalar.specs.Means.{MeansScalarIn}
-use Rattle.bson_scalar.specs.Normal.{normal_scalar, scalar_as_read, ScalarInRange}
+use Rattle.bson_scalar.specs.Normal.{normal_scalar, scalar_as_read_back, ScalarInRange}
 use Rattle.bson_scalar.specs.Scalar.{Scalar}
 use Rattle.bson_scalar.specs.Written.{WrittenScalarIn}
 use Rattle.bson_scalar.specs.declared.form.Doubles.{Doubles}
@@ -24,5 +24,5 @@ module _ (D : Doubles) where
 
   -- the normal form, narrowed in the relaxed form
   pub reads_back : (f : Form) (x : Scalar) (t : Data) → WrittenScalarIn D f (normal_scalar x) t → ScalarInRange x
-      → MeansScalarIn D t (scalar_as_read f (normal_scalar x))
+      → MeansScalarIn D t (scalar_as_read_back f (normal_scalar x))
   reads_back f x t h r = scalars.scalar_from D t _ (scalars.back D f x t (scalars.written_to D f x t h) r)

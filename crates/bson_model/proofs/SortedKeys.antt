@@ -10,7 +10,7 @@ use Rattle.std.proofs.lemmas.Slice.Eq.{bytes_eq-Decides}
 use Rattle.serde_json.specs.Data.{Data, Members, no_members, member, put}
 use Rattle.bson_scalar.specs.Table.{wrapper_of, has_wrapper}
 use Rattle.bson_model.proofs.Offered.{equal_keys}
-use Rattle.bson_model.specs.Kept.{unordered, unordered_members, has_key, KeysDiffer}
+use Rattle.bson_model.specs.OrderedTrees.{tree_sorted_by_key, members_sorted_by_key, has_key, KeysDiffer}
 
 abbrev cmp : List ℕ → List ℕ → Ordering
 cmp k l = slice_cmp nat_cmp k l
@@ -41,9 +41,9 @@ put_wrapper : (k : List ℕ) (d : Data) (ms : Members)
 put_wrapper k d no_members = refl
 put_wrapper k d (member l e ms) = wrapper_at (cmp k l) k l d e ms refl (put_wrapper k d ms)
 
-pub same_wrapper : (ms : Members) → has_wrapper (unordered_members ms) ≡ has_wrapper ms
+pub same_wrapper : (ms : Members) → has_wrapper (members_sorted_by_key ms) ≡ has_wrapper ms
 same_wrapper no_members = refl
-same_wrapper (member k d ms) = put_wrapper k (unordered d) (unordered_members ms)
+same_wrapper (member k d ms) = put_wrapper k (tree_sorted_by_key d) (members_sorted_by_key ms)
     ∙ ap (λ b. is_some (wrapper_of k) || b) (same_wrapper ms)
 
 -- ---- any key
@@ -62,9 +62,9 @@ put_key : (q k : List ℕ) (d : Data) (ms : Members) → has_key q (put k d ms) 
 put_key q k d no_members = refl
 put_key q k d (member l e ms) = key_at (cmp k l) q k l d e ms refl (put_key q k d ms)
 
-pub same_key : (q : List ℕ) (ms : Members) → has_key q (unordered_members ms) ≡ has_key q ms
+pub same_key : (q : List ℕ) (ms : Members) → has_key q (members_sorted_by_key ms) ≡ has_key q ms
 same_key q no_members = refl
-same_key q (member k d ms) = put_key q k (unordered d) (unordered_members ms)
+same_key q (member k d ms) = put_key q k (tree_sorted_by_key d) (members_sorted_by_key ms)
     ∙ ap (λ b. bytes_eq q k || b) (same_key q ms)
 
 -- ---- how many there are
@@ -90,7 +90,7 @@ put_size k d (member l e ms) new =
     let p = or_parts (bytes_eq k l) (has_key k ms) new in
     size_at (cmp k l) k l d e ms refl p.0 (put_size k d ms p.1)
 
-pub same_size : (ms : Members) → KeysDiffer ms → size (unordered_members ms) ≡ size ms
+pub same_size : (ms : Members) → KeysDiffer ms → size (members_sorted_by_key ms) ≡ size ms
 same_size no_members differ = refl
 same_size (member k d ms) differ =
-    put_size k (unordered d) (unordered_members ms) (same_key k ms ∙ differ.0) ∙ ap suc (same_size ms differ.1)
+    put_size k (tree_sorted_by_key d) (members_sorted_by_key ms) (same_key k ms ∙ differ.0) ∙ ap suc (same_size ms differ.1)

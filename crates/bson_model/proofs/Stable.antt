@@ -7,9 +7,9 @@ use Rattle.std.specs.List.{filter}
 use Rattle.std.specs.List.Sorted.{IsStableBy, ties}
 use Rattle.std.specs.Ordering.{is_lt}
 use Rattle.std.specs.Str.{bytes_eq}
-use Rattle.bson_model.specs.Sorted.{put_pair, IsBelowKeys, KeysAscend}
+use Rattle.bson_model.specs.Sorted.{insert_sorted_pair, IsBelowKeys, KeysAscend}
 use Rattle.bson_model.specs.Value.{Value, Pairs, no_pairs, pair}
-use Rattle.bson_model.specs.Stable.{have_one_key, IsStableByKey, put_each, pairs_of}
+use Rattle.bson_model.specs.StableOrder.{have_equal_keys, IsStableByKey, insert_each, pairs_of}
 use Rattle.bson_model.proofs.PutLaws.{put_swap}
 use Rattle.bson_model.proofs.PutSwap.{flipped}
 
@@ -35,7 +35,7 @@ module _ {M : Type 0} (key_of : M → List ℕ) where
   -- ---- what has one key
 
   abbrev twins : M → M → Bool
-  twins = have_one_key key_of
+  twins = have_equal_keys key_of
 
   same_key : (m n : M) → twins m n ≡ true → key_of m ≡ key_of n
   same_key m n h = (bytes_eq-Decides (key_of m) (key_of n)).0 h
@@ -117,13 +117,13 @@ module _ {M : Type 0} (key_of : M → List ℕ) where
 
   module _ (value_of : M → Value) where
     abbrev put : List M → Pairs → Pairs
-    put = put_each key_of value_of
+    put = insert_each key_of value_of
 
     abbrev as_pairs : List M → Pairs
     as_pairs = pairs_of key_of value_of
 
     abbrev put_one : M → Pairs → Pairs
-    put_one m ps = put_pair (key_of m) (value_of m) ps
+    put_one m ps = insert_sorted_pair (key_of m) (value_of m) ps
 
     -- the first of a key may be put before all others
     first_at : (b : Bool) (m n : M) (ns ms : List M) (ps : Pairs) → twins m n ≡ b

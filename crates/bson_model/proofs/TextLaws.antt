@@ -12,18 +12,18 @@ use Rattle.serde_json.specs.Data.{member, put, depth, items_depth, members_depth
 use Rattle.serde_json.specs.Data as tree
 use Rattle.serde_json.specs.Read.{number_of, of_json, of_items, of_members, read, max_depth}
 use Rattle.serde_json.proofs.Numbers.{number_of-decimal, number_of-negative}
-use Rattle.bson_scalar.specs.TreeText.{number_text, outline, items_outline, members_outline, text_of, HasNoFloatIn}
+use Rattle.bson_scalar.specs.TreeText.{number_text, json_of_tree, json_of_items, json_of_members, text_of, HasNoFloatIn}
 use Rattle.bson_scalar.specs.TreeText.{tree_text}
 use Rattle.bson_scalar.specs.declared.form.Doubles.{Doubles}
 use Rattle.bson_scalar.specs.declared.form.Form.{Form}
 use Rattle.bson_scalar.proofs.Offered.{float_is_number, float_is_read, text_is}
-use Rattle.bson_model.specs.Texts.{NumberFits, IsBelow, Ascends, IsTree, ItemsAreTrees, MembersAreTrees, HasOwnTextIn}
+use Rattle.bson_model.specs.Texts.{NumberFits, IsBelow, Ascends, IsTree, ItemsAreTrees, MembersAreTrees, TextReadsBackIn}
 use Rattle.bson_model.proofs.PutSwap.{cmp, flipped}
 
 -- ---- the tokens of the text are those of the tree
 
 mutual
-  numbers : (d : Data) → IsTree d → parsed.HasNumbers (outline d)
+  numbers : (d : Data) → IsTree d → parsed.HasNumbers (json_of_tree d)
   numbers tree.null t = tt
   numbers (tree.boolean b) t = tt
   numbers (tree.number (unsigned n)) t = IsNumber-decimal n t
@@ -34,16 +34,16 @@ mutual
   numbers (tree.array ds) t = items_numbers ds t
   numbers (tree.object ms) t = members_numbers ms t.1
 
-  items_numbers : (ds : Items) → ItemsAreTrees ds → parsed.ItemsHaveNumbers (items_outline ds)
+  items_numbers : (ds : Items) → ItemsAreTrees ds → parsed.ItemsHaveNumbers (json_of_items ds)
   items_numbers no_items t = tt
   items_numbers (item d ds) t = (numbers d t.0, items_numbers ds t.1)
 
-  members_numbers : (ms : Members) → MembersAreTrees ms → parsed.MembersHaveNumbers (members_outline ms)
+  members_numbers : (ms : Members) → MembersAreTrees ms → parsed.MembersHaveNumbers (json_of_members ms)
   members_numbers no_members t = tt
   members_numbers (member k d ms) t = (numbers d t.0, members_numbers ms t.1)
 
 mutual
-  same_depth : (d : Data) → parsed.depth (outline d) ≡ depth d
+  same_depth : (d : Data) → parsed.depth (json_of_tree d) ≡ depth d
   same_depth tree.null = refl
   same_depth (tree.boolean b) = refl
   same_depth (tree.number n) = refl
@@ -51,11 +51,11 @@ mutual
   same_depth (tree.array ds) = ap suc (items_same_depth ds)
   same_depth (tree.object ms) = ap suc (members_same_depth ms)
 
-  items_same_depth : (ds : Items) → parsed.items_depth (items_outline ds) ≡ items_depth ds
+  items_same_depth : (ds : Items) → parsed.items_depth (json_of_items ds) ≡ items_depth ds
   items_same_depth no_items = refl
   items_same_depth (item d ds) = ap₂ max (same_depth d) (items_same_depth ds)
 
-  members_same_depth : (ms : Members) → parsed.members_depth (members_outline ms) ≡ members_depth ms
+  members_same_depth : (ms : Members) → parsed.members_depth (json_of_members ms) ≡ members_depth ms
   members_same_depth no_members = refl
   members_same_depth (member k d ms) = ap₂ max (same_depth d) (members_same_depth ms)
 
@@ -95,7 +95,7 @@ number_back (negative (negsuc n)) t = number_of-negative n t
 number_back (float x) t = float_is_read x t
 
 mutual
-  data_back : (d : Data) → IsTree d → of_json (outline d) ≡ Some d
+  data_back : (d : Data) → IsTree d → of_json (json_of_tree d) ≡ Some d
   data_back tree.null t = refl
   data_back (tree.boolean b) t = refl
   data_back (tree.number n) t = ap (option_map tree.number) (number_back n t)
@@ -103,12 +103,12 @@ mutual
   data_back (tree.array ds) t = ap (option_map tree.array) (items_back ds t)
   data_back (tree.object ms) t = ap (option_map tree.object) (members_back ms no_members t.0 t.1)
 
-  items_back : (ds : Items) → ItemsAreTrees ds → of_items (items_outline ds) ≡ Some ds
+  items_back : (ds : Items) → ItemsAreTrees ds → of_items (json_of_items ds) ≡ Some ds
   items_back no_items t = refl
   items_back (item d ds) t = rw (data_back d t.0, items_back ds t.1) refl
 
   members_back : (ms found : Members) → Ascends (joined found ms) → MembersAreTrees ms
-      → of_members (members_outline ms) found ≡ Some (joined found ms)
+      → of_members (json_of_members ms) found ≡ Some (joined found ms)
   members_back no_members found up t = ap Some (sym (joined_none found))
   members_back (member k d ms) found up t =
       let last = put_last found k d ms up in
@@ -123,9 +123,9 @@ read_within n text = option_and_then of_json (option_and_then (λ p. json.if_las
 
 back_within : (n : ℕ) (d : Data) → IsTree d → depth d ≤ n → read_within n (text_of d) ≡ Some d
 back_within n d t shallow =
-    let printed = tokens-print (parsed.json_tokens (outline d)) (ArePrintable-json_tokens (outline d) (numbers d t)) in
-    let value = ap (json.value n) (printed ∙ sym (append-nil (parsed.json_tokens (outline d))))
-    ∙ value-json_tokens (outline d) n [] (omega (arith, same_depth d)) in
+    let printed = tokens-print (parsed.json_tokens (json_of_tree d)) (ArePrintable-json_tokens (json_of_tree d) (numbers d t)) in
+    let value = ap (json.value n) (printed ∙ sym (append-nil (parsed.json_tokens (json_of_tree d))))
+    ∙ value-json_tokens (json_of_tree d) n [] (omega (arith, same_depth d)) in
     ap (λ o. option_and_then of_json (option_and_then (λ p. json.if_last p.0 p.1) o)) value ∙ data_back d t
 
 un_some : {A : Type 0} (x y : A) → Some x ≡ Some y → x ≡ y
@@ -148,5 +148,5 @@ module _ (D : Doubles) (f : Form) where
       → tree_text D f d ≡ tree_text D f e → d ≡ e
   one_tree d e h t g s same = one_text d e t s (sym (text_is D f d h) ∙ same ∙ text_is D f e g)
 
-  pub own_text : (t : Data) → HasNoFloatIn D f t → IsTree t → HasOwnTextIn D f t
+  pub own_text : (t : Data) → HasNoFloatIn D f t → IsTree t → TextReadsBackIn D f t
   own_text t h is = (text_back t h is, λ u g s same. one_tree t u h is g s same)

@@ -16,31 +16,31 @@ fault_in (Err e) = e
 fault_in (Ok x) = wrong_shape
 
 abbrev pub fault_of_in : Doubles → Data → Fault
-fault_of_in D t = fault_in (reads_in D t)
+fault_of_in doubles t = fault_in (reads_in doubles t)
 
 -- of a map's own values
 abbrev pub document_fault_in : Doubles → Members → Fault
-document_fault_in D ms = fault_in (reads_members_in D ms)
+document_fault_in doubles ms = fault_in (reads_members_in doubles ms)
 
 -- the tree means nothing
 abbrev pub MeansNothingIn : Doubles → Data → Type 0
-MeansNothingIn D t = (v : Value) → MeansIn D t v → ⊥
+MeansNothingIn doubles t = (v : Value) → MeansIn doubles t v → ⊥
 
 -- the error is that of the tree, which means nothing, or memory ran out
 abbrev pub IsFaultOfIn : Doubles → Data → Error → Type 0
-IsFaultOfIn D t OutOfMemory = Unit {0}
-IsFaultOfIn D t (DeserializationError message) = MeansNothingIn D t × (fault_of_in D t ≡ wrong_shape)
-IsFaultOfIn D t (InvalidObjectId e) = MeansNothingIn D t × (s : List ℕ) × (fault_of_in D t ≡ wrong_id s) × IsIdFault s e
+IsFaultOfIn doubles t OutOfMemory = Unit {0}
+IsFaultOfIn doubles t (DeserializationError message) = MeansNothingIn doubles t × (fault_of_in doubles t ≡ wrong_shape)
+IsFaultOfIn doubles t (InvalidObjectId e) = MeansNothingIn doubles t × (s : List ℕ) × (fault_of_in doubles t ≡ wrong_id s) × IsIdFault s e
 
 -- the map is that of no document
 abbrev pub MeansNoDocumentIn : Doubles → Members → Type 0
-MeansNoDocumentIn D ms = (ps : Pairs) → MeansDocumentIn D ms ps → ⊥
+MeansNoDocumentIn doubles ms = (ps : Pairs) → MeansDocumentIn doubles ms ps → ⊥
 
 abbrev pub IsDocumentFaultIn : Doubles → Members → Error → Type 0
-IsDocumentFaultIn D ms OutOfMemory = Unit {0}
-IsDocumentFaultIn D ms (DeserializationError message) = MeansNoDocumentIn D ms × (document_fault_in D ms ≡ wrong_shape)
-IsDocumentFaultIn D ms (InvalidObjectId e) =
-    MeansNoDocumentIn D ms × (s : List ℕ) × (document_fault_in D ms ≡ wrong_id s) × IsIdFault s e
+IsDocumentFaultIn doubles ms OutOfMemory = Unit {0}
+IsDocumentFaultIn doubles ms (DeserializationError message) = MeansNoDocumentIn doubles ms × (document_fault_in doubles ms ≡ wrong_shape)
+IsDocumentFaultIn doubles ms (InvalidObjectId e) =
+    MeansNoDocumentIn doubles ms × (s : List ℕ) × (document_fault_in doubles ms ≡ wrong_id s) × IsIdFault s e
 
 abbrev pub fault_of : Data → Fault
 fault_of = fault_of_in Special

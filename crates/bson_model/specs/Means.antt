@@ -14,24 +14,24 @@ use Rattle.bson_scalar.specs.declared.form.Doubles.TheVariants.{Special}
 
 mutual
   -- the tree means the value
-  pub data MeansIn (D : Doubles) : Data → Value → Type 0 where
-    scalar : (d : Data) (x : Scalar) → MeansScalarIn D d x → MeansIn D d (model.scalar x)
-    code_with_scope : (s : List ℕ) (ms : Members) (ps : Pairs) → MeansDocumentIn D ms ps
-        → MeansIn D (object_of_two (codes "$code") (tree.string s) (codes "$scope") (tree.object ms)) (code_scope s ps)
-    array : (ds : Items) (vs : Values) → MeansItemsIn D ds vs → MeansIn D (tree.array ds) (model.array vs)
-    document : (ms : Members) (ps : Pairs) → has_wrapper ms ≡ false → MeansDocumentIn D ms ps
-        → MeansIn D (tree.object ms) (model.document ps)
+  pub data MeansIn (doubles : Doubles) : Data → Value → Type 0 where
+    scalar : (d : Data) (x : Scalar) → MeansScalarIn doubles d x → MeansIn doubles d (model.scalar x)
+    code_with_scope : (s : List ℕ) (ms : Members) (ps : Pairs) → MeansDocumentIn doubles ms ps
+        → MeansIn doubles (object_of_two (codes "$code") (tree.string s) (codes "$scope") (tree.object ms)) (code_scope s ps)
+    array : (ds : Items) (vs : Values) → MeansItemsIn doubles ds vs → MeansIn doubles (tree.array ds) (model.array vs)
+    document : (ms : Members) (ps : Pairs) → has_wrapper ms ≡ false → MeansDocumentIn doubles ms ps
+        → MeansIn doubles (tree.object ms) (model.document ps)
 
-  pub data MeansItemsIn (D : Doubles) : Items → Values → Type 0 where
-    nothing : MeansItemsIn D no_items no_values
-    then : (d : Data) (v : Value) (ds : Items) (vs : Values) → MeansIn D d v → MeansItemsIn D ds vs
-        → MeansItemsIn D (item d ds) (value v vs)
+  pub data MeansItemsIn (doubles : Doubles) : Items → Values → Type 0 where
+    nothing : MeansItemsIn doubles no_items no_values
+    then : (d : Data) (v : Value) (ds : Items) (vs : Values) → MeansIn doubles d v → MeansItemsIn doubles ds vs
+        → MeansItemsIn doubles (item d ds) (value v vs)
 
   -- the keys of the map in its order, each with the meaning of its value; the keys are not tested
-  pub data MeansDocumentIn (D : Doubles) : Members → Pairs → Type 0 where
-    empty : MeansDocumentIn D no_members no_pairs
-    entry : (k : List ℕ) (d : Data) (v : Value) (ms : Members) (ps : Pairs) → MeansIn D d v → MeansDocumentIn D ms ps
-        → MeansDocumentIn D (member k d ms) (pair k v ps)
+  pub data MeansDocumentIn (doubles : Doubles) : Members → Pairs → Type 0 where
+    empty : MeansDocumentIn doubles no_members no_pairs
+    entry : (k : List ℕ) (d : Data) (v : Value) (ms : Members) (ps : Pairs) → MeansIn doubles d v → MeansDocumentIn doubles ms ps
+        → MeansDocumentIn doubles (member k d ms) (pair k v ps)
 
 abbrev pub Means : Data → Value → Type 0
 Means = MeansIn Special

@@ -1,7 +1,7 @@
 -- Normal and narrowed forms, and what a value may be.
 use Rattle.std.specs.Prelude.{◌&&◌, Bool, true, is_none}
 use Rattle.bson_scalar.specs.Scalar.{Scalar}
-use Rattle.bson_scalar.specs.Normal.{normal_scalar, scalar_as_read, writable_scalar_in, ScalarInRange}
+use Rattle.bson_scalar.specs.Normal.{normal_scalar, scalar_as_read_back, writable_scalar_in, ScalarInRange}
 use Rattle.bson_scalar.specs.Table.{wrapper_of}
 use Rattle.bson_scalar.specs.declared.form.Form.{Form}
 use Rattle.bson_scalar.specs.declared.form.Form.TheVariants.{Canonical, Relaxed}
@@ -33,12 +33,12 @@ normal_form v = map_scalars normal_scalar v
 
 -- each Int64 that an i32 has is the Int32
 abbrev pub narrowed_form : Value → Value
-narrowed_form v = map_scalars (scalar_as_read Relaxed) v
+narrowed_form v = map_scalars (scalar_as_read_back Relaxed) v
 
 -- the value as it is read back from its tree
-abbrev pub as_read : Form → Value → Value
-as_read Canonical v = v
-as_read Relaxed v = narrowed_form v
+abbrev pub as_read_back : Form → Value → Value
+as_read_back Canonical v = v
+as_read_back Relaxed v = narrowed_form v
 
 -- ---- what a value may be
 
@@ -81,18 +81,18 @@ abbrev mutual
 abbrev mutual
   -- each double in it is a zero, an infinity or a NaN, or in the mode `Finite` any
   pub writable_in : Doubles → Value → Bool
-  writable_in D (scalar x) = writable_scalar_in D x
-  writable_in D (code_scope s ps) = writable_pairs_in D ps
-  writable_in D (array vs) = writable_items_in D vs
-  writable_in D (document ps) = writable_pairs_in D ps
+  writable_in doubles (scalar x) = writable_scalar_in doubles x
+  writable_in doubles (code_scope s ps) = writable_pairs_in doubles ps
+  writable_in doubles (array vs) = writable_items_in doubles vs
+  writable_in doubles (document ps) = writable_pairs_in doubles ps
 
   pub writable_items_in : Doubles → Values → Bool
-  writable_items_in D no_values = true
-  writable_items_in D (value v vs) = writable_in D v && writable_items_in D vs
+  writable_items_in doubles no_values = true
+  writable_items_in doubles (value v vs) = writable_in doubles v && writable_items_in doubles vs
 
   pub writable_pairs_in : Doubles → Pairs → Bool
-  writable_pairs_in D no_pairs = true
-  writable_pairs_in D (pair k v ps) = writable_in D v && writable_pairs_in D ps
+  writable_pairs_in doubles no_pairs = true
+  writable_pairs_in doubles (pair k v ps) = writable_in doubles v && writable_pairs_in doubles ps
 
 abbrev pub writable : Value → Bool
 writable = writable_in Special

@@ -12,19 +12,19 @@ use Rattle.bson_model.specs.Value.{no_pairs, pair}
 abbrev mutual
   -- the value, in normal form, has this tree; inside a wrapper the order is the one of Extended JSON
   pub WrittenInOrder : Doubles → Form → Value → Data → Type 0
-  WrittenInOrder D f (scalar x) t = WrittenScalarIn D f x t
-  WrittenInOrder D f (code_scope s ps) t = (ms : Members) × WrittenDocumentInOrder D f ps ms
+  WrittenInOrder doubles form (scalar x) t = WrittenScalarIn doubles form x t
+  WrittenInOrder doubles form (code_scope s ps) t = (ms : Members) × WrittenDocumentInOrder doubles form ps ms
       × (t ≡ object_of_two (codes "$code") (tree.string s) (codes "$scope") (tree.object ms))
-  WrittenInOrder D f (array vs) t = (ds : Items) × WrittenItemsInOrder D f vs ds × (t ≡ tree.array ds)
-  WrittenInOrder D f (document ps) t = (ms : Members) × WrittenDocumentInOrder D f ps ms × (t ≡ tree.object ms)
+  WrittenInOrder doubles form (array vs) t = (ds : Items) × WrittenItemsInOrder doubles form vs ds × (t ≡ tree.array ds)
+  WrittenInOrder doubles form (document ps) t = (ms : Members) × WrittenDocumentInOrder doubles form ps ms × (t ≡ tree.object ms)
 
   pub WrittenItemsInOrder : Doubles → Form → Values → Items → Type 0
-  WrittenItemsInOrder D f no_values ds = ds ≡ no_items
-  WrittenItemsInOrder D f (value v vs) ds =
-      (d : Data) × (es : Items) × WrittenInOrder D f v d × WrittenItemsInOrder D f vs es × (ds ≡ item d es)
+  WrittenItemsInOrder doubles form no_values ds = ds ≡ no_items
+  WrittenItemsInOrder doubles form (value v vs) ds =
+      (d : Data) × (es : Items) × WrittenInOrder doubles form v d × WrittenItemsInOrder doubles form vs es × (ds ≡ item d es)
 
   -- the keys in the document's order, each with the tree of its value
   pub WrittenDocumentInOrder : Doubles → Form → Pairs → Members → Type 0
-  WrittenDocumentInOrder D f no_pairs ms = ms ≡ no_members
-  WrittenDocumentInOrder D f (pair k v ps) ms =
-      (d : Data) × (ns : Members) × WrittenInOrder D f v d × WrittenDocumentInOrder D f ps ns × (ms ≡ member k d ns)
+  WrittenDocumentInOrder doubles form no_pairs ms = ms ≡ no_members
+  WrittenDocumentInOrder doubles form (pair k v ps) ms =
+      (d : Data) × (ns : Members) × WrittenInOrder doubles form v d × WrittenDocumentInOrder doubles form ps ns × (ms ≡ member k d ns)

@@ -5,7 +5,7 @@ use Rattle.std.specs.Str.{bytes_eq}
 use Rattle.serde_json.specs.Data.{Data, Items, no_items, item, Members, no_members, member}
 use Rattle.serde_json.specs.Data as tree
 use Rattle.bson_scalar.specs.Faults.{Fault, wrong_shape, ◌>>=◌}
-use Rattle.bson_scalar.specs.Reading.{number_read_in, single_at_in, on_text}
+use Rattle.bson_scalar.specs.Reading.{number_read_in, optional_wrapper_read_in, on_text}
 use Rattle.bson_scalar.specs.Scalar.{Scalar, null, boolean, text, code}
 use Rattle.bson_scalar.specs.Table.{wrapper_of, has_wrapper}
 use Rattle.bson_model.specs.Value.{Value, scalar, code_scope, array, document, Values, no_values, value, Pairs}
@@ -31,36 +31,36 @@ code_at k d l scope = if bytes_eq k (codes "$code") && bytes_eq l (codes "$scope
 
 abbrev mutual
   pub reads_in : Doubles → Data → Result Value Fault
-  reads_in D tree.null = Ok (scalar null)
-  reads_in D (tree.boolean b) = Ok (scalar (boolean b))
-  reads_in D (tree.number n) = scalar_value (number_read_in D n)
-  reads_in D (tree.string s) = Ok (scalar (text s))
-  reads_in D (tree.array ds) = reads_items_in D ds >>= λ vs. Ok (array vs)
-  reads_in D (tree.object ms) = if has_wrapper ms then reads_wrapper_in D ms else (reads_members_in D ms >>= λ ps. Ok (document ps))
+  reads_in doubles tree.null = Ok (scalar null)
+  reads_in doubles (tree.boolean b) = Ok (scalar (boolean b))
+  reads_in doubles (tree.number n) = scalar_value (number_read_in doubles n)
+  reads_in doubles (tree.string s) = Ok (scalar (text s))
+  reads_in doubles (tree.array ds) = reads_items_in doubles ds >>= λ vs. Ok (array vs)
+  reads_in doubles (tree.object ms) = if has_wrapper ms then reads_wrapper_in doubles ms else (reads_members_in doubles ms >>= λ ps. Ok (document ps))
 
   pub reads_items_in : Doubles → Items → Result Values Fault
-  reads_items_in D no_items = Ok no_values
-  reads_items_in D (item d ds) = reads_in D d >>= λ v. reads_items_in D ds >>= λ vs. Ok (value v vs)
+  reads_items_in doubles no_items = Ok no_values
+  reads_items_in doubles (item d ds) = reads_in doubles d >>= λ v. reads_items_in doubles ds >>= λ vs. Ok (value v vs)
 
   -- the values of a map by ascending key, whose own keys are not tested
   pub reads_members_in : Doubles → Members → Result Pairs Fault
-  reads_members_in D no_members = Ok no_pairs
-  reads_members_in D (member k d ms) = reads_in D d >>= λ v. reads_members_in D ms >>= λ ps. Ok (pair k v ps)
+  reads_members_in doubles no_members = Ok no_pairs
+  reads_members_in doubles (member k d ms) = reads_in doubles d >>= λ v. reads_members_in doubles ms >>= λ ps. Ok (pair k v ps)
 
   -- a map with a wrapper key
   pub reads_wrapper_in : Doubles → Members → Result Value Fault
-  reads_wrapper_in D no_members = Err wrong_shape
-  reads_wrapper_in D (member k d no_members) = scalar_value (single_at_in D (wrapper_of k) d)
-  reads_wrapper_in D (member k d (member l e no_members)) = code_at k d l (reads_scope_in D e)
-  reads_wrapper_in D (member k d (member l e (member m f ms))) = Err wrong_shape
+  reads_wrapper_in doubles no_members = Err wrong_shape
+  reads_wrapper_in doubles (member k d no_members) = scalar_value (optional_wrapper_read_in doubles (wrapper_of k) d)
+  reads_wrapper_in doubles (member k d (member l e no_members)) = code_at k d l (reads_scope_in doubles e)
+  reads_wrapper_in doubles (member k d (member l e (member m f ms))) = Err wrong_shape
 
   pub reads_scope_in : Doubles → Data → Result (Option Pairs) Fault
-  reads_scope_in D tree.null = Ok None
-  reads_scope_in D (tree.boolean b) = Err wrong_shape
-  reads_scope_in D (tree.number n) = Err wrong_shape
-  reads_scope_in D (tree.string s) = Err wrong_shape
-  reads_scope_in D (tree.array ds) = Err wrong_shape
-  reads_scope_in D (tree.object ms) = reads_members_in D ms >>= λ ps. Ok (Some ps)
+  reads_scope_in doubles tree.null = Ok None
+  reads_scope_in doubles (tree.boolean b) = Err wrong_shape
+  reads_scope_in doubles (tree.number n) = Err wrong_shape
+  reads_scope_in doubles (tree.string s) = Err wrong_shape
+  reads_scope_in doubles (tree.array ds) = Err wrong_shape
+  reads_scope_in doubles (tree.object ms) = reads_members_in doubles ms >>= λ ps. Ok (Some ps)
 
 abbrev pub reads : Data → Result Value Fault
 reads = reads_in Special

@@ -13,7 +13,7 @@ use Rattle.bson_scalar.specs.declared.form.Form.TheVariants.{Canonical}
 use Rattle.bson_model.specs.Value.{Value}
 use Rattle.bson_model.specs.Means.{MeansIn}
 use Rattle.bson_model.specs.Same.{same}
-use Rattle.bson_model.specs.Normal.{normal_form, as_read, plain, InRange}
+use Rattle.bson_model.specs.Normal.{normal_form, as_read_back, plain, InRange}
 use Rattle.bson_model.specs.Written.{WrittenIn}
 use Rattle.bson_scalar.specs.declared.form.Doubles.{Doubles}
 use Rattle.bson_scalar.specs.declared.form.Doubles.TheVariants.{Special}
@@ -54,38 +54,38 @@ abbrev mutual
   MembersAreTrees (member k d ms) = IsTree d × MembersAreTrees ms
 
 -- the text is read as the tree again, unless that nests deeper than texts may, and no other tree has the text
-abbrev pub HasOwnTextIn : Doubles → Form → Data → Type 0
-HasOwnTextIn D f t = (depth t ≤ max_depth → read (tree_text D f t) ≡ Some t)
-    × ((u : Data) → HasNoFloatIn D f u → IsTree u → tree_text D f t ≡ tree_text D f u → t ≡ u)
+abbrev pub TextReadsBackIn : Doubles → Form → Data → Type 0
+TextReadsBackIn doubles form t = (depth t ≤ max_depth → read (tree_text doubles form t) ≡ Some t)
+    × ((u : Data) → HasNoFloatIn doubles form u → IsTree u → tree_text doubles form t ≡ tree_text doubles form u → t ≡ u)
 
-abbrev pub HasOwnText : Data → Type 0
-HasOwnText = HasOwnTextIn Special Canonical
+abbrev pub TextReadsBack : Data → Type 0
+TextReadsBack = TextReadsBackIn Special Canonical
 
 -- ---- texts of values
 
 -- the tree u of v, and the tree x of w
 abbrev pub HasEqualTextsIn : Doubles → Form → Value → Data → Value → Data → Type 0
-HasEqualTextsIn D f v u w x = plain w ≡ true → InRange w → WrittenIn D f (normal_form w) x
-    → ((tree_text D f u ≡ tree_text D f x) ↔ (same (as_read f (normal_form v)) (as_read f (normal_form w)) ≡ true))
+HasEqualTextsIn doubles form v u w x = plain w ≡ true → InRange w → WrittenIn doubles form (normal_form w) x
+    → ((tree_text doubles form u ≡ tree_text doubles form x) ↔ (same (as_read_back form (normal_form v)) (as_read_back form (normal_form w)) ≡ true))
 
 -- what the tree u of the value v in this form, and its compact text, are
-pub record HasTextIn (D : Doubles) (f : Form) (v : Value) (u : Data) : Type 0 where
-  pub written : WrittenIn D f (normal_form v) u
+pub record HasTextIn (doubles : Doubles) (form : Form) (v : Value) (u : Data) : Type 0 where
+  pub written : WrittenIn doubles form (normal_form v) u
   pub is_tree : IsTree u
   -- the text is read as the tree again, unless it nests deeper than texts may
-  pub read_again : depth u ≤ max_depth → read (tree_text D f u) ≡ Some u
+  pub read_again : depth u ≤ max_depth → read (tree_text doubles form u) ≡ Some u
   -- the tree means one value, the same as the normal form, and is the tree of that value too
-  pub means : (w : Value) × MeansIn D u w × (same w (as_read f (normal_form v)) ≡ true) × WrittenIn D f (normal_form w) u
+  pub means : (w : Value) × MeansIn doubles u w × (same w (as_read_back form (normal_form v)) ≡ true) × WrittenIn doubles form (normal_form w) u
   -- no other value has the text
-  pub equal : (w : Value) (x : Data) → HasEqualTextsIn D f v u w x
+  pub equal : (w : Value) (x : Data) → HasEqualTextsIn doubles form v u w x
 
 -- the same of a value that is plain, as each one is that was read
 abbrev pub ReadsAgainIn : Doubles → Form → Value → Data → Type 0
-ReadsAgainIn D f v u = plain v ≡ true → HasTextIn D f v u
+ReadsAgainIn doubles form v u = plain v ≡ true → HasTextIn doubles form v u
 
 -- the value has a tree in each form, which is read from its text again
-abbrev pub ComesBackIn : Doubles → Value → Type 0
-ComesBackIn D v = (f : Form) → (u : Data) × HasTextIn D f v u
+abbrev pub ValueRoundTripsIn : Doubles → Value → Type 0
+ValueRoundTripsIn doubles v = (form : Form) → (u : Data) × HasTextIn doubles form v u
 
 abbrev pub HasEqualTexts : Form → Value → Data → Value → Data → Type 0
 HasEqualTexts = HasEqualTextsIn Special
@@ -96,5 +96,5 @@ HasText = HasTextIn Special
 abbrev pub ReadsAgain : Form → Value → Data → Type 0
 ReadsAgain = ReadsAgainIn Special
 
-abbrev pub ComesBack : Value → Type 0
-ComesBack = ComesBackIn Special
+abbrev pub ValueRoundTrips : Value → Type 0
+ValueRoundTrips = ValueRoundTripsIn Special

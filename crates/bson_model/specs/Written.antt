@@ -12,21 +12,21 @@ use Rattle.bson_scalar.specs.declared.form.Doubles.TheVariants.{Special}
 abbrev mutual
   -- the value, in normal form, has this tree
   pub WrittenIn : Doubles → Form → Value → Data → Type 0
-  WrittenIn D f (scalar x) t = WrittenScalarIn D f x t
-  WrittenIn D f (code_scope s ps) t = (ms : Members) × WrittenDocumentIn D f ps ms
+  WrittenIn doubles form (scalar x) t = WrittenScalarIn doubles form x t
+  WrittenIn doubles form (code_scope s ps) t = (ms : Members) × WrittenDocumentIn doubles form ps ms
       × (t ≡ tree.object (member (codes "$code") (tree.string s) (member (codes "$scope") (tree.object ms) no_members)))
-  WrittenIn D f (array vs) t = (ds : Items) × WrittenItemsIn D f vs ds × (t ≡ tree.array ds)
-  WrittenIn D f (document ps) t = (ms : Members) × WrittenDocumentIn D f ps ms × (t ≡ tree.object ms)
+  WrittenIn doubles form (array vs) t = (ds : Items) × WrittenItemsIn doubles form vs ds × (t ≡ tree.array ds)
+  WrittenIn doubles form (document ps) t = (ms : Members) × WrittenDocumentIn doubles form ps ms × (t ≡ tree.object ms)
 
   pub WrittenItemsIn : Doubles → Form → Values → Items → Type 0
-  WrittenItemsIn D f no_values ds = ds ≡ no_items
-  WrittenItemsIn D f (value v vs) ds = (d : Data) × (es : Items) × WrittenIn D f v d × WrittenItemsIn D f vs es × (ds ≡ item d es)
+  WrittenItemsIn doubles form no_values ds = ds ≡ no_items
+  WrittenItemsIn doubles form (value v vs) ds = (d : Data) × (es : Items) × WrittenIn doubles form v d × WrittenItemsIn doubles form vs es × (ds ≡ item d es)
 
   -- the map from the keys to the trees of their values
   pub WrittenDocumentIn : Doubles → Form → Pairs → Members → Type 0
-  WrittenDocumentIn D f no_pairs ms = ms ≡ no_members
-  WrittenDocumentIn D f (pair k v ps) ms =
-      (d : Data) × (ns : Members) × WrittenIn D f v d × WrittenDocumentIn D f ps ns × (ms ≡ put k d ns)
+  WrittenDocumentIn doubles form no_pairs ms = ms ≡ no_members
+  WrittenDocumentIn doubles form (pair k v ps) ms =
+      (d : Data) × (ns : Members) × WrittenIn doubles form v d × WrittenDocumentIn doubles form ps ns × (ms ≡ put k d ns)
 
 abbrev pub Written : Form → Value → Data → Type 0
 Written = WrittenIn Special

@@ -5,7 +5,7 @@ use Rattle.bson.specs.Doubles.{Doubles}
 use Rattle.bson.specs.Doubles.TheVariants.{Finite}
 use Rattle.bson.specs.Form.{Form}
 use Rattle.bson.specs.Form.TheVariants.{Canonical}
-use Rattle.bson.specs.Kept.{read_kept}
+use Rattle.bson.specs.OrderedTrees.{read_in_order}
 use Rattle.bson.specs.MeansInOrder.{MeansInOrder}
 use Rattle.bson.specs.Normal.{map_scalars, map_scalars_of_items, map_scalars_of_pairs}
 use Rattle.bson.specs.OrderedTexts.{HasMeaningInOrder}
@@ -73,10 +73,10 @@ text_one D f v s t a b = a.compact ∙ ap (tree_text D f) (b.one a.tree a.writte
 
 module _ (ps : Pairs) (text : List ℕ) (is : IsTextInOrder Finite Canonical (document ps) text) (back : RoundTrips ps) where
   -- the text is read as its tree again
-  pub read_again : read_kept text ≡ Some is.tree
+  pub read_again : read_in_order text ≡ Some is.tree
   read_again =
       let of = is.ordered back.is_plain in
-      ap read_kept is.compact
+      ap read_in_order is.compact
       ∙ of.own_text.in_order
       (back.is_shallow is.tree (subst (λ v. WrittenInOrder Finite Canonical v is.tree) back.is_normal of.written))
 
@@ -88,7 +88,7 @@ module _ (ps : Pairs) (text : List ℕ) (is : IsTextInOrder Finite Canonical (do
   meant : (qs : Pairs) → HasMeaningInOrder Finite text (document qs) → qs ≡ ps
   meant qs h =
       let a = read_again in
-      let b : read_kept text ≡ Some h.tree = h.tree_read in
+      let b : read_in_order text ≡ Some h.tree = h.tree_read in
       let same : is.tree ≡ h.tree = cc in
       let one : document ps ≡ document qs =
       h.one (document ps) (subst (λ d. MeansInOrder Finite d (document ps)) same means_again) in

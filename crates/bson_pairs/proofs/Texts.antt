@@ -6,11 +6,11 @@ use Rattle.bson.specs.Doubles.{Doubles}
 use Rattle.bson.specs.Form.{Form}
 use Rattle.bson.specs.Same.{same}
 use Rattle.bson.specs.Value.{Value}
-use Rattle.bson.specs.Normal.{normal_form, as_read, plain, InRange}
+use Rattle.bson.specs.Normal.{normal_form, as_read_back, plain, InRange}
 
 pub texts_equal : (D : Doubles) (f : Form) (v w : Value) (s t : List ℕ) → IsTextUnder D f v s → IsTextUnder D f w t
     → InRange w → plain v ≡ true → plain w ≡ true
-    → (s ≡ t) ↔ (same (as_read f (normal_form v)) (as_read f (normal_form w)) ≡ true)
+    → (s ≡ t) ↔ (same (as_read_back f (normal_form v)) (as_read_back f (normal_form w)) ≡ true)
 texts_equal D f v w s t a b r p q =
     let equal = (a.reads_again p).equal w b.tree q r b.is_tree.written in (
       λ is. equal.0 (sym a.compact ∙ is ∙ b.compact),

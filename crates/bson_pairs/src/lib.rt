@@ -5,7 +5,7 @@
 ghost use Rattle.std.specs.Prelude.{◌≡◌, ◌↔◌, IfOk, IfErr, true};
 ghost use Rattle.bson.specs.View.{bson_view};
 ghost use Rattle.bson.specs.Same.{same};
-ghost use Rattle.bson.specs.Normal.{normal_form, as_read, plain};
+ghost use Rattle.bson.specs.Normal.{normal_form, as_read_back, plain};
 ghost use Rattle.bson.specs.Texts.{IsWriteErrorIn};
 
 pub mod again;
@@ -46,8 +46,8 @@ pub fn have_one_text_in_form(
 ) -> Result<bool, WriteError>
     ensures pair { plain (bson_view left.now) ≡ true → plain (bson_view right.now) ≡ true
         → IfOk result
-        (λ equal. (equal ≡ true) ↔ (same (as_read form (normal_form (bson_view left.now)))
-        (as_read form (normal_form (bson_view right.now))) ≡ true)) }
+        (λ equal. (equal ≡ true) ↔ (same (as_read_back form (normal_form (bson_view left.now)))
+        (as_read_back form (normal_form (bson_view right.now))) ≡ true)) }
     ensures every { IfErr result (IsWriteErrorIn doubles) }
 {
     let options = Options {

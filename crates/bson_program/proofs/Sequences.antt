@@ -6,7 +6,7 @@ use Rattle.std.proofs.lemmas.Bool.Decides.{nat_tests}
 use Rattle.std.proofs.lemmas.Str.{IsUtf8-append, IsUtf8-nil}
 use Rattle.std.specs.Prelude.{IsUtf8}
 use Rattle.std.specs.Io.KnownBytes.{Appends}
-use Rattle.bson_json.specs.Sequence.{filled, parts, texts_in, with_part}
+use Rattle.bson_json.specs.Sequence.{nonempty_parts, parts, texts_in, prepend_part}
 use Rattle.bson_convert.specs.declared.error.Error.{Error}
 use Rattle.bson_convert.specs.declared.error.Error.TheVariants.{CannotRead, CannotWrite, NotJson, NotExtendedJson}
 use Rattle.bson_convert.specs.declared.error.Error.TheVariants.{NoBytes, NotCanonical, OutOfMemory}
@@ -26,15 +26,15 @@ use Rattle.bson_program.specs.declared.run.Stop.TheVariants as stops
 -- ---- how many there are
 
 nothing_in : texts_in [] ≡ []
-unfolding filled parts
+unfolding nonempty_parts parts
 nothing_in = refl
 
 -- a part without bytes is not a text
-no_text : (text : List ℕ) (texts : List (List ℕ)) → length text ≡ 0 → with_part text texts ≡ texts
+no_text : (text : List ℕ) (texts : List (List ℕ)) → length text ≡ 0 → prepend_part text texts ≡ texts
 no_text [] texts none = refl
 no_text (x ∷ xs) texts none = absurd (omega (arith, none))
 
-one_text : (text : List ℕ) (texts : List (List ℕ)) → 0 < length text → with_part text texts ≡ text ∷ texts
+one_text : (text : List ℕ) (texts : List (List ℕ)) → 0 < length text → prepend_part text texts ≡ text ∷ texts
 one_text [] texts some = absurd (omega (arith, some))
 one_text (x ∷ xs) texts some = refl
 
@@ -100,7 +100,7 @@ module _ (invocation : Invocation) (content : List ℕ) (had : Option (List ℕ)
       is ∙ ap (λ l. front ++ l) (a.splits ∙ sym (append_assoc text a.between next))
       ∙ sym (append_assoc front (text ++ a.between) next)
 
-  pub passes : (rest text next : List ℕ) (holds : Option (List ℕ)) → texts_in rest ≡ with_part text (texts_in next)
+  pub passes : (rest text next : List ℕ) (holds : Option (List ℕ)) → texts_in rest ≡ prepend_part text (texts_in next)
       → ((rest ≡ text) × (next ≡ [])) ⊎ ((x : ℕ) × (rest ≡ text ++ x ∷ next)) → length text ≡ 0
       → Reaches invocation content rest had holds → Reaches invocation content next had holds
   passes rest text next holds found place none r =
@@ -116,7 +116,7 @@ module _ (invocation : Invocation) (content : List ℕ) (had : Option (List ℕ)
         following = moved r.front rest text next a r.following;
       }
 
-  pub goes_on : (rest text next : List ℕ) (held holds : Option (List ℕ)) → texts_in rest ≡ with_part text (texts_in next)
+  pub goes_on : (rest text next : List ℕ) (held holds : Option (List ℕ)) → texts_in rest ≡ prepend_part text (texts_in next)
       → ((rest ≡ text) × (next ≡ [])) ⊎ ((x : ℕ) × (rest ≡ text ++ x ∷ next)) → 0 < length text
       → IsTextDone invocation text held holds → Reaches invocation content rest had held → Reaches invocation content next had holds
   goes_on rest text next held holds found place some t r =
@@ -167,7 +167,7 @@ text_there front rest text between next content is splits =
     ∙ take_front text (between ++ next)
 
 pub stops_in : (invocation : Invocation) (stop : Stop) (name content rest text next : List ℕ) (had held holds : Option (List ℕ))
-    → texts_in rest ≡ with_part text (texts_in next)
+    → texts_in rest ≡ prepend_part text (texts_in next)
     → ((rest ≡ text) × (next ≡ [])) ⊎ ((x : ℕ) × (rest ≡ text ++ x ∷ next)) → 0 < length text
     → Reaches invocation content rest had held
     → TextStops invocation stop name content (length content - length rest) text held holds

@@ -23,7 +23,7 @@ use bson_run::order::{Criterion, Preprocessing, Task};
 use bson_run::preprocessed::preprocess_text;
 use bson_run::rule::Rule;
 use bson_run::stop;
-use bson_scalar::doubles::NUMBER;
+use bson_scalar::doubles::NUMBER_MESSAGE;
 use bson_tree::place::{Place, Reason};
 use std::alloc::Global;
 
@@ -92,7 +92,7 @@ fn ends_at_double(options: Options, ended: &Result<Counts, Stop<'_>>) -> bool {
 // Whether a number is wrong only where the specification alone is read.
 fn is_double(place: &Place) -> bool {
     match &place.reason {
-        Reason::WrongShape(words) => *words == NUMBER,
+        Reason::WrongShape(words) => *words == NUMBER_MESSAGE,
         Reason::BadObjectId(_) => false,
     }
 }

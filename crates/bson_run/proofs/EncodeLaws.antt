@@ -12,7 +12,7 @@ use Rattle.bson.proofs.Offered.{tree_one}
 use Rattle.bson_codec.specs.Canonical.{Cause, document_bytes}
 use Rattle.bson_model.specs.Means.{MeansIn}
 use Rattle.bson_model.specs.Value.{Value, Pairs, document}
-use Rattle.bson_model.specs.Kept.{read_kept}
+use Rattle.bson_model.specs.OrderedTrees.{read_in_order}
 use Rattle.bson_model.specs.OrderedMeans.{MeansInOrder}
 use Rattle.bson_codec.specs.Packed.{IsPackedText}
 use Rattle.bson_convert.specs.Convert.{IsRefusedIn}
@@ -83,8 +83,8 @@ pub value_one : (k : KeyOrder) (o : Options) (text : List ℕ) (v w : Value) →
 value_one Ascending o text v w h m =
     m.meaning.one v (subst (λ t. MeansIn o.doubles t v) (tree_one text h.tree m.tree h.text m.text) h.meaning.means)
 value_one AsGiven o text v w h m =
-    let a : read_kept text ≡ Some h.1.tree = h.1.tree_read in
-    let b : read_kept text ≡ Some m.1.tree = m.1.tree_read in
+    let a : read_in_order text ≡ Some h.1.tree = h.1.tree_read in
+    let b : read_in_order text ≡ Some m.1.tree = m.1.tree_read in
     let same : h.1.tree ≡ m.1.tree = cc in
     m.1.one v (subst (λ t. MeansInOrder o.doubles t v) same h.1.means)
 
@@ -95,8 +95,8 @@ is_meant Ascending o text ps value m h =
     sym (h.meaning.one (document ps)
     (subst (λ d. MeansIn o.doubles d (document ps)) (tree_one text m.0 h.tree m.1 h.text) m.2))
 is_meant AsGiven o text ps value m h =
-    let a : read_kept text ≡ Some h.1.tree = h.1.tree_read in
-    let b : read_kept text ≡ Some m.0 = m.2 in
+    let a : read_in_order text ≡ Some h.1.tree = h.1.tree_read in
+    let b : read_in_order text ≡ Some m.0 = m.2 in
     let same : m.0 ≡ h.1.tree = cc in
     sym (h.1.one (document ps) (subst (λ d. MeansInOrder o.doubles d (document ps)) same m.3))
 

@@ -10,7 +10,7 @@ use Rattle.std.specs.Str.{chars}
 use Rattle.std.proofs.lemmas.Bool.{le-ltb, lt-ltb}
 use Rattle.std.proofs.lemmas.Fmt.{hex_byte}
 use Rattle.std.proofs.lemmas.Option.{slice_get_cases, slice_get_within}
-use Rattle.bson_tree.specs.Place.{dotted, path_of}
+use Rattle.bson_tree.specs.Place.{path_text, path_of}
 use Rattle.bson_tree.specs.declared.place.Place.{Place}
 use Rattle.bson_convert.specs.declared.error.Error.{Error}
 use Rattle.bson_convert.specs.declared.error.Error.TheVariants as errors
@@ -27,15 +27,15 @@ at_some : (path : List ℕ) → 0 < length path → at_path path ≡ codes " at 
 at_some [] h = absurd (omega arith)
 at_some (x ∷ xs) h = refl
 
-pub placed_bare : (place : Place) (path reason words : List ℕ) → path ≡ shown_words (dotted (path_of place)) → length path ≡ 0
+pub placed_bare : (place : Place) (path reason words : List ℕ) → path ≡ shown_words (path_text (path_of place)) → length path ≡ 0
     → words ≡ codes " (" ++ reason ++ codes ")"
-    → words ≡ at_path (shown_words (dotted (path_of place))) ++ codes " (" ++ reason ++ codes ")"
+    → words ≡ at_path (shown_words (path_text (path_of place))) ++ codes " (" ++ reason ++ codes ")"
 placed_bare place path reason words e none is =
     is ∙ ap (λ p. p ++ codes " (" ++ reason ++ codes ")") (sym (at_none path none) ∙ ap at_path e)
 
-pub placed_at : (place : Place) (path reason words : List ℕ) → path ≡ shown_words (dotted (path_of place)) → 0 < length path
+pub placed_at : (place : Place) (path reason words : List ℕ) → path ≡ shown_words (path_text (path_of place)) → 0 < length path
     → words ≡ codes " at " ++ path ++ codes " (" ++ reason ++ codes ")"
-    → words ≡ at_path (shown_words (dotted (path_of place))) ++ codes " (" ++ reason ++ codes ")"
+    → words ≡ at_path (shown_words (path_text (path_of place))) ++ codes " (" ++ reason ++ codes ")"
 placed_at place path reason words e some is =
     is ∙ ap (λ p. p ++ codes " (" ++ reason ++ codes ")") (sym (at_some path some) ∙ ap at_path e)
 
@@ -58,7 +58,7 @@ where_from text fault (explained.Value place reason) h =
     subst (λ (f : Error). IsWhere text f (words_at text (explained.Value place reason))) (sym h.0) (
       h.1.0,
       h.1.1,
-      ap (λ t. at_path (shown_words (dotted (path_of place.now))) ++ codes " (" ++ t ++ codes ")") h.1.2,
+      ap (λ t. at_path (shown_words (path_text (path_of place.now))) ++ codes " (" ++ t ++ codes ")") h.1.2,
     )
 where_from text fault (explained.Difference column) h =
     subst (λ (f : Error). IsWhere text f (at_difference column)) (sym h) refl

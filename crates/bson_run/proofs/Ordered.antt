@@ -3,7 +3,7 @@ use Rattle.std.proofs.Common.{◌≡◌, ◌++◌, ℕ, List, true, Result, Ok, 
 use Rattle.std.proofs.Common.{◌∙◌, ap, subst}
 use Rattle.std.specs.Prelude.{is_ok, IsUtf8}
 use Rattle.serde_json.specs.Data.{Data}
-use Rattle.bson_scalar.specs.Written.{Refusal}
+use Rattle.bson_scalar.specs.Written.{WriteFault}
 use Rattle.bson_scalar.specs.declared.form.Form.{Form}
 use Rattle.bson_model.specs.Laws.{IsTreeOfIn}
 use Rattle.bson_model.specs.Normal.{InRange, normal_form, writable_in}
@@ -11,7 +11,7 @@ use Rattle.bson_model.specs.Value.{Value}
 use Rattle.bson_model.specs.Writing.{writes_in}
 use Rattle.bson_model.specs.Written.{WrittenIn}
 use Rattle.bson_model.proofs.Offered.{tree_is_in, writable_is_in}
-use Rattle.bson_model.specs.Kept.{unordered}
+use Rattle.bson_model.specs.OrderedTrees.{tree_sorted_by_key}
 use Rattle.bson_model.specs.OrderedTexts.{HasMeaningInOrder}
 use Rattle.bson.specs.Texts.{IsTextInOrder}
 use Rattle.bson.specs.declared.extjson.options.Options.{Options}
@@ -25,7 +25,7 @@ use Rattle.bson_convert.specs.declared.mode.Mode.{Mode}
 use Rattle.bson_convert.specs.declared.mode.Mode.TheVariants.{Canonical, Relaxed, Show}
 
 module _ (o : Options) where
-  written_by_default : (r : Result Data Refusal) → is_ok r ≡ true → (u : Data) × (r ≡ Ok u)
+  written_by_default : (r : Result Data WriteFault) → is_ok r ≡ true → (u : Data) × (r ≡ Ok u)
   written_by_default (Ok u) h = (u, refl)
   written_by_default (Err e) h = cc
 
@@ -46,7 +46,7 @@ module _ (o : Options) where
         written = x.is_tree.written;
         one = x.is_tree.one;
         ordered = λ plain. x.is_tree;
-        by_default = default_tree f x.value (unordered x.tree) x.meaning.read_form.1 x.meaning.ranged x.is_tree.by_default;
+        by_default = default_tree f x.value (tree_sorted_by_key x.tree) x.meaning.read_form.1 x.meaning.ranged x.is_tree.by_default;
         compact = x.compact;
       }
 

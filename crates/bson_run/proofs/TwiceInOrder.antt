@@ -4,16 +4,16 @@ use Rattle.std.specs.Prelude.{IsUtf8}
 use Rattle.json.specs.Json as json
 use Rattle.serde_json.specs.Data.{Data, depth}
 use Rattle.serde_json.specs.Read.{max_depth}
-use Rattle.bson_scalar.specs.Normal.{normal_scalar, scalar_as_read}
+use Rattle.bson_scalar.specs.Normal.{normal_scalar, scalar_as_read_back}
 use Rattle.bson_scalar.specs.Scalar.{Scalar}
 use Rattle.bson_scalar.specs.Written.{writes_scalar_in}
 use Rattle.bson_scalar.specs.declared.form.Form.{Form}
 use Rattle.bson_scalar.specs.declared.form.Form.TheVariants as form
 use Rattle.bson_scalar.proofs.Offered as scalars
-use Rattle.bson_model.specs.Normal.{as_read, map_scalars, map_scalars_of_items, map_scalars_of_pairs, normal_form}
+use Rattle.bson_model.specs.Normal.{as_read_back, map_scalars, map_scalars_of_items, map_scalars_of_pairs, normal_form}
 use Rattle.bson_model.specs.Value.{Value, scalar, code_scope, array, document, Values, no_values, value, Pairs, no_pairs, pair}
 use Rattle.bson_model.proofs.Offered.{as_read_each}
-use Rattle.bson_model.specs.Kept.{kept, read_kept, unordered}
+use Rattle.bson_model.specs.OrderedTrees.{kept, read_in_order, tree_sorted_by_key}
 use Rattle.bson_model.specs.OrderedTexts.{HasMeaningInOrder, IsOrderedTextOf}
 use Rattle.bson_model.specs.OrderedWriting.{writes_in_order, values_in_order, pairs_in_order}
 use Rattle.bson_model.specs.OrderedWritten.{WrittenInOrder}
@@ -31,7 +31,7 @@ use Rattle.bson_run.specs.InOrder.{ConvertsBy, ConvertsInOrder, ConvertsToItself
 use Rattle.bson_run.specs.InOrder.{IsKeptInOrder, IsLineInOrder, IsOutputInOrder}
 use Rattle.bson_run.proofs.Ordered.{default_tree, text_converts}
 
-pub read_kept_then : (text : List ℕ) → read_kept (text ++ newline) ≡ read_kept text
+pub read_kept_then : (text : List ℕ) → read_in_order (text ++ newline) ≡ read_in_order text
 read_kept_then text =
     ap (λ ts. option_and_then kept (option_and_then (λ p. json.if_last p.0 p.1) (json.value max_depth ts))) (tokens_then text)
 
@@ -56,25 +56,25 @@ module _ (o : Options) (f : Form) (g : Scalar → Scalar)
 module _ (o : Options) (f : Form) where
   -- what is read back has the tree of the value
   written_again : (v : Value) (t : Data) → WrittenInOrder o.doubles f (normal_form v) t
-      → WrittenInOrder o.doubles f (normal_form (as_read f (normal_form v))) t
+      → WrittenInOrder o.doubles f (normal_form (as_read_back f (normal_form v))) t
   written_again v t h =
       let D = o.doubles in
-      let w = as_read f (normal_form v) in
+      let w = as_read_back f (normal_form v) in
       written_from D f w t
       (ap (writes_in_order D f) (sym (as_read_each f (normal_form v)))
-      ∙ each_written o f (scalar_as_read f) (scalars.as_read_written D f) (normal_form v)
+      ∙ each_written o f (scalar_as_read_back f) (scalars.as_read_written D f) (normal_form v)
       ∙ each_written o f normal_scalar (scalars.nf_written D f) v ∙ written_to D f v t h)
 
   -- a text that is read as the tree means a value that has the line too
   pub again_in_order : (mode : Mode) (bytes output text : List ℕ) (v : Value) → HasMeaningInOrder o.doubles bytes v
       → (line : IsLineInOrder o.doubles f v output)
       → ((w : Value) → IsLineInOrder o.doubles f w output → IsOutputInOrder o mode w output)
-      → IsUtf8 text → read_kept text ≡ Some line.is_text.tree → ConvertsInOrder o mode text output
+      → IsUtf8 text → read_in_order text ≡ Some line.is_text.tree → ConvertsInOrder o mode text output
   again_in_order mode bytes output text v m line of utf8 read =
       let D = o.doubles in
       let t = line.is_text.tree in
       let ordered : IsOrderedTextOf D f v t = line.is_text.ordered m.read_form.0 in
-      let w = as_read f (normal_form v) in
+      let w = as_read_back f (normal_form v) in
       let h = written_again v t ordered.written in
       let meaning : HasMeaningInOrder D text w = text_means D text t w read ordered.means in
       let is_text : IsTextInOrder D f w line.text = record {
@@ -82,7 +82,7 @@ module _ (o : Options) (f : Form) where
         written = h;
         one = λ u other. one_written D f w t u h other;
         ordered = λ plain. ordered_text D f w t h plain meaning.ranged meaning.distinct;
-        by_default = default_tree o f w (unordered t) meaning.read_form.1 meaning.ranged
+        by_default = default_tree o f w (tree_sorted_by_key t) meaning.read_form.1 meaning.ranged
             (default_written D f w t h meaning.ranged);
         compact = line.is_text.compact;
       } in
@@ -96,9 +96,9 @@ module _ (o : Options) (f : Form) where
   -- the text of the line is read as its tree
   pub line_read : (bytes output : List ℕ) (v : Value) → HasMeaningInOrder o.doubles bytes v
       → (line : IsLineInOrder o.doubles f v output) → depth line.is_text.tree ≤ max_depth
-      → read_kept line.text ≡ Some line.is_text.tree
+      → read_in_order line.text ≡ Some line.is_text.tree
   line_read bytes output v m line shallow =
-      ap read_kept line.is_text.compact ∙ (line.is_text.ordered m.read_form.0).own_text.in_order shallow
+      ap read_in_order line.is_text.compact ∙ (line.is_text.ordered m.read_form.0).own_text.in_order shallow
 
   is_kept : (mode : Mode) (bytes output : List ℕ) (v : Value) → HasMeaningInOrder o.doubles bytes v → IsUtf8 output
       → IsLineInOrder o.doubles f v output
@@ -108,7 +108,7 @@ module _ (o : Options) (f : Form) where
     tree = line.is_text.tree;
     text = line.line ∙ ap (λ s. s ++ newline) line.is_text.compact;
     again = λ shallow. again_in_order mode bytes output output v m line of utf8
-        (ap read_kept line.line ∙ read_kept_then line.text ∙ line_read bytes output v m line shallow);
+        (ap read_in_order line.line ∙ read_kept_then line.text ∙ line_read bytes output v m line shallow);
   }
 
 output_kept : (o : Options) (mode : Mode) (bytes output : List ℕ) → ConvertsInOrder o mode bytes output → IsUtf8 output

@@ -5,7 +5,7 @@ use Rattle.std.proofs.lemmas.List.{append_cancel_right}
 use Rattle.json.specs.Json.{Json, value as json_value}
 use Rattle.json.specs.Lex.{tokens}
 use Rattle.serde_json.specs.Read.{max_depth, of_json, read}
-use Rattle.bson_model.specs.Kept.{kept, read_kept}
+use Rattle.bson_model.specs.OrderedTrees.{kept, read_in_order}
 use Rattle.bson_scalar.specs.TreeText.{tree_text}
 use Rattle.bson_scalar.specs.declared.form.Form.{Form}
 use Rattle.bson_scalar.specs.declared.form.Form.TheVariants.{Canonical, Relaxed}
@@ -74,7 +74,7 @@ module _ (o : Options) (f : Form) (n : ℕ) (bytes output : List ℕ) (utf8 : Is
         tree = line.is_text.tree;
         laid = subst (λ s. IsLaidOut n s output) (texts ∙ line.is_text.compact) x.is_output;
         again = λ shallow.
-            let read_text = ap read_kept texts ∙ line_read o f bytes (x.text ++ newline) x.converts.value x.converts.meaning
+            let read_text = ap read_in_order texts ∙ line_read o f bytes (x.text ++ newline) x.converts.value x.converts.meaning
             line shallow in
             record {
               text = x.text;

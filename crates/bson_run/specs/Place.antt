@@ -12,7 +12,7 @@ use Rattle.json.specs.Token.{Token, begin_object, end_object, begin_array, end_a
 use Rattle.serde_json.specs.Data.{Data}
 use Rattle.serde_json.specs.Read.{max_depth}
 use Rattle.bson.specs.TextMeaning.{IsNoText, IsTextOf}
-use Rattle.bson_tree.specs.Place.{dotted, path_of}
+use Rattle.bson_tree.specs.Place.{path_text, path_of}
 use Rattle.bson_tree.specs.declared.place.Place.{Place}
 use Rattle.bson_tree.specs.declared.place.Reason.{Reason}
 use Rattle.bson_tree.specs.declared.place.Reason.TheVariants.{BadObjectId, WrongShape}
@@ -73,7 +73,7 @@ IsReasonIn text (BadObjectId why) words = Unit {0}
 abbrev pub IsPlacedMessage : List ℕ → Place → List ℕ → Type 0
 IsPlacedMessage text place words =
     (message : List ℕ) × IsReasonIn text place.reason message
-    × (words ≡ at_path (shown_words (dotted (path_of place))) ++ codes " (" ++ shown_words message ++ codes ")")
+    × (words ≡ at_path (shown_words (path_text (path_of place))) ++ codes " (" ++ shown_words message ++ codes ")")
 
 -- the bytes are UTF-8 and one value by the grammar of JSON, arrays and objects nesting as deep as texts may (RFC 8259)
 abbrev pub HasGrammar : List ℕ → Type 0
@@ -173,7 +173,7 @@ IsExplanation text fault explained.Other = IsOfNoText fault
 abbrev pub words_at : List ℕ → Explanation → List ℕ
 words_at text (explained.Syntax stop) = at_column (column_at stop.offset text) stop.rule
 words_at text (explained.Value place reason) =
-    at_path (shown_words (dotted (path_of place.now))) ++ codes " (" ++ string_bytes reason ++ codes ")"
+    at_path (shown_words (path_text (path_of place.now))) ++ codes " (" ++ string_bytes reason ++ codes ")"
 words_at text (explained.Difference column) = at_difference column
 words_at text explained.Other = []
 

@@ -1,6 +1,6 @@
 //! Why a text is rejected, and where: as data, and as a message.
 ghost use Rattle.std.specs.Prelude.{◌≡◌, ◌++◌, codes, ℕ, List, IfOk, string_bytes};
-ghost use Rattle.bson_tree.specs.Place.{dotted, path_of};
+ghost use Rattle.bson_tree.specs.Place.{path_text, path_of};
 ghost use Rattle.bson_run.specs.Place.{IsExplanation, IsQuote, IsReasonIn, IsWhere, at_difference, at_path, shown_words};
 ghost use Rattle.bson_run.specs.Place.{words_at};
 
@@ -175,7 +175,7 @@ fn column_text(alloc: Global, column: usize) -> Result<String, AllocError>
 // Returns the message for a path, and for the reason there.
 fn place_text(alloc: Global, place: &Place, reason: &str) -> Result<String, AllocError>
     ensures { IfOk result (λ words. string_bytes words
-        ≡ at_path (shown_words (dotted (path_of place.now))) ++ codes " (" ++ reason.now ++ codes ")") }
+        ≡ at_path (shown_words (path_text (path_of place.now))) ++ codes " (" ++ reason.now ++ codes ")") }
 {
     let whole = place.path(alloc)?;
     let path = shorten(alloc, whole.as_str(), MOST, true)?;

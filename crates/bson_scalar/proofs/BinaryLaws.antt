@@ -17,7 +17,7 @@ use Rattle.bson_types.proofs.Offered.{base64_bytes, base64_to, hyphenated_from, 
 use Rattle.serde_json.specs.Data.{Data}
 use Rattle.bson_scalar.specs.Faults.{or_wrong_shape, wrong_shape}
 use Rattle.bson_scalar.specs.Means.{MeansScalar, binary, uuid}
-use Rattle.bson_scalar.specs.Reading.{binary_read, uuid_read, byte_of, bytes_of, bytes_with, only_byte}
+use Rattle.bson_scalar.specs.Reading.{binary_read, uuid_read, byte_of, bytes_of, bytes_if_encoded, only_byte}
 use Rattle.bson_scalar.specs.Scalar.{Scalar}
 use Rattle.bson_scalar.specs.TreeParts.{object_of_one}
 use Rattle.bson_scalar.proofs.InverseLemmas.{if_some, key_is, means_by, un_ok, un_some, some_then, text_then, two_then}
@@ -31,7 +31,7 @@ byte_is (Err e) n h = cc
 
 -- ---- base64
 
-decoded : {E : Type 0} (s : List ℕ) (r : Result (List ℕ) E) (bytes : List ℕ) → bytes_with s (result_ok r) ≡ Some bytes
+decoded : {E : Type 0} (s : List ℕ) (r : Result (List ℕ) E) (bytes : List ℕ) → bytes_if_encoded s (result_ok r) ≡ Some bytes
     → (r ≡ Ok bytes) × (s ≡ padded_text bytes)
 decoded s (Ok x) bytes h =
     let g = if_some _ x bytes h in
@@ -46,8 +46,8 @@ bytes_from s bytes h =
 pub bytes_to : (s bytes : List ℕ) → IsBase64 s bytes → bytes_of s ≡ Some bytes
 bytes_to s bytes is =
     let same = (bytes_eq-Decides s (padded_text bytes)).1 is.1 in
-    let compared : bytes_with s (Some bytes) ≡ Some bytes = rw same refl in
-    ap (λ r. bytes_with s (result_ok r)) (base64_to s bytes is) ∙ compared
+    let compared : bytes_if_encoded s (Some bytes) ≡ Some bytes = rw same refl in
+    ap (λ r. bytes_if_encoded s (result_ok r)) (base64_to s bytes is) ∙ compared
 
 no_bytes : (s : List ℕ) (o : Option (List ℕ)) → ((bytes : List ℕ) → o ≡ Some bytes → IsBase64 s bytes)
     → ((bytes : List ℕ) → ¬ (IsBase64 s bytes)) → or_wrong_shape o ≡ Err wrong_shape

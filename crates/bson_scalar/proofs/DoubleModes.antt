@@ -7,7 +7,7 @@ use Rattle.serde_json.specs.Data.{Data}
 use Rattle.serde_json.specs.Data as tree
 use Rattle.bson_double.specs.FiniteDoubles.{is_finite, parsed_finite_bits}
 use Rattle.bson_double.proofs.Offered.{read_back}
-use Rattle.bson_scalar.specs.Doubles.{double_pattern, double_in, double_text, text_in, normal_double}
+use Rattle.bson_scalar.specs.Doubles.{double_pattern, double_in, double_text, double_text_in, normal_double}
 use Rattle.bson_scalar.specs.Doubles.{is_special, is_writable, or_finite_text, or_finite_of, IsDoubleTextIn}
 use Rattle.bson_scalar.specs.Means.{MeansScalarIn, MeansScalar, number_double, nearest_to_text}
 use Rattle.bson_scalar.specs.Normal.{IsReadScalarIn, IsReadScalar}
@@ -85,7 +85,7 @@ text_at : (o : Option (List ℕ)) (p : ℕ) (s : List ℕ) → double_text p ≡
 text_at (Some t) p s is h = inl (is ∙ h)
 text_at None p s is h = inr (finite_text_is p s h)
 
-pub text_is : (m : Doubles) (p : ℕ) (s : List ℕ) → text_in m p ≡ Some s → IsDoubleTextIn m p s
+pub text_is : (m : Doubles) (p : ℕ) (s : List ℕ) → double_text_in m p ≡ Some s → IsDoubleTextIn m p s
 text_is Special p s h = h
 text_is Finite p s h = text_at (double_text p) p s refl h
 
@@ -98,7 +98,7 @@ text_to_at (Some t) p s is finite h =
     same_text p t s (finite_text_to p t finite (special_text_is p t finite is)) h
 text_to_at None p s is finite h = h
 
-pub text_to : (m : Doubles) (p : ℕ) (s : List ℕ) → IsDoubleTextIn m p s → text_in m p ≡ Some s
+pub text_to : (m : Doubles) (p : ℕ) (s : List ℕ) → IsDoubleTextIn m p s → double_text_in m p ≡ Some s
 text_to Special p s h = h
 text_to Finite p s (inl h) = rw h refl
 text_to Finite p s (inr h) = text_to_at (double_text p) p s refl h.0 (finite_text_to p s h.0 h.1)
@@ -107,7 +107,7 @@ has_text_at : (o : Option (List ℕ)) (p : ℕ) → is_some (or_finite_text o p)
 has_text_at (Some s) p = refl
 has_text_at None p = finite_text-some p
 
-pub has_text : (m : Doubles) (p : ℕ) → is_some (text_in m p) ≡ is_writable m p
+pub has_text : (m : Doubles) (p : ℕ) → is_some (double_text_in m p) ≡ is_writable m p
 has_text Special p = special_is p
 has_text Finite p = has_text_at (double_text p) p ∙ ap (λ b. b || is_finite p) (special_is p)
 
@@ -132,7 +132,7 @@ form_at : (o : Option (List ℕ)) (p : ℕ) → double_text p ≡ o
 form_at (Some s) p is = refl
 form_at None p is = ap finite_double_text (no_text_normal p is)
 
-pub text_form : (m : Doubles) (p : ℕ) → text_in m (normal_double p) ≡ text_in m p
+pub text_form : (m : Doubles) (p : ℕ) → double_text_in m (normal_double p) ≡ double_text_in m p
 text_form Special p = double_text-form p
 text_form Finite p =
     ap (λ o. or_finite_text o (normal_double p)) (double_text-form p) ∙ form_at (double_text p) p refl
@@ -145,7 +145,7 @@ again_at None p s small is h =
     let t = finite_text_is p s h in
     finite_to s _ (read_back p s small t.0 t.1 ∙ ap Some (sym (finite_normal p t.0)))
 
-pub again : (m : Doubles) (p : ℕ) (s : List ℕ) → p < 2 ^ 64 → text_in m p ≡ Some s
+pub again : (m : Doubles) (p : ℕ) (s : List ℕ) → p < 2 ^ 64 → double_text_in m p ≡ Some s
     → double_in m s ≡ Some (normal_double p)
 again Special p s small h = double_again p s h
 again Finite p s small h = again_at (double_text p) p s small refl h

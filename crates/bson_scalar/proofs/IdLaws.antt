@@ -6,13 +6,13 @@ use Rattle.hex.proofs.HexLemmas.{decode_sized-encode_lower}
 use Rattle.bson_types.proofs.Offered.{sized_from}
 use Rattle.serde_json.specs.Data.{Data}
 use Rattle.bson_scalar.specs.Means.{MeansScalar, oid, db_pointer}
-use Rattle.bson_scalar.specs.Reading.{oid_read, pointer_read, id_or, parsed_object_id}
+use Rattle.bson_scalar.specs.Reading.{oid_read, pointer_read, id_or_fault, parsed_object_id}
 use Rattle.bson_scalar.specs.Scalar.{Scalar}
 use Rattle.bson_scalar.specs.TreeParts.{object_of_one}
 use Rattle.std.specs.Prelude.{codes}
 use Rattle.bson_scalar.proofs.InverseLemmas.{means_by, un_ok, then_ok, text_then, lone_then, two_then, two_same}
 
-id_is : (s id : List ℕ) (r : Result (List ℕ) FromHexError) → id_or s r ≡ Ok id → r ≡ Ok id
+id_is : (s id : List ℕ) (r : Result (List ℕ) FromHexError) → id_or_fault s r ≡ Ok id → r ≡ Ok id
 id_is s id (Ok x) h = ap Ok (sym (un_ok _ _ h))
 id_is s id (Err e) h = cc
 
@@ -35,4 +35,4 @@ pointer_from d x h =
     (db_pointer b.0 e.0 i.0 (sized_from 12 e.0 i.0 (id_is e.0 i.0 _ i.1)))
 
 pub id_again : (id : List ℕ) → length id ≡ 12 → IsBytes id → parsed_object_id (encode_lower id) ≡ Ok id
-id_again id twelve bytes = ap (id_or (encode_lower id)) (decode_sized-encode_lower id 12 twelve bytes)
+id_again id twelve bytes = ap (id_or_fault (encode_lower id)) (decode_sized-encode_lower id 12 twelve bytes)

@@ -12,7 +12,7 @@ use Rattle.serde_json.specs.Find.{as_i64, of_integer}
 use Rattle.bson_scalar.specs.Doubles.{finite_number}
 use Rattle.serde_json.specs.Data.{Data, Num}
 use Rattle.serde_json.specs.Data as tree
-use Rattle.bson_scalar.specs.Ints.{fits_bits, narrowest}
+use Rattle.bson_scalar.specs.Ints.{fits_bits, narrowest_int}
 use Rattle.bson_scalar.specs.Means.{MeansScalar, narrow_number, wide_number, number_int, number_long}
 use Rattle.bson_scalar.specs.Means.{MeansScalarIn, nearest_to_number}
 use Rattle.bson_scalar.specs.Reading.{number_read, number_read_in, or_double_read, int32_read, int64_read, int_of}
@@ -59,7 +59,7 @@ wide : (b : Bool) (z : ℤ) → fits_bits 31 z ≡ b → (FitsSigned w32 z → �
 wide true z h never = absurd (never (record { sfits = fits_from 31 z h }))
 wide false z h never = h
 
-pub whole_read : (m : Doubles) (n : Num) (z : ℤ) → as_i64 n ≡ Some z → number_read_in m n ≡ Ok (narrowest z)
+pub whole_read : (m : Doubles) (n : Num) (z : ℤ) → as_i64 n ≡ Some z → number_read_in m n ≡ Ok (narrowest_int z)
 whole_read Special n z is = rw is refl
 whole_read Finite n z is = rw is refl
 
@@ -86,5 +86,5 @@ pub integer_again : (z : ℤ) → FitsSigned w64 z → as_i64 (of_integer z) ≡
 integer_again (pos n) fits = let small : n < 2 ^ 63 = fits.sfits in rw (lt-ltb n (2 ^ 63) small) refl
 integer_again (negsuc n) fits = refl
 
-pub number_again : (m : Doubles) (z : ℤ) → FitsSigned w64 z → number_read_in m (of_integer z) ≡ Ok (narrowest z)
+pub number_again : (m : Doubles) (z : ℤ) → FitsSigned w64 z → number_read_in m (of_integer z) ≡ Ok (narrowest_int z)
 number_again m z fits = whole_read m (of_integer z) z (integer_again z fits)

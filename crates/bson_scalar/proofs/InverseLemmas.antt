@@ -9,7 +9,7 @@ use Rattle.serde_json.specs.Data as tree
 use Rattle.serde_json.specs.Find.{as_str}
 use Rattle.bson_scalar.specs.Faults.{Fault, ◌>>=◌, or_wrong_shape}
 use Rattle.bson_scalar.specs.Means.{MeansScalar}
-use Rattle.bson_scalar.specs.Reading.{single_key_member, two_members, on_text, on_single_key, on_two}
+use Rattle.bson_scalar.specs.Reading.{single_key_member, two_members, on_text, on_single_key, on_two_keys}
 use Rattle.bson_scalar.specs.Scalar.{Scalar}
 use Rattle.bson_scalar.specs.TreeParts.{object_of_one, object_of_two}
 
@@ -81,7 +81,7 @@ pub lone_then : {X : Type 0} (a : List ℕ) (d : Data) (f : Data → Result X Fa
     → (e : Data) × (d ≡ object_of_one a e) × (f e ≡ Ok x)
 lone_then a d f x h = let t = some_then (single_key_member a d) f x h in (t.0, lone_is a d t.0 t.1, t.2)
 
-pub two_then : {X : Type 0} (a b : List ℕ) (d : Data) (f : Data → Data → Result X Fault) (x : X) → on_two a b d f ≡ Ok x
+pub two_then : {X : Type 0} (a b : List ℕ) (d : Data) (f : Data → Data → Result X Fault) (x : X) → on_two_keys a b d f ≡ Ok x
     → (e : Data) × (g : Data) × (d ≡ object_of_two a e b g) × (f e g ≡ Ok x)
 two_then a b d f x h = let t = some_then (two_members a b d) (λ p. f p.0 p.1) x h in
     (t.0.0, t.0.1, two_are a b d t.0 t.1, t.2)

@@ -22,14 +22,14 @@ use Rattle.bson_scalar.specs.Faults.{Fault, wrong_shape}
 use Rattle.bson_scalar.specs.Ints.{fits_bits}
 use Rattle.bson_scalar.specs.Means.{MeansScalar, MeansScalarIn, MeansFinite}
 use Rattle.bson_scalar.specs.Means as means
-use Rattle.bson_scalar.specs.Normal.{normal_scalar, scalar_as_read, int64_as_read, writable_scalar_in, ScalarInRange}
+use Rattle.bson_scalar.specs.Normal.{normal_scalar, scalar_as_read_back, int64_as_read_back, writable_scalar_in, ScalarInRange}
 use Rattle.bson_scalar.specs.Normal.{IsReadScalarIn}
-use Rattle.bson_scalar.specs.Reading.{code_if_scope_is_null, single_in, single_at_in, scalar_read_in}
+use Rattle.bson_scalar.specs.Reading.{code_if_scope_is_null, wrapper_read_in, optional_wrapper_read_in, scalar_read_in}
 use Rattle.bson_scalar.specs.Regexes.{regex_tree}
 use Rattle.bson_scalar.specs.Scalar.{Scalar, null, undefined, min_key, max_key, boolean, double, int32, int64, text}
 use Rattle.bson_scalar.specs.Scalar.{symbol, code, regex, timestamp, binary, object_id, date, decimal, db_pointer}
 use Rattle.bson_scalar.specs.Table.{key_of, wrapper_of}
-use Rattle.bson_scalar.specs.Written.{WrittenScalarIn, Refusal, writes_scalar_in, int32_form}
+use Rattle.bson_scalar.specs.Written.{WrittenScalarIn, WriteFault, writes_scalar_in, int32_form}
 use Rattle.bson_scalar.specs.Written.{int64_form, date_form}
 use Rattle.bson_scalar.specs.declared.form.Doubles.{Doubles}
 use Rattle.bson_scalar.specs.declared.form.Doubles.TheVariants.{Special, Finite}
@@ -63,7 +63,7 @@ use Rattle.bson_scalar.proofs.WrittenDoubles.{double_from as double_from_tree, d
 
 -- ---- what is read is the meaning
 
-under : (m : Doubles) (w : Wrapper) (d : Data) (x : Scalar) → single_in m w d ≡ Ok x
+under : (m : Doubles) (w : Wrapper) (d : Data) (x : Scalar) → wrapper_read_in m w d ≡ Ok x
     → MeansScalarIn m (object_of_one (key_of w) d) x
 under m Oid d x h = in_each m (oid_from d x h)
 under m Symbol d x h = in_each m (symbol_from d x h)
@@ -100,7 +100,7 @@ key_from k w =
     (key_at k MaxKey _ _ w (is MaxKey) (key_at k Undefined _ _ w (is Undefined) (λ h. cc))))))))))))))))
 
 single_from : (m : Doubles) (k : List ℕ) (d : Data) (o : Option Wrapper) (x : Scalar) → o ≡ wrapper_of k
-    → single_at_in m o d ≡ Ok x → MeansScalarIn m (object_of_one k d) x
+    → optional_wrapper_read_in m o d ≡ Ok x → MeansScalarIn m (object_of_one k d) x
 single_from m k d (Some w) x is h =
     subst (λ a. MeansScalarIn m (object_of_one a d) x) (sym (key_from k w (sym is))) (under m w d x h)
 single_from m k d None x is h = cc
@@ -225,7 +225,7 @@ finite_range (means.nearest_to_number n p none is) = (pattern_finite _ p is).0
 
 -- ---- what is written is the grammar's one tree
 
-un_ok : {A : Type 0} (x y : A) → ◌≡◌ {A = Result A Refusal} (Ok x) (Ok y) → y ≡ x
+un_ok : {A : Type 0} (x y : A) → ◌≡◌ {A = Result A WriteFault} (Ok x) (Ok y) → y ≡ x
 un_ok x y h = cc
 
 decimal_same : (b : List ℕ) → decimal_tree (canonical_decimal b) ≡ decimal_tree b
@@ -285,7 +285,7 @@ int32_back : (m : Doubles) (f : Form) (z : ℤ) → FitsSigned w32 z → scalar_
 int32_back m Canonical z r = rw (int32_again z r) refl
 int32_back m Relaxed z r = number_again m z (wider z r) ∙ ap (λ b. Ok (cond b (int32 z) (int64 z))) (fits_true 31 z r.sfits)
 
-int64_back : (m : Doubles) (f : Form) (z : ℤ) → FitsSigned w64 z → scalar_read_in m (int64_form f z) ≡ Ok (int64_as_read f z)
+int64_back : (m : Doubles) (f : Form) (z : ℤ) → FitsSigned w64 z → scalar_read_in m (int64_form f z) ≡ Ok (int64_as_read_back f z)
 int64_back m Canonical z r = rw (int64_again z r) refl
 int64_back m Relaxed z r = number_again m z r
 
@@ -303,7 +303,7 @@ double_back m f p t r (inl (s, has, is)) = rw is (rw (again m p s r has) refl)
 double_back m f p t r (inr (finite_doubles, relaxed, finite, is)) = rw (finite_doubles, is) (number_back p r finite)
 
 pub back : (m : Doubles) (f : Form) (x : Scalar) (t : Data) → writes_scalar_in m f x ≡ Ok t → ScalarInRange x
-    → scalar_read_in m t ≡ Ok (scalar_as_read f (normal_scalar x))
+    → scalar_read_in m t ≡ Ok (scalar_as_read_back f (normal_scalar x))
 back m f null t h r = rw (un_ok _ _ h) refl
 back m f undefined t h r = rw (un_ok _ _ h) refl
 back m f min_key t h r = rw (un_ok _ _ h) refl
@@ -324,26 +324,26 @@ back m f (decimal b) t h r = rw (un_ok _ _ h) (rw (decimal_of-display_text b) re
 back m f (db_pointer s id) t h r = rw (un_ok _ _ h) (rw (id_again id r.0 r.1) refl)
 
 pub reads_back : (m : Doubles) (f : Form) (x : Scalar) (t : Data) → writes_scalar_in m f x ≡ Ok t → ScalarInRange x
-    → MeansScalarIn m t (scalar_as_read f (normal_scalar x))
+    → MeansScalarIn m t (scalar_as_read_back f (normal_scalar x))
 reads_back m f x t h r = scalar_from m t _ (back m f x t h r)
 
 -- ---- what reads back is read so again
 
 narrow_at : (b : Bool) (z : ℤ) → fits_bits 31 z ≡ b
-    → scalar_as_read Relaxed (cond b (int32 z) (int64 z)) ≡ cond b (int32 z) (int64 z)
+    → scalar_as_read_back Relaxed (cond b (int32 z) (int64 z)) ≡ cond b (int32 z) (int64 z)
 narrow_at true z e = refl
 narrow_at false z e = rw e refl
 
-int64_twice : (f : Form) (z : ℤ) → scalar_as_read f (int64_as_read f z) ≡ int64_as_read f z
+int64_twice : (f : Form) (z : ℤ) → scalar_as_read_back f (int64_as_read_back f z) ≡ int64_as_read_back f z
 int64_twice Canonical z = refl
 int64_twice Relaxed z = narrow_at _ z refl
 
-pub as_read_again : (f : Form) (x : Scalar) → scalar_as_read f (scalar_as_read f x) ≡ scalar_as_read f x
+pub as_read_again : (f : Form) (x : Scalar) → scalar_as_read_back f (scalar_as_read_back f x) ≡ scalar_as_read_back f x
 as_read_again f (int64 z) = int64_twice f z
 as_read_again f x = refl
 
 -- in the canonical form nothing is narrowed
-pub as_read_canonical : (x : Scalar) → scalar_as_read Canonical x ≡ x
+pub as_read_canonical : (x : Scalar) → scalar_as_read_back Canonical x ≡ x
 as_read_canonical (int64 z) = refl
 as_read_canonical x = refl
 
@@ -352,12 +352,12 @@ narrow_number : (m : Doubles) (b : Bool) (z : ℤ)
 narrow_number m true z = refl
 narrow_number m false z = refl
 
-int64_written : (m : Doubles) (f : Form) (z : ℤ) → writes_scalar_in m f (int64_as_read f z) ≡ Ok (int64_form f z)
+int64_written : (m : Doubles) (f : Form) (z : ℤ) → writes_scalar_in m f (int64_as_read_back f z) ≡ Ok (int64_form f z)
 int64_written m Canonical z = refl
 int64_written m Relaxed z = narrow_number m _ z
 
 -- what reads back has the same tree
-pub as_read_written : (m : Doubles) (f : Form) (x : Scalar) → writes_scalar_in m f (scalar_as_read f x) ≡ writes_scalar_in m f x
+pub as_read_written : (m : Doubles) (f : Form) (x : Scalar) → writes_scalar_in m f (scalar_as_read_back f x) ≡ writes_scalar_in m f x
 as_read_written m f (int64 z) = int64_written m f z
 as_read_written m f x = refl
 

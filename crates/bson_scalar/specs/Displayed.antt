@@ -11,8 +11,8 @@ use Rattle.bson_scalar.specs.Scalar.{symbol, code, regex, timestamp, binary, obj
 use Rattle.bson_scalar.specs.Scalar.{db_pointer}
 
 -- a pattern of 64 bits in 16 hexadecimal digits
-abbrev pub sixteen_digits : ℕ → List ℕ
-sixteen_digits p = replicate (16 - length (digits 16 false p)) 48 ++ digits 16 false p
+abbrev pub sixteen_hex_digits : ℕ → List ℕ
+sixteen_hex_digits pattern = replicate (16 - length (digits 16 false pattern)) 48 ++ digits 16 false pattern
 
 abbrev pub boolean_text : Bool → List ℕ
 boolean_text true = codes "true"
@@ -24,16 +24,16 @@ scalar_text undefined = codes "undefined"
 scalar_text min_key = codes "MinKey"
 scalar_text max_key = codes "MaxKey"
 scalar_text (boolean b) = boolean_text b
-scalar_text (double p) = codes "Double(0x" ++ sixteen_digits p ++ codes ")"
+scalar_text (double pattern) = codes "Double(0x" ++ sixteen_hex_digits pattern ++ codes ")"
 scalar_text (int32 z) = signed_decimal z
 scalar_text (int64 z) = signed_decimal z
 scalar_text (text s) = codes "\"" ++ s ++ codes "\""
 scalar_text (symbol s) = codes "Symbol(\"" ++ s ++ codes "\")"
 scalar_text (code s) = s
-scalar_text (regex p o) = codes "/" ++ p ++ codes "/" ++ o
+scalar_text (regex pattern options) = codes "/" ++ pattern ++ codes "/" ++ options
 scalar_text (timestamp t i) = codes "Timestamp(" ++ decimal t ++ codes ", " ++ decimal i ++ codes ")"
-scalar_text (binary k bytes) =
-    codes "Binary(0x" ++ digits 16 false (subtype_byte k) ++ codes ", " ++ padded_text bytes ++ codes ")"
+scalar_text (binary subtype bytes) =
+    codes "Binary(0x" ++ digits 16 false (subtype_byte subtype) ++ codes ", " ++ padded_text bytes ++ codes ")"
 scalar_text (object_id id) = codes "ObjectId(\"" ++ encode_lower id ++ codes "\")"
 scalar_text (date ms) = codes "DateTime(\"" ++ date_text ms ++ codes "\")"
 scalar_text (decimal128 b) = decimal_text b

@@ -21,7 +21,7 @@ use Rattle.bson_scalar.specs.declared.wrapper.Wrapper.TheVariants.{NumberDouble}
 -- a zero, an infinity or a NaN: all bits but the sign are 0; or the exponent, 11 bits below the sign, is all ones
 -- (IEEE 754-2008 section 3.4)
 abbrev pub is_special : ℕ → Bool
-is_special p = (p == 0 || p == 2 ^ 63) || (p / 2 ^ 52 == 0x7FF || p / 2 ^ 52 == 0xFFF)
+is_special bit_pattern = (bit_pattern == 0 || bit_pattern == 2 ^ 63) || (bit_pattern / 2 ^ 52 == 0x7FF || bit_pattern / 2 ^ 52 == 0xFFF)
 
 -- the pattern that a text means
 abbrev pub double_pattern : List ℕ → Option ℕ
@@ -36,24 +36,24 @@ double_pattern s =
 
 -- all bits of the exponent set, and one of the significand: with sign bit 0, and with sign bit 1
 abbrev pub is_nan : ℕ → Bool
-is_nan p = nat_lt 0x7FF0000000000000 p && nat_lt p 0x8000000000000000
+is_nan bit_pattern = nat_lt 0x7FF0000000000000 bit_pattern && nat_lt bit_pattern 0x8000000000000000
 
 abbrev pub is_minus_nan : ℕ → Bool
-is_minus_nan p = nat_lt 0xFFF0000000000000 p && nat_lt p 0x10000000000000000
+is_minus_nan bit_pattern = nat_lt 0xFFF0000000000000 bit_pattern && nat_lt bit_pattern 0x10000000000000000
 
 -- a NaN as the pattern that its text means
 abbrev pub normal_double : ℕ → ℕ
-normal_double p = if is_nan p then 0x7FF8000000000000 else if is_minus_nan p then 0xFFF8000000000000 else p
+normal_double bit_pattern = if is_nan bit_pattern then 0x7FF8000000000000 else if is_minus_nan bit_pattern then 0xFFF8000000000000 else bit_pattern
 
 -- the text of a pattern, if it has one
 abbrev pub double_text : ℕ → Option (List ℕ)
-double_text p =
-    if p == 0 then Some (codes "0.0")
-    else if p == 0x8000000000000000 then Some (codes "-0.0")
-    else if p == 0x7FF0000000000000 then Some (codes "Infinity")
-    else if p == 0xFFF0000000000000 then Some (codes "-Infinity")
-    else if is_nan p then Some (codes "NaN")
-    else if is_minus_nan p then Some (codes "-NaN")
+double_text bit_pattern =
+    if bit_pattern == 0 then Some (codes "0.0")
+    else if bit_pattern == 0x8000000000000000 then Some (codes "-0.0")
+    else if bit_pattern == 0x7FF0000000000000 then Some (codes "Infinity")
+    else if bit_pattern == 0xFFF0000000000000 then Some (codes "-Infinity")
+    else if is_nan bit_pattern then Some (codes "NaN")
+    else if is_minus_nan bit_pattern then Some (codes "-NaN")
     else None
 
 abbrev pub double_tree : List ℕ → Data
@@ -62,7 +62,7 @@ double_tree s = object_of_one (key_of NumberDouble) (tree.string s)
 -- ---- in each of the two modes
 
 abbrev pub or_finite_of : Option ℕ → List ℕ → Option ℕ
-or_finite_of (Some p) s = Some p
+or_finite_of (Some bit_pattern) s = Some bit_pattern
 or_finite_of None s = parsed_finite_bits s
 
 -- the pattern that a text means: in the mode `Finite` also that of the double nearest to a decimal number
@@ -79,19 +79,19 @@ finite_number n = finite_pattern (to_float n)
 
 -- whether the pattern has a text
 abbrev pub is_writable : Doubles → ℕ → Bool
-is_writable Special p = is_special p
-is_writable Finite p = is_special p || is_finite p
+is_writable Special bit_pattern = is_special bit_pattern
+is_writable Finite bit_pattern = is_special bit_pattern || is_finite bit_pattern
 
 -- the pattern has this text: in the mode `Finite` also its shortest decimal
 abbrev pub IsDoubleTextIn : Doubles → ℕ → List ℕ → Type 0
-IsDoubleTextIn Special p s = double_text p ≡ Some s
-IsDoubleTextIn Finite p s = (double_text p ≡ Some s) ⊎ ((is_finite p ≡ true) × IsDoubleText p s)
+IsDoubleTextIn Special bit_pattern s = double_text bit_pattern ≡ Some s
+IsDoubleTextIn Finite bit_pattern s = (double_text bit_pattern ≡ Some s) ⊎ ((is_finite bit_pattern ≡ true) × IsDoubleText bit_pattern s)
 
 -- the same as functions, for the proofs
 abbrev pub or_finite_text : Option (List ℕ) → ℕ → Option (List ℕ)
-or_finite_text (Some s) p = Some s
-or_finite_text None p = finite_double_text p
+or_finite_text (Some s) bit_pattern = Some s
+or_finite_text None bit_pattern = finite_double_text bit_pattern
 
-abbrev pub text_in : Doubles → ℕ → Option (List ℕ)
-text_in Special p = double_text p
-text_in Finite p = or_finite_text (double_text p) p
+abbrev pub double_text_in : Doubles → ℕ → Option (List ℕ)
+double_text_in Special bit_pattern = double_text bit_pattern
+double_text_in Finite bit_pattern = or_finite_text (double_text bit_pattern) bit_pattern

@@ -27,11 +27,11 @@ IsIdFault s oid_error.OutOfMemory = ⊥
 IsIdFault s e = IsOidError s e
 
 -- What a function returned, seen by view, is what reading gives, unless memory ran out.
-abbrev pub Fails : {Y : Type 0} → Error → Result Y Fault → Type 0
-Fails OutOfMemory read = Unit {0}
-Fails (DeserializationError message) read = read ≡ Err wrong_shape
-Fails (InvalidObjectId e) read = (s : List ℕ) × (read ≡ Err (wrong_id s)) × IsIdFault s e
+abbrev pub IsReadError : {Y : Type 0} → Error → Result Y Fault → Type 0
+IsReadError OutOfMemory read = Unit {0}
+IsReadError (DeserializationError message) read = read ≡ Err wrong_shape
+IsReadError (InvalidObjectId e) read = (s : List ℕ) × (read ≡ Err (wrong_id s)) × IsIdFault s e
 
-abbrev pub Gives : {X Y : Type 0} → (X → Y) → Result X Error → Result Y Fault → Type 0
-Gives view (Ok x) read = read ≡ Ok (view x)
-Gives view (Err e) read = Fails e read
+abbrev pub IsReadResult : {X Y : Type 0} → (X → Y) → Result X Error → Result Y Fault → Type 0
+IsReadResult view (Ok x) read = read ≡ Ok (view x)
+IsReadResult view (Err e) read = IsReadError e read

@@ -28,5 +28,5 @@ fits_bits h (pos n) = nat_lt n (2 ^ h)
 fits_bits h (negsuc n) = nat_lt n (2 ^ h)
 
 -- an Int32 where the number fits one, else an Int64
-abbrev pub narrowest : ℤ → Scalar
-narrowest z = if fits_bits 31 z then int32 z else int64 z
+abbrev pub narrowest_int : ℤ → Scalar
+narrowest_int z = if fits_bits 31 z then int32 z else int64 z

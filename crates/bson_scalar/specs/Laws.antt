@@ -1,9 +1,9 @@
 -- The laws of scalars that the layer above builds on: each for all scalars, in each mode of `Doubles`.
 use Rattle.std.specs.Prelude.{◌≡◌, ◌↔◌, ℕ, Ok, is_ok, is_some, true}
 use Rattle.serde_json.specs.Data.{Data}
-use Rattle.bson_scalar.specs.Doubles.{is_writable, text_in}
+use Rattle.bson_scalar.specs.Doubles.{is_writable, double_text_in}
 use Rattle.bson_scalar.specs.Means.{MeansScalarIn}
-use Rattle.bson_scalar.specs.Normal.{normal_scalar, scalar_as_read, writable_scalar_in, ScalarInRange, IsReadScalarIn}
+use Rattle.bson_scalar.specs.Normal.{normal_scalar, scalar_as_read_back, writable_scalar_in, ScalarInRange, IsReadScalarIn}
 use Rattle.bson_scalar.specs.Reading.{scalar_read_in}
 use Rattle.bson_scalar.specs.Scalar.{Scalar}
 use Rattle.bson_scalar.specs.Written.{WrittenScalarIn, writes_scalar_in}
@@ -12,40 +12,40 @@ use Rattle.bson_scalar.specs.declared.form.Doubles.TheVariants.{Special, Finite}
 use Rattle.bson_scalar.specs.declared.form.Form.{Form}
 
 -- a tree means exactly what is read
-abbrev pub MeaningIn : Doubles → Type 0
-MeaningIn m = (t : Data) (x : Scalar) → (scalar_read_in m t ≡ Ok x) ↔ MeansScalarIn m t x
+abbrev pub ReadingIsMeaningIn : Doubles → Type 0
+ReadingIsMeaningIn doubles = (t : Data) (x : Scalar) → (scalar_read_in doubles t ≡ Ok x) ↔ MeansScalarIn doubles t x
 
-abbrev pub Meaning : Type 0
-Meaning = MeaningIn Special
+abbrev pub ReadingIsMeaning : Type 0
+ReadingIsMeaning = ReadingIsMeaningIn Special
 
 -- so it means one scalar at most
-abbrev pub OneMeaningIn : Doubles → Type 0
-OneMeaningIn m = (t : Data) (x y : Scalar) → MeansScalarIn m t x → MeansScalarIn m t y → x ≡ y
+abbrev pub MeaningIsUniqueIn : Doubles → Type 0
+MeaningIsUniqueIn doubles = (t : Data) (x y : Scalar) → MeansScalarIn doubles t x → MeansScalarIn doubles t y → x ≡ y
 
-abbrev pub OneMeaning : Type 0
-OneMeaning = OneMeaningIn Special
+abbrev pub MeaningIsUnique : Type 0
+MeaningIsUnique = MeaningIsUniqueIn Special
 
 -- what is read is writable, and in normal form, or a decimal's NaN
-abbrev pub ReadFormIn : Doubles → Type 0
-ReadFormIn m = (t : Data) (x : Scalar) → MeansScalarIn m t x → IsReadScalarIn m x
+abbrev pub ReadIsNormalIn : Doubles → Type 0
+ReadIsNormalIn doubles = (t : Data) (x : Scalar) → MeansScalarIn doubles t x → IsReadScalarIn doubles x
 
-abbrev pub ReadForm : Type 0
-ReadForm = ReadFormIn Special
+abbrev pub ReadIsNormal : Type 0
+ReadIsNormal = ReadIsNormalIn Special
 
 -- what is written is the grammar's tree of the normal form
-abbrev pub TreeIn : Doubles → Type 0
-TreeIn m = (f : Form) (x : Scalar) (t : Data)
-    → (writes_scalar_in m f x ≡ Ok t) ↔ WrittenScalarIn m f (normal_scalar x) t
+abbrev pub WritingIsWrittenIn : Doubles → Type 0
+WritingIsWrittenIn doubles = (form : Form) (x : Scalar) (t : Data)
+    → (writes_scalar_in doubles form x ≡ Ok t) ↔ WrittenScalarIn doubles form (normal_scalar x) t
 
-abbrev pub Tree : Type 0
-Tree = TreeIn Special
+abbrev pub WritingIsWritten : Type 0
+WritingIsWritten = WritingIsWrittenIn Special
 
 -- a scalar has a tree exactly if it is writable
-abbrev pub WritableIn : Doubles → Type 0
-WritableIn m = (f : Form) (x : Scalar) → is_ok (writes_scalar_in m f x) ≡ writable_scalar_in m x
+abbrev pub WrittenIfWritableIn : Doubles → Type 0
+WrittenIfWritableIn doubles = (form : Form) (x : Scalar) → is_ok (writes_scalar_in doubles form x) ≡ writable_scalar_in doubles x
 
-abbrev pub Writable : Type 0
-Writable = WritableIn Special
+abbrev pub WrittenIfWritable : Type 0
+WrittenIfWritable = WrittenIfWritableIn Special
 
 -- in the mode `Finite` each one is
 abbrev pub AllWritable : Type 0
@@ -53,22 +53,22 @@ AllWritable = (x : Scalar) → ScalarInRange x → writable_scalar_in Finite x �
 
 -- a pattern has a text exactly if it is a zero, an infinity or a NaN, or in the mode `Finite` finite
 abbrev pub DoublesHaveTextsIn : Doubles → Type 0
-DoublesHaveTextsIn m = (p : ℕ) → is_some (text_in m p) ≡ is_writable m p
+DoublesHaveTextsIn doubles = (bit_pattern : ℕ) → is_some (double_text_in doubles bit_pattern) ≡ is_writable doubles bit_pattern
 
 abbrev pub DoublesHaveTexts : Type 0
 DoublesHaveTexts = DoublesHaveTextsIn Special
 
 -- what is written means the normal form, narrowed in the relaxed form
-abbrev pub ScalarsReadBackIn : Doubles → Type 0
-ScalarsReadBackIn m = (f : Form) (x : Scalar) (t : Data) → writes_scalar_in m f x ≡ Ok t → ScalarInRange x
-    → MeansScalarIn m t (scalar_as_read f (normal_scalar x))
+abbrev pub ScalarsRoundTripIn : Doubles → Type 0
+ScalarsRoundTripIn doubles = (form : Form) (x : Scalar) (t : Data) → writes_scalar_in doubles form x ≡ Ok t → ScalarInRange x
+    → MeansScalarIn doubles t (scalar_as_read_back form (normal_scalar x))
 
-abbrev pub ScalarsReadBack : Type 0
-ScalarsReadBack = ScalarsReadBackIn Special
+abbrev pub ScalarsRoundTrip : Type 0
+ScalarsRoundTrip = ScalarsRoundTripIn Special
 
 -- normal form and narrowing, done again, change nothing
-abbrev pub NormalAgain : Type 0
-NormalAgain = (x : Scalar) → normal_scalar (normal_scalar x) ≡ normal_scalar x
+abbrev pub NormalIsIdempotent : Type 0
+NormalIsIdempotent = (x : Scalar) → normal_scalar (normal_scalar x) ≡ normal_scalar x
 
-abbrev pub AsReadAgain : Type 0
-AsReadAgain = (f : Form) (x : Scalar) → scalar_as_read f (scalar_as_read f x) ≡ scalar_as_read f x
+abbrev pub NarrowingIsIdempotent : Type 0
+NarrowingIsIdempotent = (form : Form) (x : Scalar) → scalar_as_read_back form (scalar_as_read_back form x) ≡ scalar_as_read_back form x

@@ -1,7 +1,7 @@
 pub mod Scalar
 pub mod Same
 pub mod SameLaws
-pub mod Feed
+pub mod HashInput
 pub mod Faults
 pub mod Table
 pub mod TreeParts

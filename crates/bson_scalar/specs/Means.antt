@@ -21,7 +21,7 @@ use Rattle.bson_scalar.specs.Doubles.{double_pattern, finite_number}
 use Rattle.bson_scalar.specs.Ints.{IsIntText}
 use Rattle.bson_scalar.specs.Scalar.{Scalar}
 use Rattle.bson_scalar.specs.Scalar as kind
-use Rattle.bson_scalar.specs.TreeParts.{object_of_one, object_of_two, whole, u32_at}
+use Rattle.bson_scalar.specs.TreeParts.{object_of_one, object_of_two, i64_at, u32_at}
 use Rattle.bson_scalar.specs.declared.form.Doubles.{Doubles}
 use Rattle.bson_scalar.specs.declared.form.Doubles.TheVariants.{Special, Finite}
 
@@ -38,19 +38,19 @@ pub data MeansScalar : Data → Scalar → Type 0 where
       → MeansScalar (object_of_one (codes "$numberInt") (tree.string s)) (kind.int32 z)
   number_long : (s : List ℕ) (z : ℤ) → IsIntText w64 s z
       → MeansScalar (object_of_one (codes "$numberLong") (tree.string s)) (kind.int64 z)
-  number_double : (s : List ℕ) (p : ℕ) → double_pattern s ≡ Some p
-      → MeansScalar (object_of_one (codes "$numberDouble") (tree.string s)) (kind.double p)
+  number_double : (s : List ℕ) (pattern : ℕ) → double_pattern s ≡ Some pattern
+      → MeansScalar (object_of_one (codes "$numberDouble") (tree.string s)) (kind.double pattern)
   number_decimal : (s b : List ℕ) → DenotesDecimal s b
       → MeansScalar (object_of_one (codes "$numberDecimal") (tree.string s)) (kind.decimal b)
   symbol : (s : List ℕ) → MeansScalar (object_of_one (codes "$symbol") (tree.string s)) (kind.symbol s)
   code : (s : List ℕ) → MeansScalar (object_of_one (codes "$code") (tree.string s)) (kind.code s)
   code_without_scope : (s : List ℕ)
       → MeansScalar (object_of_two (codes "$code") (tree.string s) (codes "$scope") tree.null) (kind.code s)
-  regular_expression : (p o : List ℕ)
+  regular_expression : (pattern options : List ℕ)
       → MeansScalar
       (object_of_one (codes "$regularExpression")
-      (object_of_two (codes "options") (tree.string o) (codes "pattern") (tree.string p)))
-      (kind.regex p (sorted_text o))
+      (object_of_two (codes "options") (tree.string options) (codes "pattern") (tree.string pattern)))
+      (kind.regex pattern (sorted_text options))
   oid : (s id : List ℕ) → IsOidText s id
       → MeansScalar (object_of_one (codes "$oid") (tree.string s)) (kind.object_id id)
   db_pointer : (name s id : List ℕ) → IsOidText s id
@@ -77,17 +77,17 @@ pub data MeansScalar : Data → Scalar → Type 0 where
   uuid : (s id : List ℕ) → IsHyphenatedText s id
       → MeansScalar (object_of_one (codes "$uuid") (tree.string s)) (kind.binary Uuid id)
   -- the number 1
-  min_key : (d : Data) → whole d ≡ Some (pos 1) → MeansScalar (object_of_one (codes "$minKey") d) kind.min_key
-  max_key : (d : Data) → whole d ≡ Some (pos 1) → MeansScalar (object_of_one (codes "$maxKey") d) kind.max_key
+  min_key : (d : Data) → i64_at d ≡ Some (pos 1) → MeansScalar (object_of_one (codes "$minKey") d) kind.min_key
+  max_key : (d : Data) → i64_at d ≡ Some (pos 1) → MeansScalar (object_of_one (codes "$maxKey") d) kind.max_key
   undefined : MeansScalar (object_of_one (codes "$undefined") (tree.boolean true)) kind.undefined
 
 -- the tree means the double that is nearest to a decimal number, and finite
 pub data MeansFinite : Data → Scalar → Type 0 where
-  nearest_to_text : (s : List ℕ) (p : ℕ) → parsed_finite_bits s ≡ Some p
-      → MeansFinite (object_of_one (codes "$numberDouble") (tree.string s)) (kind.double p)
+  nearest_to_text : (s : List ℕ) (pattern : ℕ) → parsed_finite_bits s ≡ Some pattern
+      → MeansFinite (object_of_one (codes "$numberDouble") (tree.string s)) (kind.double pattern)
   -- a number that is no i64
-  nearest_to_number : (n : Num) (p : ℕ) → as_i64 n ≡ None → finite_number n ≡ Some p
-      → MeansFinite (tree.number n) (kind.double p)
+  nearest_to_number : (n : Num) (pattern : ℕ) → as_i64 n ≡ None → finite_number n ≡ Some pattern
+      → MeansFinite (tree.number n) (kind.double pattern)
 
 abbrev pub MeansScalarIn : Doubles → Data → Scalar → Type 0
 MeansScalarIn Special t x = MeansScalar t x

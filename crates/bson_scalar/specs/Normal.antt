@@ -5,7 +5,7 @@ use Rattle.bson_types.specs.BinarySubtypes.{subtype_byte, subtype_of}
 use Rattle.bson_decimal.specs.DecimalBits.{canonical_decimal, decoded_decimal, is_decimal_nan}
 use Rattle.hex.specs.Hex.{IsBytes}
 use Rattle.bson_scalar.specs.Doubles.{normal_double, is_writable}
-use Rattle.bson_scalar.specs.Ints.{narrowest}
+use Rattle.bson_scalar.specs.Ints.{narrowest_int}
 use Rattle.bson_types.specs.Regex.{sorted_text}
 use Rattle.bson_scalar.specs.declared.form.Doubles.{Doubles}
 use Rattle.bson_scalar.specs.declared.form.Doubles.TheVariants.{Special}
@@ -17,33 +17,33 @@ use Rattle.bson_scalar.specs.Scalar.{db_pointer}
 -- the normal form: options sorted, the subtype that its byte reads as, a NaN as its text means it, a decimal as its
 -- canonical pattern; all else kept
 abbrev pub normal_scalar : Scalar → Scalar
-normal_scalar (double p) = double (normal_double p)
-normal_scalar (regex p o) = regex p (sorted_text o)
+normal_scalar (double pattern) = double (normal_double pattern)
+normal_scalar (regex pattern options) = regex pattern (sorted_text options)
 normal_scalar (binary k bytes) = binary (subtype_of (subtype_byte k)) bytes
 normal_scalar (decimal b) = decimal (canonical_decimal b)
 normal_scalar x = x
 
 -- an Int64 as its tree in this form reads back
-abbrev pub int64_as_read : Form → ℤ → Scalar
-int64_as_read Canonical z = int64 z
-int64_as_read Relaxed z = narrowest z
+abbrev pub int64_as_read_back : Form → ℤ → Scalar
+int64_as_read_back Canonical z = int64 z
+int64_as_read_back Relaxed z = narrowest_int z
 
 -- a scalar as its tree in this form reads back: narrowed if the form is the relaxed one
-abbrev pub scalar_as_read : Form → Scalar → Scalar
-scalar_as_read f (int64 z) = int64_as_read f z
-scalar_as_read f x = x
+abbrev pub scalar_as_read_back : Form → Scalar → Scalar
+scalar_as_read_back form (int64 z) = int64_as_read_back form z
+scalar_as_read_back form x = x
 
 -- whether it has a tree: a double is a zero, an infinity or a NaN, or in the mode `Finite` any
 abbrev pub writable_scalar_in : Doubles → Scalar → Bool
-writable_scalar_in m (double p) = is_writable m p
-writable_scalar_in m x = true
+writable_scalar_in doubles (double pattern) = is_writable doubles pattern
+writable_scalar_in doubles x = true
 
 abbrev pub writable_scalar : Scalar → Bool
 writable_scalar = writable_scalar_in Special
 
 -- each number in it is in the range of its Rust type
 abbrev pub ScalarInRange : Scalar → Type 0
-ScalarInRange (double p) = p < 2 ^ 64
+ScalarInRange (double pattern) = pattern < 2 ^ 64
 ScalarInRange (int32 z) = FitsSigned w32 z
 ScalarInRange (int64 z) = FitsSigned w64 z
 ScalarInRange (timestamp t i) = (t < 2 ^ 32) × (i < 2 ^ 32)
@@ -60,7 +60,7 @@ IsNormalOrNan x = normal_scalar x ≡ x
 
 -- what is known of every scalar that is read
 abbrev pub IsReadScalarIn : Doubles → Scalar → Type 0
-IsReadScalarIn m x = (writable_scalar_in m x ≡ true) × IsNormalOrNan x
+IsReadScalarIn doubles x = (writable_scalar_in doubles x ≡ true) × IsNormalOrNan x
 
 abbrev pub IsReadScalar : Scalar → Type 0
 IsReadScalar = IsReadScalarIn Special

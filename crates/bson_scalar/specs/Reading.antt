@@ -24,10 +24,10 @@ use Rattle.serde_json.specs.Data as tree
 use Rattle.serde_json.specs.Find.{as_i64, as_str}
 use Rattle.bson_scalar.specs.Doubles.{double_in, finite_number}
 use Rattle.bson_scalar.specs.Faults.{Fault, wrong_shape, wrong_id, ◌>>=◌, or_wrong_shape}
-use Rattle.bson_scalar.specs.Ints.{fits_bits, narrowest}
+use Rattle.bson_scalar.specs.Ints.{fits_bits, narrowest_int}
 use Rattle.bson_scalar.specs.Scalar.{Scalar, null, undefined, min_key, max_key, boolean, double, int32, int64, text}
 use Rattle.bson_scalar.specs.Scalar.{symbol, code, regex, timestamp, binary, object_id, date, decimal, db_pointer}
-use Rattle.bson_scalar.specs.TreeParts.{whole, u32_at}
+use Rattle.bson_scalar.specs.TreeParts.{i64_at, u32_at}
 use Rattle.bson_scalar.specs.Table.{wrapper_of, Wrapper, Oid, Symbol, RegularExpression, NumberInt, NumberLong}
 use Rattle.bson_scalar.specs.Table.{NumberDouble, NumberDecimal, Binary, Uuid, Code, Timestamp, Date, MinKey, MaxKey}
 use Rattle.bson_scalar.specs.Table.{DbPointer, Undefined}
@@ -54,8 +54,8 @@ on_text d f = or_wrong_shape (as_str d) >>= f
 abbrev pub on_single_key : {X : Type 0} → List ℕ → Data → (Data → Result X Fault) → Result X Fault
 on_single_key a d f = or_wrong_shape (single_key_member a d) >>= f
 
-abbrev pub on_two : {X : Type 0} → List ℕ → List ℕ → Data → (Data → Data → Result X Fault) → Result X Fault
-on_two a b d f = or_wrong_shape (two_members a b d) >>= λ p. f p.0 p.1
+abbrev pub on_two_keys : {X : Type 0} → List ℕ → List ℕ → Data → (Data → Data → Result X Fault) → Result X Fault
+on_two_keys a b d f = or_wrong_shape (two_members a b d) >>= λ p. f p.0 p.1
 
 -- ---- numbers
 
@@ -68,10 +68,10 @@ int_of h bs = if is_numeral (without_leading_sign bs) && fits_bits h (signed_dig
     then Some (signed_digits_value 10 bs) else None
 
 abbrev pub number_read : Num → Result Scalar Fault
-number_read n = or_wrong_shape (as_i64 n) >>= λ z. Ok (narrowest z)
+number_read n = or_wrong_shape (as_i64 n) >>= λ z. Ok (narrowest_int z)
 
 abbrev pub or_double_read : Option ℤ → Num → Result Scalar Fault
-or_double_read (Some z) n = Ok (narrowest z)
+or_double_read (Some z) n = Ok (narrowest_int z)
 or_double_read None n = or_wrong_shape (finite_number n) >>= λ p. Ok (double p)
 
 abbrev pub number_read_in : Doubles → Num → Result Scalar Fault
@@ -85,7 +85,7 @@ abbrev pub int64_read : Data → Result Scalar Fault
 int64_read d = on_text d (λ s. or_wrong_shape (int_of 63 s) >>= λ z. Ok (int64 z))
 
 abbrev pub double_read_in : Doubles → Data → Result Scalar Fault
-double_read_in m d = on_text d (λ s. or_wrong_shape (double_in m s) >>= λ p. Ok (double p))
+double_read_in doubles d = on_text d (λ s. or_wrong_shape (double_in doubles s) >>= λ p. Ok (double p))
 
 -- the number of the pattern of a NaN or an infinity
 abbrev pub special_decimal : List ℕ → Option ℕ
@@ -122,18 +122,18 @@ code_read d = on_text d (λ s. Ok (code s))
 
 abbrev pub regex_read : Data → Result Scalar Fault
 regex_read d =
-    on_two (codes "options") (codes "pattern") d (λ o p.
-    on_text o (λ os. on_text p (λ ps. Ok (regex ps (sorted_text os)))))
+    on_two_keys (codes "options") (codes "pattern") d (λ options_member p.
+    on_text options_member (λ options. on_text p (λ pattern. Ok (regex pattern (sorted_text options)))))
 
 -- ---- object ids
 
-abbrev pub id_or : List ℕ → Result (List ℕ) FromHexError → Result (List ℕ) Fault
-id_or s (Ok id) = Ok id
-id_or s (Err e) = Err (wrong_id s)
+abbrev pub id_or_fault : List ℕ → Result (List ℕ) FromHexError → Result (List ℕ) Fault
+id_or_fault s (Ok id) = Ok id
+id_or_fault s (Err e) = Err (wrong_id s)
 
 -- the object id of a text, or that it is none
 abbrev pub parsed_object_id : List ℕ → Result (List ℕ) Fault
-parsed_object_id s = id_or s (decode_sized s 12)
+parsed_object_id s = id_or_fault s (decode_sized s 12)
 
 abbrev pub oid_read : Data → Result Scalar Fault
 oid_read d = on_text d (λ s. parsed_object_id s >>= λ id. Ok (object_id id))
@@ -141,15 +141,15 @@ oid_read d = on_text d (λ s. parsed_object_id s >>= λ id. Ok (object_id id))
 -- the shape first, so that an object id's text is at fault only where it alone is wrong
 abbrev pub pointer_read : Data → Result Scalar Fault
 pointer_read d =
-    on_two (codes "$id") (codes "$ref") d (λ i r.
+    on_two_keys (codes "$id") (codes "$ref") d (λ i r.
     on_text r (λ name. on_single_key (codes "$oid") i (λ t. on_text t (λ s. parsed_object_id s >>= λ id. Ok (db_pointer name id)))))
 
 -- ---- moments
 
 abbrev pub timestamp_read : Data → Result Scalar Fault
 timestamp_read d =
-    on_two (codes "i") (codes "t") d (λ i t. or_wrong_shape (u32_at i) >>= λ m. or_wrong_shape (u32_at t) >>= λ n.
-    Ok (timestamp n m))
+    on_two_keys (codes "i") (codes "t") d (λ i t. or_wrong_shape (u32_at i) >>= λ increment. or_wrong_shape (u32_at t) >>= λ n.
+    Ok (timestamp n increment))
 
 abbrev pub millis_of : Data → Result ℤ Fault
 millis_of (tree.string s) = or_wrong_shape (parsed_rfc3339_millis s)
@@ -169,17 +169,17 @@ abbrev pub byte_of : List ℕ → Option ℕ
 byte_of s = only_byte (decode_sized s 1)
 
 -- the bytes, where the text is theirs
-abbrev pub bytes_with : List ℕ → Option (List ℕ) → Option (List ℕ)
-bytes_with s (Some bytes) = if bytes_eq s (padded_text bytes) then Some bytes else None
-bytes_with s None = None
+abbrev pub bytes_if_encoded : List ℕ → Option (List ℕ) → Option (List ℕ)
+bytes_if_encoded s (Some bytes) = if bytes_eq s (padded_text bytes) then Some bytes else None
+bytes_if_encoded s None = None
 
 -- the decoder takes a number above 255 for the digit of 0, so what it gives is compared with the text
 abbrev pub bytes_of : List ℕ → Option (List ℕ)
-bytes_of s = bytes_with s (result_ok (decode_of standard s))
+bytes_of s = bytes_if_encoded s (result_ok (decode_of standard s))
 
 abbrev pub binary_read : Data → Result Scalar Fault
 binary_read d =
-    on_two (codes "base64") (codes "subType") d (λ b k.
+    on_two_keys (codes "base64") (codes "subType") d (λ b k.
     on_text b
     (λ s. on_text k (λ t. or_wrong_shape (bytes_of s) >>= λ bytes. or_wrong_shape (byte_of t) >>= λ n.
     Ok (binary (subtype_of n) bytes))))
@@ -193,8 +193,8 @@ abbrev pub is_one : Option ℤ → Bool
 is_one (Some (pos n)) = n == 1
 is_one _ = false
 
-abbrev pub one_read : Scalar → Data → Result Scalar Fault
-one_read y d = if is_one (whole d) then Ok y else Err wrong_shape
+abbrev pub number_one_read : Scalar → Data → Result Scalar Fault
+number_one_read y d = if is_one (i64_at d) then Ok y else Err wrong_shape
 
 abbrev pub undefined_read : Data → Result Scalar Fault
 undefined_read (tree.boolean b) = if b then Ok undefined else Err wrong_shape
@@ -202,33 +202,33 @@ undefined_read _ = Err wrong_shape
 
 -- ---- all wrappers of one key
 
-abbrev pub single_in : Doubles → Wrapper → Data → Result Scalar Fault
-single_in m Oid = oid_read
-single_in m Symbol = symbol_read
-single_in m RegularExpression = regex_read
-single_in m NumberInt = int32_read
-single_in m NumberLong = int64_read
-single_in m NumberDouble = double_read_in m
-single_in m NumberDecimal = decimal_read
-single_in m Binary = binary_read
-single_in m Uuid = uuid_read
-single_in m Code = code_read
-single_in m Timestamp = timestamp_read
-single_in m Date = date_read
-single_in m MinKey = one_read min_key
-single_in m MaxKey = one_read max_key
-single_in m DbPointer = pointer_read
-single_in m Undefined = undefined_read
+abbrev pub wrapper_read_in : Doubles → Wrapper → Data → Result Scalar Fault
+wrapper_read_in doubles Oid = oid_read
+wrapper_read_in doubles Symbol = symbol_read
+wrapper_read_in doubles RegularExpression = regex_read
+wrapper_read_in doubles NumberInt = int32_read
+wrapper_read_in doubles NumberLong = int64_read
+wrapper_read_in doubles NumberDouble = double_read_in doubles
+wrapper_read_in doubles NumberDecimal = decimal_read
+wrapper_read_in doubles Binary = binary_read
+wrapper_read_in doubles Uuid = uuid_read
+wrapper_read_in doubles Code = code_read
+wrapper_read_in doubles Timestamp = timestamp_read
+wrapper_read_in doubles Date = date_read
+wrapper_read_in doubles MinKey = number_one_read min_key
+wrapper_read_in doubles MaxKey = number_one_read max_key
+wrapper_read_in doubles DbPointer = pointer_read
+wrapper_read_in doubles Undefined = undefined_read
 
-abbrev pub single : Wrapper → Data → Result Scalar Fault
-single = single_in Special
+abbrev pub wrapper_read : Wrapper → Data → Result Scalar Fault
+wrapper_read = wrapper_read_in Special
 
-abbrev pub single_at_in : Doubles → Option Wrapper → Data → Result Scalar Fault
-single_at_in m (Some w) d = single_in m w d
-single_at_in m None d = Err wrong_shape
+abbrev pub optional_wrapper_read_in : Doubles → Option Wrapper → Data → Result Scalar Fault
+optional_wrapper_read_in doubles (Some w) d = wrapper_read_in doubles w d
+optional_wrapper_read_in doubles None d = Err wrong_shape
 
-abbrev pub single_at : Option Wrapper → Data → Result Scalar Fault
-single_at = single_at_in Special
+abbrev pub optional_wrapper_read : Option Wrapper → Data → Result Scalar Fault
+optional_wrapper_read = optional_wrapper_read_in Special
 
 -- code with the scope null
 abbrev pub code_if_scope_is_null : Data → Data → Result Scalar Fault
@@ -236,11 +236,11 @@ code_if_scope_is_null tree.null code_member = code_read code_member
 code_if_scope_is_null scope code_member = Err wrong_shape
 
 abbrev pub scalar_read_in : Doubles → Data → Result Scalar Fault
-scalar_read_in m tree.null = Ok null
-scalar_read_in m (tree.boolean b) = Ok (boolean b)
-scalar_read_in m (tree.number n) = number_read_in m n
-scalar_read_in m (tree.string s) = Ok (text s)
-scalar_read_in m (tree.object (member k d no_members)) = single_at_in m (wrapper_of k) d
-scalar_read_in m (tree.object (member k d (member l e no_members))) =
+scalar_read_in doubles tree.null = Ok null
+scalar_read_in doubles (tree.boolean b) = Ok (boolean b)
+scalar_read_in doubles (tree.number n) = number_read_in doubles n
+scalar_read_in doubles (tree.string s) = Ok (text s)
+scalar_read_in doubles (tree.object (member k d no_members)) = optional_wrapper_read_in doubles (wrapper_of k) d
+scalar_read_in doubles (tree.object (member k d (member l e no_members))) =
     if bytes_eq k (codes "$code") && bytes_eq l (codes "$scope") then code_if_scope_is_null e d else Err wrong_shape
-scalar_read_in m _ = Err wrong_shape
+scalar_read_in doubles _ = Err wrong_shape

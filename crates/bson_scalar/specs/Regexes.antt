@@ -8,6 +8,6 @@ use Rattle.bson_scalar.specs.Table.{key_of}
 use Rattle.bson_scalar.specs.declared.wrapper.Wrapper.TheVariants.{RegularExpression}
 
 abbrev pub regex_tree : List ℕ → List ℕ → Data
-regex_tree p o =
+regex_tree pattern options =
     object_of_one (key_of RegularExpression)
-    (object_of_two (codes "options") (tree.string o) (codes "pattern") (tree.string p))
+    (object_of_two (codes "options") (tree.string options) (codes "pattern") (tree.string pattern))

@@ -36,15 +36,15 @@ scalar_eq undefined undefined = true
 scalar_eq min_key min_key = true
 scalar_eq max_key max_key = true
 scalar_eq (boolean a) (boolean b) = bool_eq a b
-scalar_eq (double p) (double q) = p == q
+scalar_eq (double pattern) (double pattern2) = pattern == pattern2
 scalar_eq (int32 a) (int32 b) = int_eq a b
 scalar_eq (int64 a) (int64 b) = int_eq a b
 scalar_eq (text s) (text t) = bytes_eq s t
 scalar_eq (symbol s) (symbol t) = bytes_eq s t
 scalar_eq (code s) (code t) = bytes_eq s t
-scalar_eq (regex p o) (regex q m) = bytes_eq p q && bytes_eq o m
+scalar_eq (regex pattern options) (regex pattern2 options2) = bytes_eq pattern pattern2 && bytes_eq options options2
 scalar_eq (timestamp t i) (timestamp u j) = (t == u) && (i == j)
-scalar_eq (binary k a) (binary l b) = subtype_eq k l && bytes_eq a b
+scalar_eq (binary subtype a) (binary subtype2 b) = subtype_eq subtype subtype2 && bytes_eq a b
 scalar_eq (object_id a) (object_id b) = bytes_eq a b
 scalar_eq (date y) (date z) = int_eq y z
 scalar_eq (decimal a) (decimal b) = bytes_eq a b

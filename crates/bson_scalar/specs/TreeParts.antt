@@ -15,8 +15,8 @@ abbrev pub natural : ℕ → Data
 natural n = tree.number (unsigned n)
 
 -- an integer
-abbrev pub whole : Data → Option ℤ
-whole d = option_and_then as_i64 (as_number d)
+abbrev pub i64_at : Data → Option ℤ
+i64_at d = option_and_then as_i64 (as_number d)
 
 -- a number from 0 to 4294967295
 abbrev pub small_number : Option ℤ → Option ℕ
@@ -25,4 +25,4 @@ small_number (Some (negsuc n)) = None
 small_number None = None
 
 abbrev pub u32_at : Data → Option ℕ
-u32_at d = small_number (whole d)
+u32_at d = small_number (i64_at d)

@@ -30,24 +30,24 @@ number_text (float x) = float_text x
 
 -- the tree as JSON
 abbrev mutual
-  pub outline : Data → json.Json
-  outline null = json.null
-  outline (boolean b) = json.boolean b
-  outline (number n) = json.number (number_text n)
-  outline (string s) = json.string s
-  outline (array ds) = json.array (items_outline ds)
-  outline (object ms) = json.object (members_outline ms)
+  pub json_of_tree : Data → json.Json
+  json_of_tree null = json.null
+  json_of_tree (boolean b) = json.boolean b
+  json_of_tree (number n) = json.number (number_text n)
+  json_of_tree (string s) = json.string s
+  json_of_tree (array ds) = json.array (json_of_items ds)
+  json_of_tree (object ms) = json.object (json_of_members ms)
 
-  pub items_outline : Items → json.Items
-  items_outline no_items = json.no_items
-  items_outline (item d ds) = json.item (outline d) (items_outline ds)
+  pub json_of_items : Items → json.Items
+  json_of_items no_items = json.no_items
+  json_of_items (item d ds) = json.item (json_of_tree d) (json_of_items ds)
 
-  pub members_outline : Members → json.Members
-  members_outline no_members = json.no_members
-  members_outline (member k d ms) = json.member k (outline d) (members_outline ms)
+  pub json_of_members : Members → json.Members
+  json_of_members no_members = json.no_members
+  json_of_members (member k d ms) = json.member k (json_of_tree d) (json_of_members ms)
 
 abbrev pub tokens_of : Data → List Token
-tokens_of t = json_tokens (outline t)
+tokens_of t = json_tokens (json_of_tree t)
 
 -- the text of those tokens, with no space
 abbrev pub text_of : Data → List ℕ
@@ -57,11 +57,11 @@ text_of t = print (tokens_of t)
 
 -- but in the relaxed form of the mode `Finite` no float is written
 abbrev pub HasNoFloatIn : Doubles → Form → Data → Type 0
-HasNoFloatIn Special f t = has_float t ≡ false
+HasNoFloatIn Special form t = has_float t ≡ false
 HasNoFloatIn Finite Canonical t = has_float t ≡ false
 HasNoFloatIn Finite Relaxed t = Unit {0}
 
 abbrev pub tree_text : Doubles → Form → Data → List ℕ
-tree_text Special f t = compact_text t
+tree_text Special form t = compact_text t
 tree_text Finite Canonical t = compact_text t
 tree_text Finite Relaxed t = text_of t

@@ -3,12 +3,12 @@ use Rattle.std.specs.Prelude.{string_bytes}
 use Rattle.bson_types.specs.DbPointer.{namespace_of, id_of}
 use Rattle.bson_scalar.specs.Scalar.{Scalar, null, undefined, min_key, max_key, boolean, double, int32, int64, text}
 use Rattle.bson_scalar.specs.Scalar.{symbol, code, regex, timestamp, binary, object_id, date, decimal, db_pointer}
-use Rattle.bson_scalar.specs.declared.scalar.Scalar.{Scalar as Held}
+use Rattle.bson_scalar.specs.declared.scalar.Scalar.{Scalar as RustScalar}
 use Rattle.bson_scalar.specs.declared.scalar.Scalar.TheVariants as variant
 use Rattle.bson_scalar.specs.declared.scalar_ref.ScalarRef.{ScalarRef}
 use Rattle.bson_scalar.specs.declared.scalar_ref.ScalarRef.TheVariants as kind
 
-abbrev pub scalar_view : Held → Scalar
+abbrev pub scalar_view : RustScalar → Scalar
 scalar_view variant.Null = null
 scalar_view variant.Undefined = undefined
 scalar_view variant.MinKey = min_key

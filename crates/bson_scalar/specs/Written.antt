@@ -9,7 +9,7 @@ use Rattle.serde_json.specs.Find.{of_integer}
 use Rattle.bson_scalar.specs.Binaries.{binary_tree}
 use Rattle.bson_scalar.specs.Dates.{date_tree, relaxed_date_tree}
 use Rattle.bson_scalar.specs.Decimals.{decimal_tree}
-use Rattle.bson_scalar.specs.Doubles.{double_tree, double_text, IsDoubleTextIn, text_in}
+use Rattle.bson_scalar.specs.Doubles.{double_tree, double_text, IsDoubleTextIn, double_text_in}
 use Rattle.bson_scalar.specs.Ids.{oid_tree, pointer_tree}
 use Rattle.bson_scalar.specs.Ints.{int32_tree, int64_tree}
 use Rattle.bson_scalar.specs.Constants.{min_key_tree, max_key_tree, undefined_tree}
@@ -41,36 +41,36 @@ date_form Relaxed z = relaxed_date_tree z
 
 -- the JSON number of a finite double
 abbrev pub number_tree : ℕ → Data
-number_tree p = tree.number (float (from_bits binary64 p))
+number_tree pattern = tree.number (float (from_bits binary64 pattern))
 
 -- a finite double is a JSON number in the relaxed form of the mode `Finite`
 abbrev pub WrittenDoubleIn : Doubles → Form → ℕ → Data → Type 0
-WrittenDoubleIn Special f p t = (s : List ℕ) × IsDoubleTextIn Special p s × (t ≡ double_tree s)
-WrittenDoubleIn Finite Canonical p t = (s : List ℕ) × IsDoubleTextIn Finite p s × (t ≡ double_tree s)
-WrittenDoubleIn Finite Relaxed p t =
-    ((is_finite p ≡ true) × (t ≡ number_tree p))
-    ⊎ ((is_finite p ≡ false) × ((s : List ℕ) × (double_text p ≡ Some s) × (t ≡ double_tree s)))
+WrittenDoubleIn Special f pattern t = (s : List ℕ) × IsDoubleTextIn Special pattern s × (t ≡ double_tree s)
+WrittenDoubleIn Finite Canonical pattern t = (s : List ℕ) × IsDoubleTextIn Finite pattern s × (t ≡ double_tree s)
+WrittenDoubleIn Finite Relaxed pattern t =
+    ((is_finite pattern ≡ true) × (t ≡ number_tree pattern))
+    ⊎ ((is_finite pattern ≡ false) × ((s : List ℕ) × (double_text pattern ≡ Some s) × (t ≡ double_tree s)))
 
 -- the scalar, in normal form, has this tree in the form f
 abbrev pub WrittenScalarIn : Doubles → Form → Scalar → Data → Type 0
-WrittenScalarIn m f null t = t ≡ tree.null
-WrittenScalarIn m f undefined t = t ≡ undefined_tree
-WrittenScalarIn m f min_key t = t ≡ min_key_tree
-WrittenScalarIn m f max_key t = t ≡ max_key_tree
-WrittenScalarIn m f (boolean b) t = t ≡ tree.boolean b
-WrittenScalarIn m f (double p) t = WrittenDoubleIn m f p t
-WrittenScalarIn m f (int32 z) t = t ≡ int32_form f z
-WrittenScalarIn m f (int64 z) t = t ≡ int64_form f z
-WrittenScalarIn m f (text s) t = t ≡ tree.string s
-WrittenScalarIn m f (symbol s) t = t ≡ symbol_tree s
-WrittenScalarIn m f (code s) t = t ≡ code_tree s
-WrittenScalarIn m f (regex p o) t = t ≡ regex_tree p o
-WrittenScalarIn m f (timestamp s i) t = t ≡ timestamp_tree s i
-WrittenScalarIn m f (binary k bytes) t = t ≡ binary_tree k bytes
-WrittenScalarIn m f (object_id id) t = t ≡ oid_tree id
-WrittenScalarIn m f (date z) t = t ≡ date_form f z
-WrittenScalarIn m f (decimal b) t = t ≡ decimal_tree b
-WrittenScalarIn m f (db_pointer s id) t = t ≡ pointer_tree s id
+WrittenScalarIn doubles f null t = t ≡ tree.null
+WrittenScalarIn doubles f undefined t = t ≡ undefined_tree
+WrittenScalarIn doubles f min_key t = t ≡ min_key_tree
+WrittenScalarIn doubles f max_key t = t ≡ max_key_tree
+WrittenScalarIn doubles f (boolean b) t = t ≡ tree.boolean b
+WrittenScalarIn doubles f (double pattern) t = WrittenDoubleIn doubles f pattern t
+WrittenScalarIn doubles f (int32 z) t = t ≡ int32_form f z
+WrittenScalarIn doubles f (int64 z) t = t ≡ int64_form f z
+WrittenScalarIn doubles f (text s) t = t ≡ tree.string s
+WrittenScalarIn doubles f (symbol s) t = t ≡ symbol_tree s
+WrittenScalarIn doubles f (code s) t = t ≡ code_tree s
+WrittenScalarIn doubles f (regex pattern o) t = t ≡ regex_tree pattern o
+WrittenScalarIn doubles f (timestamp s i) t = t ≡ timestamp_tree s i
+WrittenScalarIn doubles f (binary k bytes) t = t ≡ binary_tree k bytes
+WrittenScalarIn doubles f (object_id id) t = t ≡ oid_tree id
+WrittenScalarIn doubles f (date z) t = t ≡ date_form f z
+WrittenScalarIn doubles f (decimal b) t = t ≡ decimal_tree b
+WrittenScalarIn doubles f (db_pointer s id) t = t ≡ pointer_tree s id
 
 abbrev pub WrittenScalar : Form → Scalar → Data → Type 0
 WrittenScalar = WrittenScalarIn Special
@@ -78,54 +78,54 @@ WrittenScalar = WrittenScalarIn Special
 -- ---- the same as functions of any scalar, for the proofs
 
 -- a double has no text
-pub data Refusal : Type 0 where
-  finite : Refusal
+pub data WriteFault : Type 0 where
+  finite : WriteFault
 
 infixl 10 ◌>>=◌
-abbrev pub ◌>>=◌ : {A B : Type 0} → Result A Refusal → (A → Result B Refusal) → Result B Refusal
+abbrev pub ◌>>=◌ : {A B : Type 0} → Result A WriteFault → (A → Result B WriteFault) → Result B WriteFault
 (Ok x) >>= f = f x
 (Err e) >>= f = Err e
 
-abbrev pub or_finite : {A : Type 0} → Option A → Result A Refusal
+abbrev pub or_finite : {A : Type 0} → Option A → Result A WriteFault
 or_finite (Some x) = Ok x
 or_finite None = Err finite
 
-abbrev pub wrapped_double : Option (List ℕ) → Result Data Refusal
-wrapped_double o = or_finite o >>= λ s. Ok (double_tree s)
+abbrev pub special_double_tree : Option (List ℕ) → Result Data WriteFault
+special_double_tree o = or_finite o >>= λ s. Ok (double_tree s)
 
-abbrev pub double_writes_in : Doubles → Form → ℕ → Result Data Refusal
-double_writes_in Special f p = wrapped_double (double_text p)
-double_writes_in Finite Canonical p = wrapped_double (text_in Finite p)
-double_writes_in Finite Relaxed p = if is_finite p then Ok (number_tree p) else wrapped_double (double_text p)
+abbrev pub double_writes_in : Doubles → Form → ℕ → Result Data WriteFault
+double_writes_in Special f pattern = special_double_tree (double_text pattern)
+double_writes_in Finite Canonical pattern = special_double_tree (double_text_in Finite pattern)
+double_writes_in Finite Relaxed pattern = if is_finite pattern then Ok (number_tree pattern) else special_double_tree (double_text pattern)
 
-abbrev pub writes_scalar_in : Doubles → Form → Scalar → Result Data Refusal
-writes_scalar_in m f null = Ok tree.null
-writes_scalar_in m f undefined = Ok undefined_tree
-writes_scalar_in m f min_key = Ok min_key_tree
-writes_scalar_in m f max_key = Ok max_key_tree
-writes_scalar_in m f (boolean b) = Ok (tree.boolean b)
-writes_scalar_in m f (double p) = double_writes_in m f p
-writes_scalar_in m f (int32 z) = Ok (int32_form f z)
-writes_scalar_in m f (int64 z) = Ok (int64_form f z)
-writes_scalar_in m f (text s) = Ok (tree.string s)
-writes_scalar_in m f (symbol s) = Ok (symbol_tree s)
-writes_scalar_in m f (code s) = Ok (code_tree s)
-writes_scalar_in m f (regex p o) = Ok (regex_tree p (sorted_text o))
-writes_scalar_in m f (timestamp s i) = Ok (timestamp_tree s i)
-writes_scalar_in m f (binary k bytes) = Ok (binary_tree k bytes)
-writes_scalar_in m f (object_id id) = Ok (oid_tree id)
-writes_scalar_in m f (date z) = Ok (date_form f z)
-writes_scalar_in m f (decimal b) = Ok (decimal_tree b)
-writes_scalar_in m f (db_pointer s id) = Ok (pointer_tree s id)
+abbrev pub writes_scalar_in : Doubles → Form → Scalar → Result Data WriteFault
+writes_scalar_in doubles f null = Ok tree.null
+writes_scalar_in doubles f undefined = Ok undefined_tree
+writes_scalar_in doubles f min_key = Ok min_key_tree
+writes_scalar_in doubles f max_key = Ok max_key_tree
+writes_scalar_in doubles f (boolean b) = Ok (tree.boolean b)
+writes_scalar_in doubles f (double pattern) = double_writes_in doubles f pattern
+writes_scalar_in doubles f (int32 z) = Ok (int32_form f z)
+writes_scalar_in doubles f (int64 z) = Ok (int64_form f z)
+writes_scalar_in doubles f (text s) = Ok (tree.string s)
+writes_scalar_in doubles f (symbol s) = Ok (symbol_tree s)
+writes_scalar_in doubles f (code s) = Ok (code_tree s)
+writes_scalar_in doubles f (regex pattern o) = Ok (regex_tree pattern (sorted_text o))
+writes_scalar_in doubles f (timestamp s i) = Ok (timestamp_tree s i)
+writes_scalar_in doubles f (binary k bytes) = Ok (binary_tree k bytes)
+writes_scalar_in doubles f (object_id id) = Ok (oid_tree id)
+writes_scalar_in doubles f (date z) = Ok (date_form f z)
+writes_scalar_in doubles f (decimal b) = Ok (decimal_tree b)
+writes_scalar_in doubles f (db_pointer s id) = Ok (pointer_tree s id)
 
-abbrev pub writes_scalar : Form → Scalar → Result Data Refusal
+abbrev pub writes_scalar : Form → Scalar → Result Data WriteFault
 writes_scalar = writes_scalar_in Special
 
 -- What a function returned, seen by view, is what writing gives, unless memory ran out.
-abbrev pub Stops : {Y : Type 0} → WriteError → Result Y Refusal → Type 0
+abbrev pub Stops : {Y : Type 0} → WriteError → Result Y WriteFault → Type 0
 Stops OutOfMemory written = Unit {0}
 Stops FiniteDouble written = written ≡ Err finite
 
-abbrev pub Writes : {X Y : Type 0} → (X → Y) → Result X WriteError → Result Y Refusal → Type 0
+abbrev pub Writes : {X Y : Type 0} → (X → Y) → Result X WriteError → Result Y WriteFault → Type 0
 Writes view (Ok x) written = written ≡ Ok (view x)
 Writes view (Err e) written = Stops e written

@@ -10,7 +10,7 @@ ghost use Rattle.bson_types.specs.Base64.{padded_text};
 ghost use Rattle.bson_types.specs.UuidByteOrder.{parsed_hyphenated};
 ghost use Rattle.bson_types.specs.BinarySubtypes.{subtype_byte};
 ghost use Rattle.bson_scalar.specs.Binaries.{binary_tree};
-ghost use Rattle.bson_scalar.specs.Faults.{Gives, or_wrong_shape};
+ghost use Rattle.bson_scalar.specs.Faults.{IsReadResult, or_wrong_shape};
 ghost use Rattle.bson_scalar.specs.Reading.{binary_read, uuid_read, byte_of as byte_at};
 ghost use Rattle.bson_scalar.specs.Reading.{bytes_of as bytes_at};
 ghost use Rattle.bson_scalar.specs.TreeParts.{object_of_one, object_of_two};
@@ -19,8 +19,8 @@ ghost use Rattle.bson_scalar.specs.View.{scalar_view};
 use crate::error::Error;
 use crate::scalar::Scalar;
 use crate::sink::Sink;
-use crate::tree_parts::{are_bytes, expect, text_in, two_keys_in};
-use crate::wrapped::{begin, end_one, two_texts};
+use crate::tree_parts::{are_bytes, expect, expect_string, expect_two_keys};
+use crate::object_writer::{begin_object, end_object_of_one, write_two_texts_object};
 use base64::engine::general_purpose::STANDARD;
 use bson_types::binary::{self, Binary};
 use bson_types::spec::BinarySubtype;
@@ -28,9 +28,9 @@ use bson_types::uuid_value::Uuid;
 use serde_json::Value;
 use std::alloc::{AllocError, Global};
 
-const BINARY_SHAPE: &str = "`$binary` must have the strings `base64` and `subType`";
+const BINARY_MESSAGE: &str = "`$binary` must have the strings `base64` and `subType`";
 
-const UUID_SHAPE: &str = "`$uuid` must be a string with a hyphenated UUID";
+const UUID_MESSAGE: &str = "`$uuid` must be a string with a hyphenated UUID";
 
 // The byte of a text of two hexadecimal digits.
 fn byte_of(text: &str) -> Option<u8>
@@ -44,7 +44,7 @@ fn byte_of(text: &str) -> Option<u8>
 }
 
 fn bytes_of(alloc: Global, text: &str) -> Result<Vec<u8>, Error>
-    ensures { Gives (λ v. v.items) result (or_wrong_shape (bytes_at text.now)) }
+    ensures { IsReadResult (λ v. v.items) result (or_wrong_shape (bytes_at text.now)) }
 {
     match Binary::from_base64(alloc, text, None) {
         Ok(Binary { subtype: _, bytes }) => Ok(bytes),
@@ -57,11 +57,11 @@ fn bytes_of(alloc: Global, text: &str) -> Result<Vec<u8>, Error>
 
 // What `$binary` holds, as a binary.
 pub(crate) fn read_binary(alloc: Global, value: Value) -> Result<Scalar, Error>
-    ensures { Gives scalar_view result (binary_read (view value)) }
+    ensures { IsReadResult scalar_view result (binary_read (view value)) }
 {
-    let (base64, subtype) = two_keys_in(value, "base64", "subType", BINARY_SHAPE)?;
-    let base64 = text_in(base64, BINARY_SHAPE)?;
-    let subtype = text_in(subtype, BINARY_SHAPE)?;
+    let (base64, subtype) = expect_two_keys(value, "base64", "subType", BINARY_MESSAGE)?;
+    let base64 = expect_string(base64, BINARY_MESSAGE)?;
+    let subtype = expect_string(subtype, BINARY_MESSAGE)?;
     let bytes = bytes_of(alloc, base64.as_str())?;
     let byte = expect(
         byte_of(subtype.as_str()),
@@ -90,10 +90,10 @@ fn uuid_of(text: &str) -> Option<Uuid>
 // 8, 13, 18 and 23, counted from 0, and hexadecimal digits of either case elsewhere. The other
 // spellings that `Uuid::parse_str` takes are refused.
 pub(crate) fn read_uuid(alloc: Global, value: Value) -> Result<Scalar, Error>
-    ensures { Gives scalar_view result (uuid_read (view value)) }
+    ensures { IsReadResult scalar_view result (uuid_read (view value)) }
 {
-    let text = text_in(value, UUID_SHAPE)?;
-    let id = expect(uuid_of(text.as_str()), UUID_SHAPE)?;
+    let text = expect_string(value, UUID_MESSAGE)?;
+    let id = expect(uuid_of(text.as_str()), UUID_MESSAGE)?;
     Ok(Scalar::Binary(Binary::from_uuid(alloc, id)?))
 }
 
@@ -113,12 +113,12 @@ fn base64_text(alloc: Global, bytes: &[u8]) -> Result<String, AllocError>
 
 // What `$binary` holds.
 #[derive(Drop)]
-struct Texts {
+struct BinaryTexts {
     base64: String,
     subtype: String,
 }
 
-fn texts_of(alloc: Global, binary: &Binary) -> Result<Texts, AllocError>
+fn binary_texts_of(alloc: Global, binary: &Binary) -> Result<BinaryTexts, AllocError>
     ensures base64 { IfOk result (λ texts. string_bytes texts.base64 ≡ padded_text binary.now.bytes.items) }
     ensures subtype { IfOk result (λ texts. string_bytes texts.subtype
         ≡ encode_lower (subtype_byte binary.now.subtype ∷ [])) }
@@ -127,20 +127,20 @@ fn texts_of(alloc: Global, binary: &Binary) -> Result<Texts, AllocError>
     are_bytes(binary.bytes.as_slice());
     let base64 = base64_text(alloc, binary.bytes.as_slice())?;
     let subtype = byte_text(alloc, binary.subtype)?;
-    Ok(Texts { base64, subtype })
+    Ok(BinaryTexts { base64, subtype })
 }
 
-fn write_texts<S: Sink>(texts: Texts, out: &mut S) -> Result<S::Tree, AllocError>
+fn write_texts<S: Sink>(texts: BinaryTexts, out: &mut S) -> Result<S::Tree, AllocError>
     ensures written { IfOk result (λ t. S.wrote out.old
         (object_of_one (codes "$binary")
         (object_of_two (codes "base64") (string (string_bytes texts.base64)) (codes "subType")
         (string (string_bytes texts.subtype)))) t out.new) }
     ensures before { S.before out.new ≡ S.before out.old }
 {
-    let Texts { base64, subtype } = texts;
-    let key = begin("$binary", out)?;
-    let texts = two_texts("base64", base64, "subType", subtype, out)?;
-    end_one(key, texts, out)
+    let BinaryTexts { base64, subtype } = texts;
+    let key = begin_object("$binary", out)?;
+    let texts = write_two_texts_object("base64", base64, "subType", subtype, out)?;
+    end_object_of_one(key, texts, out)
 }
 
 // Writes the tree of a binary, in both forms.
@@ -154,7 +154,7 @@ pub(crate) fn write_binary<S: Sink>(
     ensures before { S.before out.new ≡ S.before out.old }
     ensures ranged { OnOk result ((subtype_byte binary.now.subtype < 256) × IsBytes binary.now.bytes.items) }
 {
-    write_texts(texts_of(alloc, binary)?, out)
+    write_texts(binary_texts_of(alloc, binary)?, out)
 }
 
 // Writes the tree of a binary, as `write_binary` does. Its bytes are dropped before the texts are
@@ -169,7 +169,7 @@ pub(crate) fn write_owned<S: Sink>(
     ensures before { S.before out.new ≡ S.before out.old }
     ensures ranged { OnOk result ((subtype_byte binary.subtype < 256) × IsBytes binary.bytes.items) }
 {
-    let texts = texts_of(alloc, &binary)?;
+    let texts = binary_texts_of(alloc, &binary)?;
     drop(binary);
     write_texts(texts, out)
 }

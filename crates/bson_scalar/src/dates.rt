@@ -7,7 +7,7 @@ ghost use Rattle.serde_json.specs.View.{view};
 ghost use Rattle.bson_datetime.specs.Rfc3339Parser.{parsed_rfc3339_millis};
 ghost use Rattle.bson_datetime.specs.DateTimeText.{rfc3339_text};
 ghost use Rattle.bson_scalar.specs.Dates.{date_tree, relaxed_date_tree};
-ghost use Rattle.bson_scalar.specs.Faults.{Gives, or_wrong_shape};
+ghost use Rattle.bson_scalar.specs.Faults.{IsReadResult, or_wrong_shape};
 ghost use Rattle.bson_scalar.specs.Reading.{millis_of, date_read};
 ghost use Rattle.bson_scalar.specs.Written.{date_form};
 ghost use Rattle.bson_scalar.specs.View.{scalar_view};
@@ -17,13 +17,13 @@ use crate::form::Form;
 use crate::ints::int64_of;
 use crate::scalar::Scalar;
 use crate::sink::Sink;
-use crate::tree_parts::{expect, single_key_in, text_in};
-use crate::wrapped::{begin, end_one, wrapped_numeral, wrapped_owned};
+use crate::tree_parts::{expect, expect_single_key, expect_string};
+use crate::object_writer::{begin_object, end_object_of_one, write_numeral_object, write_owned_text_object};
 use bson_datetime::DateTime;
 use serde_json::Value;
 use std::alloc::{AllocError, Global};
 
-const SHAPE: &str = "`$date` must be an RFC 3339 string, an integer or a `$numberLong`";
+const SHAPE_MESSAGE: &str = "`$date` must be an RFC 3339 string, an integer or a `$numberLong`";
 
 // The last millisecond of the year 9999.
 const LAST_RELAXED: i64 = 253_402_300_799_999;
@@ -38,23 +38,23 @@ fn denoted_by(text: &str) -> Option<DateTime>
 }
 
 fn millis_in(value: Value) -> Result<i64, Error>
-    ensures { Gives (λ z. z) result (millis_of (view value)) }
+    ensures { IsReadResult (λ z. z) result (millis_of (view value)) }
 {
     match value {
-        Value::String(text) => expect(denoted_by(text.as_str()), SHAPE).map(
+        Value::String(text) => expect(denoted_by(text.as_str()), SHAPE_MESSAGE).map(
             |d| d.timestamp_millis(),
         ),
-        Value::Number(number) => expect(number.as_i64(), SHAPE),
+        Value::Number(number) => expect(number.as_i64(), SHAPE_MESSAGE),
         value => {
-            let text = text_in(single_key_in(value, "$numberLong", SHAPE)?, SHAPE)?;
-            expect(int64_of(text.as_str()), SHAPE)
+            let text = expect_string(expect_single_key(value, "$numberLong", SHAPE_MESSAGE)?, SHAPE_MESSAGE)?;
+            expect(int64_of(text.as_str()), SHAPE_MESSAGE)
         }
     }
 }
 
 // What `$date` holds, as a moment.
 pub(crate) fn read_date(value: Value) -> Result<Scalar, Error>
-    ensures { Gives scalar_view result (date_read (view value)) }
+    ensures { IsReadResult scalar_view result (date_read (view value)) }
 {
     let millis = millis_in(value)?;
     Ok(Scalar::DateTime(DateTime::from_millis(millis)))
@@ -77,9 +77,9 @@ fn write_millis<S: Sink>(date: DateTime, out: &mut S) -> Result<S::Tree, AllocEr
     ensures written { IfOk result (λ t. S.wrote out.old (date_tree date) t out.new) }
     ensures before { S.before out.new ≡ S.before out.old }
 {
-    let key = begin("$date", out)?;
-    let millis = wrapped_numeral("$numberLong", date.timestamp_millis(), out)?;
-    end_one(key, millis, out)
+    let key = begin_object("$date", out)?;
+    let millis = write_numeral_object("$numberLong", date.timestamp_millis(), out)?;
+    end_object_of_one(key, millis, out)
 }
 
 fn write_relaxed<S: Sink>(alloc: Global, date: DateTime, out: &mut S) -> Result<S::Tree, AllocError>
@@ -89,7 +89,7 @@ fn write_relaxed<S: Sink>(alloc: Global, date: DateTime, out: &mut S) -> Result<
     let millis = date.timestamp_millis();
     if 0 <= millis && millis <= LAST_RELAXED {
         let readable = text(alloc, date)?;
-        wrapped_owned("$date", readable, out)
+        write_owned_text_object("$date", readable, out)
     } else {
         write_millis(date, out)
     }

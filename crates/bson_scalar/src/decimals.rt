@@ -3,20 +3,20 @@
 ghost use Rattle.std.specs.Prelude.{◌≡◌, IfOk};
 ghost use Rattle.serde_json.specs.View.{view};
 ghost use Rattle.bson_scalar.specs.Decimals.{decimal_tree};
-ghost use Rattle.bson_scalar.specs.Faults.{Gives};
+ghost use Rattle.bson_scalar.specs.Faults.{IsReadResult};
 ghost use Rattle.bson_scalar.specs.Reading.{decimal_pattern as decimal_in, decimal_read};
 ghost use Rattle.bson_scalar.specs.View.{scalar_view};
 
 use crate::error::Error;
 use crate::scalar::Scalar;
 use crate::sink::Sink;
-use crate::tree_parts::{expect, text_in};
-use crate::wrapped::wrapped_owned;
+use crate::tree_parts::{expect, expect_string};
+use crate::object_writer::write_owned_text_object;
 use bson_decimal::Decimal128;
 use serde_json::Value;
 use std::alloc::{AllocError, Global};
 
-const SHAPE: &str =
+const SHAPE_MESSAGE: &str =
     "`$numberDecimal` must be a string with a decimal that fits a Decimal128 exactly";
 
 // The number of bytes of the longest text: a sign, 34 digits, a point, `E`, and an exponent of a
@@ -32,10 +32,10 @@ fn decimal_of(text: &str) -> Option<Decimal128>
 
 // What `$numberDecimal` holds, as a decimal.
 pub(crate) fn read_decimal(value: Value) -> Result<Scalar, Error>
-    ensures { Gives scalar_view result (decimal_read (view value)) }
+    ensures { IsReadResult scalar_view result (decimal_read (view value)) }
 {
-    let text = text_in(value, SHAPE)?;
-    let decimal = expect(decimal_of(text.as_str()), SHAPE)?;
+    let text = expect_string(value, SHAPE_MESSAGE)?;
+    let decimal = expect(decimal_of(text.as_str()), SHAPE_MESSAGE)?;
     Ok(Scalar::Decimal128(decimal))
 }
 
@@ -50,5 +50,5 @@ pub(crate) fn write_decimal<S: Sink>(
 {
     let mut text = String::with_capacity(alloc, LONGEST_TEXT)?;
     write!(text, "{decimal}")?;
-    wrapped_owned("$numberDecimal", text, out)
+    write_owned_text_object("$numberDecimal", text, out)
 }

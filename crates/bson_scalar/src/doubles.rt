@@ -6,12 +6,12 @@ ghost use Rattle.bson_double.specs.FiniteDoubles.{is_finite};
 ghost use Rattle.bson_scalar.specs.Shortest.{finite_double_text};
 ghost use Rattle.serde_json.specs.View.{view, number_view};
 ghost use Rattle.bson_scalar.specs.Doubles as spec;
-ghost use Rattle.bson_scalar.specs.Faults.{Gives};
-ghost use Rattle.bson_scalar.specs.Ints.{narrowest};
+ghost use Rattle.bson_scalar.specs.Faults.{IsReadResult};
+ghost use Rattle.bson_scalar.specs.Ints.{narrowest_int};
 ghost use Rattle.bson_scalar.specs.Reading.{double_read_in, number_read_in};
-ghost use Rattle.bson_scalar.specs.Tokens.{Sends};
+ghost use Rattle.bson_scalar.specs.Tokens.{IsSinkResult};
 ghost use Rattle.bson_scalar.specs.View.{scalar_view};
-ghost use Rattle.bson_scalar.specs.Written.{double_writes_in, wrapped_double};
+ghost use Rattle.bson_scalar.specs.Written.{double_writes_in, special_double_tree};
 ghost use Rattle.bson_scalar.specs.declared.form.Doubles.TheVariants.{Special, Finite};
 ghost use Rattle.bson_scalar.specs.declared.form.Form.TheVariants.{Canonical, Relaxed};
 
@@ -19,23 +19,23 @@ use crate::error::Error;
 use crate::form::{Doubles, Form};
 use crate::scalar::Scalar;
 use crate::sink::Sink;
-use crate::tree_parts::{expect, text_in};
-use crate::wrapped::wrapped_text;
+use crate::tree_parts::{expect, expect_string};
+use crate::object_writer::write_text_object;
 use crate::write_error::WriteError;
 use serde_json::{Number, Value};
 use std::alloc::AllocError;
 
-const SHAPE: &str =
+const SHAPE_MESSAGE: &str =
     "`$numberDouble` must be `0.0`, `-0.0`, `Infinity`, `-Infinity`, `NaN` or `-NaN`";
 
-const FINITE_SHAPE: &str =
+const FINITE_SHAPE_MESSAGE: &str =
     "`$numberDouble` must be a decimal number whose nearest double is finite, \
     `Infinity`, `-Infinity`, `NaN` or `-NaN`";
 
 /// The message for a JSON number that is not an i64, with `Doubles::Special`.
-pub const NUMBER: &str = "not a 64-bit integer";
+pub const NUMBER_MESSAGE: &str = "not a 64-bit integer";
 
-const FINITE_NUMBER: &str = "a number is greater than any double";
+const FINITE_NUMBER_MESSAGE: &str = "a number is greater than any double";
 
 // The pattern of a text: of a NaN the quiet one of its sign with no payload.
 fn double_of(text: &str) -> Option<u64>
@@ -79,16 +79,16 @@ fn double_in(doubles: Doubles, text: &str) -> Option<u64>
 
 fn shape(doubles: Doubles) -> &'static str {
     match doubles {
-        Doubles::Special => SHAPE,
-        Doubles::Finite => FINITE_SHAPE,
+        Doubles::Special => SHAPE_MESSAGE,
+        Doubles::Finite => FINITE_SHAPE_MESSAGE,
     }
 }
 
 // What `$numberDouble` holds, as the pattern of a double.
 pub(crate) fn read_double(doubles: Doubles, value: Value) -> Result<Scalar, Error>
-    ensures { Gives scalar_view result (double_read_in doubles (view value)) }
+    ensures { IsReadResult scalar_view result (double_read_in doubles (view value)) }
 {
-    let text = text_in(value, shape(doubles))?;
+    let text = expect_string(value, shape(doubles))?;
     let pattern = expect(double_in(doubles, text.as_str()), shape(doubles))?;
     Ok(Scalar::Double(pattern))
 }
@@ -105,7 +105,7 @@ fn finite_number(number: &Number) -> Option<u64>
 }
 
 fn narrowest_number(number: i64) -> Scalar
-    ensures { scalar_view result ≡ narrowest number }
+    ensures { scalar_view result ≡ narrowest_int number }
 {
     if i32::MIN as i64 <= number && number <= i32::MAX as i64 {
         Scalar::Int32(number as i32)
@@ -122,14 +122,14 @@ fn narrowest_number(number: i64) -> Scalar
 /// - `DeserializationError` with `Doubles::Special`: the number is not an i64.
 /// - `DeserializationError` with `Doubles::Finite`: the double nearest to the number is not finite.
 pub fn read_number(doubles: Doubles, number: &Number) -> Result<Scalar, Error>
-    ensures { Gives scalar_view result (number_read_in doubles (number_view number.now)) }
+    ensures { IsReadResult scalar_view result (number_read_in doubles (number_view number.now)) }
 {
-    let whole = number.as_i64();
+    let as_integer = number.as_i64();
     match doubles {
-        Doubles::Special => Ok(narrowest_number(expect(whole, NUMBER)?)),
-        Doubles::Finite => match whole {
-            Some(whole) => Ok(narrowest_number(whole)),
-            None => Ok(Scalar::Double(expect(finite_number(number), FINITE_NUMBER)?)),
+        Doubles::Special => Ok(narrowest_number(expect(as_integer, NUMBER_MESSAGE)?)),
+        Doubles::Finite => match as_integer {
+            Some(as_integer) => Ok(narrowest_number(as_integer)),
+            None => Ok(Scalar::Double(expect(finite_number(number), FINITE_NUMBER_MESSAGE)?)),
         },
     }
 }
@@ -155,11 +155,11 @@ fn double_text(pattern: u64) -> Option<&'static str>
 }
 
 fn write_special<S: Sink>(pattern: u64, out: &mut S) -> Result<S::Tree, WriteError>
-    ensures written { Sends (λ d t. S.wrote out.old d t out.new) result (wrapped_double (spec.double_text pattern)) }
+    ensures written { IsSinkResult (λ d t. S.wrote out.old d t out.new) result (special_double_tree (spec.double_text pattern)) }
     ensures before { S.before out.new ≡ S.before out.old }
 {
     match double_text(pattern) {
-        Some(text) => Ok(wrapped_text("$numberDouble", text, out)?),
+        Some(text) => Ok(write_text_object("$numberDouble", text, out)?),
         None => Err(WriteError::FiniteDouble),
     }
 }
@@ -171,7 +171,7 @@ fn write_finite<S: Sink>(pattern: u64, out: &mut S) -> Result<S::Tree, AllocErro
         × S.wrote out.old (spec.double_tree s) t out.new) }
     ensures before { S.before out.new ≡ S.before out.old }
 {
-    wrapped_text(
+    write_text_object(
         "$numberDouble",
         bson_double::double_text(pattern).as_str(),
         out,
@@ -179,17 +179,17 @@ fn write_finite<S: Sink>(pattern: u64, out: &mut S) -> Result<S::Tree, AllocErro
 }
 
 fn write_canonical<S: Sink>(pattern: u64, out: &mut S) -> Result<S::Tree, WriteError>
-    ensures written { Sends (λ d t. S.wrote out.old d t out.new) result (double_writes_in Finite Canonical pattern) }
+    ensures written { IsSinkResult (λ d t. S.wrote out.old d t out.new) result (double_writes_in Finite Canonical pattern) }
     ensures before { S.before out.new ≡ S.before out.old }
 {
     match double_text(pattern) {
-        Some(text) => Ok(wrapped_text("$numberDouble", text, out)?),
+        Some(text) => Ok(write_text_object("$numberDouble", text, out)?),
         None => Ok(write_finite(pattern, out)?),
     }
 }
 
 fn write_relaxed<S: Sink>(pattern: u64, out: &mut S) -> Result<S::Tree, WriteError>
-    ensures written { Sends (λ d t. S.wrote out.old d t out.new) result (double_writes_in Finite Relaxed pattern) }
+    ensures written { IsSinkResult (λ d t. S.wrote out.old d t out.new) result (double_writes_in Finite Relaxed pattern) }
     ensures before { S.before out.new ≡ S.before out.old }
 {
     if bson_double::is_finite(pattern) {
@@ -208,7 +208,7 @@ pub(crate) fn write_double<S: Sink>(
     pattern: u64,
     out: &mut S,
 ) -> Result<S::Tree, WriteError>
-    ensures written { Sends (λ d t. S.wrote out.old d t out.new) result (double_writes_in doubles form pattern) }
+    ensures written { IsSinkResult (λ d t. S.wrote out.old d t out.new) result (double_writes_in doubles form pattern) }
     ensures before { S.before out.new ≡ S.before out.old }
 {
     match (doubles, form) {

@@ -6,7 +6,7 @@ ghost use Rattle.serde_json.specs.Data.{string};
 ghost use Rattle.serde_json.specs.View.{view};
 ghost use Rattle.bson_types.specs.DbPointer.{namespace_of, id_of as pointer_id};
 ghost use Rattle.bson_types.specs.ObjectIds.{IsObjectId};
-ghost use Rattle.bson_scalar.specs.Faults.{Gives};
+ghost use Rattle.bson_scalar.specs.Faults.{IsReadResult};
 ghost use Rattle.bson_scalar.specs.Ids.{oid_tree, pointer_tree};
 ghost use Rattle.bson_scalar.specs.Reading.{parsed_object_id, oid_read, pointer_read};
 ghost use Rattle.bson_scalar.specs.TreeParts.{object_of_two};
@@ -15,19 +15,19 @@ ghost use Rattle.bson_scalar.specs.View.{scalar_view};
 use crate::error::Error;
 use crate::scalar::Scalar;
 use crate::sink::Sink;
-use crate::tree_parts::{single_key_in, text_in, two_keys_in};
-use crate::wrapped::{begin, begin_second, end_one, end_two, wrapped_owned};
+use crate::tree_parts::{expect_single_key, expect_string, expect_two_keys};
+use crate::object_writer::{begin_object, begin_second_member, end_object_of_one, end_object_of_two, write_owned_text_object};
 use bson_types::db_pointer::DbPointer;
 use bson_types::oid::{self, ObjectId};
 use serde_json::Value;
 use std::alloc::{AllocError, Global};
 
-const POINTER_SHAPE: &str =
+const POINTER_MESSAGE: &str =
     "`$dbPointer` must have `$ref`, a string, and `$id`, an object with `$oid`";
 
 // The object id of a text, or `InvalidObjectId` with the fault that the text has.
 fn id_of(alloc: Global, text: &str) -> Result<ObjectId, Error>
-    ensures { Gives (λ id. id) result (parsed_object_id text.now) }
+    ensures { IsReadResult (λ id. id) result (parsed_object_id text.now) }
 {
     match ObjectId::parse_str(alloc, text) {
         Ok(id) => Ok(id),
@@ -38,20 +38,20 @@ fn id_of(alloc: Global, text: &str) -> Result<ObjectId, Error>
 
 // What `$oid` holds, as an object id.
 pub(crate) fn read_oid(alloc: Global, value: Value) -> Result<Scalar, Error>
-    ensures { Gives scalar_view result (oid_read (view value)) }
+    ensures { IsReadResult scalar_view result (oid_read (view value)) }
 {
-    let text = text_in(value, "`$oid` must be a string with an object id")?;
+    let text = expect_string(value, "`$oid` must be a string with an object id")?;
     Ok(Scalar::ObjectId(id_of(alloc, text.as_str())?))
 }
 
 // Reads the value at `$dbPointer`, as a pointer. The shape is tested first, so the text of the
 // object id is reported as the fault only if it alone is wrong.
 pub(crate) fn read_pointer(alloc: Global, value: Value) -> Result<Scalar, Error>
-    ensures { Gives scalar_view result (pointer_read (view value)) }
+    ensures { IsReadResult scalar_view result (pointer_read (view value)) }
 {
-    let (id, name) = two_keys_in(value, "$id", "$ref", POINTER_SHAPE)?;
-    let namespace = text_in(name, POINTER_SHAPE)?;
-    let text = text_in(single_key_in(id, "$oid", POINTER_SHAPE)?, POINTER_SHAPE)?;
+    let (id, name) = expect_two_keys(value, "$id", "$ref", POINTER_MESSAGE)?;
+    let namespace = expect_string(name, POINTER_MESSAGE)?;
+    let text = expect_string(expect_single_key(id, "$oid", POINTER_MESSAGE)?, POINTER_MESSAGE)?;
     let id = id_of(alloc, text.as_str())?;
     Ok(Scalar::DbPointer(DbPointer::new(namespace, id)))
 }
@@ -68,7 +68,7 @@ pub(crate) fn write_oid<S: Sink>(
 {
     // What the type says of the bytes.
     let _bytes = id.bytes();
-    wrapped_owned("$oid", id.to_hex(alloc)?, out)
+    write_owned_text_object("$oid", id.to_hex(alloc)?, out)
 }
 
 // What `$dbPointer` holds.
@@ -83,11 +83,11 @@ fn write_reference<S: Sink>(
     ensures before { S.before out.new ≡ S.before out.old }
     ensures ranged { OnOk result (IsObjectId id) }
 {
-    let key = begin("$id", out)?;
+    let key = begin_object("$id", out)?;
     let id = write_oid(alloc, id, out)?;
-    let next = begin_second(key, id, "$ref", out)?;
+    let next = begin_second_member(key, id, "$ref", out)?;
     let namespace = out.owned_text(namespace)?;
-    end_two(next, namespace, out)
+    end_object_of_two(next, namespace, out)
 }
 
 // Writes the tree of a pointer, in both forms.
@@ -102,7 +102,7 @@ pub(crate) fn write_pointer<S: Sink>(
     ensures ranged { OnOk result (IsObjectId (pointer_id pointer)) }
 {
     let (namespace, id) = pointer.into_parts();
-    let key = begin("$dbPointer", out)?;
+    let key = begin_object("$dbPointer", out)?;
     let reference = write_reference(alloc, namespace, id, out)?;
-    end_one(key, reference, out)
+    end_object_of_one(key, reference, out)
 }

@@ -2,7 +2,7 @@
 //! written as `{"$numberInt": "7"}`, and in the relaxed form as the number 7.
 ghost use Rattle.std.specs.Prelude.{◌≡◌, IfOk};
 ghost use Rattle.serde_json.specs.View.{view};
-ghost use Rattle.bson_scalar.specs.Faults.{Gives};
+ghost use Rattle.bson_scalar.specs.Faults.{IsReadResult};
 ghost use Rattle.bson_scalar.specs.Reading.{int_of, int32_read, int64_read};
 ghost use Rattle.bson_scalar.specs.Written.{int32_form, int64_form};
 ghost use Rattle.bson_scalar.specs.View.{scalar_view};
@@ -11,14 +11,14 @@ use crate::error::Error;
 use crate::form::Form;
 use crate::scalar::Scalar;
 use crate::sink::Sink;
-use crate::tree_parts::{expect, text_in};
-use crate::wrapped::wrapped_numeral;
+use crate::tree_parts::{expect, expect_string};
+use crate::object_writer::write_numeral_object;
 use serde_json::Value;
 use std::alloc::AllocError;
 
-const INT32_SHAPE: &str = "`$numberInt` must be a string with a 32-bit integer";
+const INT32_MESSAGE: &str = "`$numberInt` must be a string with a 32-bit integer";
 
-const INT64_SHAPE: &str = "`$numberLong` must be a string with a 64-bit integer";
+const INT64_MESSAGE: &str = "`$numberLong` must be a string with a 64-bit integer";
 
 // The number of a text: a sign or none, and digits, whose number is an i32.
 fn int32_of(text: &str) -> Option<i32>
@@ -36,19 +36,19 @@ pub(crate) fn int64_of(text: &str) -> Option<i64>
 
 // What `$numberInt` holds, as an Int32.
 pub(crate) fn read_int32(value: Value) -> Result<Scalar, Error>
-    ensures { Gives scalar_view result (int32_read (view value)) }
+    ensures { IsReadResult scalar_view result (int32_read (view value)) }
 {
-    let text = text_in(value, INT32_SHAPE)?;
-    let number = expect(int32_of(text.as_str()), INT32_SHAPE)?;
+    let text = expect_string(value, INT32_MESSAGE)?;
+    let number = expect(int32_of(text.as_str()), INT32_MESSAGE)?;
     Ok(Scalar::Int32(number))
 }
 
 // What `$numberLong` holds, as an Int64.
 pub(crate) fn read_int64(value: Value) -> Result<Scalar, Error>
-    ensures { Gives scalar_view result (int64_read (view value)) }
+    ensures { IsReadResult scalar_view result (int64_read (view value)) }
 {
-    let text = text_in(value, INT64_SHAPE)?;
-    let number = expect(int64_of(text.as_str()), INT64_SHAPE)?;
+    let text = expect_string(value, INT64_MESSAGE)?;
+    let number = expect(int64_of(text.as_str()), INT64_MESSAGE)?;
     Ok(Scalar::Int64(number))
 }
 
@@ -62,7 +62,7 @@ pub(crate) fn write_int32<S: Sink>(
     ensures before { S.before out.new ≡ S.before out.old }
 {
     match form {
-        Form::Canonical => wrapped_numeral("$numberInt", number as i64, out),
+        Form::Canonical => write_numeral_object("$numberInt", number as i64, out),
         Form::Relaxed => out.integer(number as i64),
     }
 }
@@ -77,7 +77,7 @@ pub(crate) fn write_int64<S: Sink>(
     ensures before { S.before out.new ≡ S.before out.old }
 {
     match form {
-        Form::Canonical => wrapped_numeral("$numberLong", number, out),
+        Form::Canonical => write_numeral_object("$numberLong", number, out),
         Form::Relaxed => out.integer(number),
     }
 }

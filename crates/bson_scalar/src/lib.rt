@@ -6,7 +6,7 @@
 //! In reading order: `scalar` (a scalar value) and `scalar_ref` (the same by reference, with
 //! equality, words for a hasher, texts and a copy), `form` (the two forms), `wrapper` (the table of
 //! wrapper keys), `error` and `write_error`; `tree_parts` (a string, an object of one key or two),
-//! `sink` (where a tree is written to: into memory, or onto a text) and `wrapped` (the same parts,
+//! `sink` (where a tree is written to: into memory, or onto a text) and `object_writer` (the same parts,
 //! written); a module for the wrappers of each subject, `ints`, `doubles`, `decimals`, `texts`,
 //! `regexes`, `ids`, `timestamps`, `dates`, `binaries`, `constants`; `read` and `write` over all of
 //! them; `code` (the keys of code with its scope); `key_hash` (hashes of keys); `laws`.
@@ -32,7 +32,7 @@ mod sink;
 mod texts;
 mod timestamps;
 mod tree_parts;
-mod wrapped;
+mod object_writer;
 pub mod wrapper;
 pub mod write;
 pub mod write_error;

@@ -1,7 +1,7 @@
 //! Reads an object of one wrapper key: the table of wrappers and what each holds.
 ghost use Rattle.serde_json.specs.View.{view};
-ghost use Rattle.bson_scalar.specs.Faults.{Gives};
-ghost use Rattle.bson_scalar.specs.Reading.{single_in, single_at_in};
+ghost use Rattle.bson_scalar.specs.Faults.{IsReadResult};
+ghost use Rattle.bson_scalar.specs.Reading.{wrapper_read_in, optional_wrapper_read_in};
 ghost use Rattle.bson_scalar.specs.Table.{wrapper_of};
 ghost use Rattle.bson_scalar.specs.View.{scalar_view};
 
@@ -35,7 +35,7 @@ pub fn read_wrapper(
     wrapper: Wrapper,
     value: Value,
 ) -> Result<Scalar, Error>
-    ensures { Gives scalar_view result (single_in doubles wrapper (view value)) }
+    ensures { IsReadResult scalar_view result (wrapper_read_in doubles wrapper (view value)) }
 {
     match wrapper {
         Wrapper::Oid => read_oid(alloc, value),
@@ -65,13 +65,13 @@ pub fn read_wrapper(
 /// - `DeserializationError`: the key is not a wrapper key, or its wrapper does not accept the value
 ///   for another reason.
 /// - `OutOfMemory`: a request for memory was refused.
-pub fn read_single_in(
+pub fn read_single_key_in(
     alloc: Global,
     doubles: Doubles,
     key: &str,
     value: Value,
 ) -> Result<Scalar, Error>
-    ensures { Gives scalar_view result (single_at_in doubles (wrapper_of key.now) (view value)) }
+    ensures { IsReadResult scalar_view result (optional_wrapper_read_in doubles (wrapper_of key.now) (view value)) }
 {
     match wrapper_named(key) {
         Some(wrapper) => read_wrapper(alloc, doubles, wrapper, value),

@@ -3,7 +3,7 @@
 ghost use Rattle.std.specs.Prelude.{◌≡◌, IfOk, string_bytes};
 ghost use Rattle.serde_json.specs.View.{view};
 ghost use Rattle.bson_types.specs.Regex.{sorted_text};
-ghost use Rattle.bson_scalar.specs.Faults.{Gives};
+ghost use Rattle.bson_scalar.specs.Faults.{IsReadResult};
 ghost use Rattle.bson_scalar.specs.Reading.{regex_read};
 ghost use Rattle.bson_scalar.specs.Regexes.{regex_tree};
 ghost use Rattle.bson_scalar.specs.View.{scalar_view};
@@ -11,21 +11,21 @@ ghost use Rattle.bson_scalar.specs.View.{scalar_view};
 use crate::error::Error;
 use crate::scalar::Scalar;
 use crate::sink::Sink;
-use crate::tree_parts::{text_in, two_keys_in};
-use crate::wrapped::{begin, end_one, two_texts};
+use crate::tree_parts::{expect_string, expect_two_keys};
+use crate::object_writer::{begin_object, end_object_of_one, write_two_texts_object};
 use bson_types::regex::{Regex, sort_characters};
 use serde_json::Value;
 use std::alloc::{AllocError, Global};
 
-const SHAPE: &str = "`$regularExpression` must have the strings `pattern` and `options`";
+const SHAPE_MESSAGE: &str = "`$regularExpression` must have the strings `pattern` and `options`";
 
 // What `$regularExpression` holds, as a regular expression with its options sorted.
 pub(crate) fn read_regex(alloc: Global, value: Value) -> Result<Scalar, Error>
-    ensures { Gives scalar_view result (regex_read (view value)) }
+    ensures { IsReadResult scalar_view result (regex_read (view value)) }
 {
-    let (options, pattern) = two_keys_in(value, "options", "pattern", SHAPE)?;
-    let options = text_in(options, SHAPE)?;
-    let pattern = text_in(pattern, SHAPE)?;
+    let (options, pattern) = expect_two_keys(value, "options", "pattern", SHAPE_MESSAGE)?;
+    let options = expect_string(options, SHAPE_MESSAGE)?;
+    let pattern = expect_string(pattern, SHAPE_MESSAGE)?;
     let options = sort_characters(alloc, options.as_str())?;
     Ok(Scalar::RegularExpression(Regex { pattern, options }))
 }
@@ -42,7 +42,7 @@ pub(crate) fn write_regex<S: Sink>(
 {
     let Regex { pattern, options } = regex;
     let ordered = sort_characters(alloc, options.as_str())?;
-    let key = begin("$regularExpression", out)?;
-    let texts = two_texts("options", ordered, "pattern", pattern, out)?;
-    end_one(key, texts, out)
+    let key = begin_object("$regularExpression", out)?;
+    let texts = write_two_texts_object("options", ordered, "pattern", pattern, out)?;
+    end_object_of_one(key, texts, out)
 }

@@ -2,7 +2,7 @@
 ghost use Rattle.std.specs.Prelude.{◌≡◌, ◌++◌, IfOk, codes};
 ghost use Rattle.std.specs.Fmt.{WritesOnOk};
 ghost use Rattle.bson_types.specs.declared.spec.ElementType.{ElementType};
-ghost use Rattle.bson_scalar.specs.Displayed.{sixteen_digits};
+ghost use Rattle.bson_scalar.specs.Displayed.{sixteen_hex_digits};
 ghost use Rattle.bson_scalar.specs.View.{scalar_of, scalar_view};
 
 use crate::scalar::Scalar;
@@ -133,12 +133,12 @@ impl<'a> Eq for ScalarRef<'a> {
 
 impl<'a> Hash for ScalarRef<'a> {
     ghost use Rattle.std.specs.Hash.{on_Alike, same_Alike};
-    ghost use Rattle.bson_scalar.specs.Feed.{scalar_words};
+    ghost use Rattle.bson_scalar.specs.HashInput.{scalar_hash_input};
     ghost use Rattle.bson_scalar.specs.SameLaws.{scalar_decides};
 
-    ghost hash_input = { λ x. scalar_words (scalar_of x) };
+    ghost hash_input = { λ x. scalar_hash_input (scalar_of x) };
 
-    ghost respects_eq = { (on_Alike scalar_of (same_Alike scalar_words scalar_decides)).fed };
+    ghost respects_eq = { (on_Alike scalar_of (same_Alike scalar_hash_input scalar_decides)).fed };
 
     fn hash<H: Hasher>(&self, state: &mut H) {
         match *self {
@@ -233,7 +233,7 @@ impl<'a> fmt::Debug for ScalarRef<'a> {
 
 // A double by its pattern of bits, in 16 hexadecimal digits.
 fn show_double<W: fmt::Write>(pattern: u64, f: &mut fmt::Formatter<W>) -> fmt::Result
-    ensures { WritesOnOk W.write_str_gives f.old result (codes "Double(0x" ++ sixteen_digits pattern
+    ensures { WritesOnOk W.write_str_gives f.old result (codes "Double(0x" ++ sixteen_hex_digits pattern
         ++ codes ")") f.new }
 {
     write!(f, "Double(0x{pattern:016x})")

@@ -5,7 +5,7 @@ ghost use Rattle.serde_json.specs.Data.{Data, null, boolean, number, string, obj
 ghost use Rattle.serde_json.specs.Data.{Members, no_members, put};
 ghost use Rattle.serde_json.specs.Find.{of_integer};
 ghost use Rattle.bson_double.specs.FiniteDoubles.{is_finite};
-ghost use Rattle.bson_scalar.specs.Tokens.{tokens_added};
+ghost use Rattle.bson_scalar.specs.Tokens.{with_last_member};
 ghost use Rattle.bson_scalar.specs.Written.{number_tree};
 
 use json::Writer;
@@ -31,11 +31,11 @@ pub(crate) trait Sink {
     ghost wrote: { Self → Data → Self.Tree → Self → Type 0 };
 
     // Between two states of the sink a map was begun, and these members were written in it.
-    ghost mapped: { Self → Members → Self.Map → Self → Type 0 };
+    ghost wrote_members: { Self → Members → Self.Map → Self → Type 0 };
 
     // Between two states of the sink a map was begun, and these members and then the key were
     // written in it.
-    ghost keyed: { Self → Members → List ℕ → Self.Key → Self → Type 0 };
+    ghost wrote_key: { Self → Members → List ℕ → Self.Key → Self → Type 0 };
 
     // Writes `null`.
     fn null(&mut self) -> Result<Self::Tree, AllocError>
@@ -80,27 +80,27 @@ pub(crate) trait Sink {
 
     // Begins a map.
     fn begin_map(&mut self) -> Result<Self::Map, AllocError>
-        ensures written { IfOk result (λ m. mapped self.old no_members m self.new) }
+        ensures written { IfOk result (λ m. wrote_members self.old no_members m self.new) }
         ensures before { before self.new ≡ before self.old };
 
     // Writes the next key of a map.
     fn key(&mut self, map: Self::Map, name: &str) -> Result<Self::Key, AllocError>
         ensures written { IfOk result (λ key. (start : Self) (ms : Members)
-            → mapped start ms map self.old → keyed start ms name.now key self.new) }
+            → wrote_members start ms map self.old → wrote_key start ms name.now key self.new) }
         ensures before { before self.new ≡ before self.old };
 
     // Puts the tree that was written under the key. The member is the last one where its key is
     // above all others.
     fn member(&mut self, key: Self::Key, tree: Self::Tree) -> Result<Self::Map, AllocError>
         ensures written { IfOk result (λ m. (start mid : Self) (ms : Members) (k : List ℕ) (d : Data)
-            → keyed start ms k key mid → wrote mid d tree self.old → put k d ms ≡ tokens_added ms k d
-            → mapped start (tokens_added ms k d) m self.new) }
+            → wrote_key start ms k key mid → wrote mid d tree self.old → put k d ms ≡ with_last_member ms k d
+            → wrote_members start (with_last_member ms k d) m self.new) }
         ensures before { before self.new ≡ before self.old };
 
     // Ends a map.
     fn end_map(&mut self, map: Self::Map) -> Result<Self::Tree, AllocError>
         ensures written { IfOk result (λ t. (start : Self) (ms : Members)
-            → mapped start ms map self.old → wrote start (object ms) t self.new) }
+            → wrote_members start ms map self.old → wrote start (object ms) t self.new) }
         ensures before { before self.new ≡ before self.old };
 }
 
@@ -131,9 +131,9 @@ impl Sink for Trees {
 
     ghost wrote = { λ old d t new. view t ≡ d };
 
-    ghost mapped = { λ old ms m new. members_view m.entries ≡ ms };
+    ghost wrote_members = { λ old ms m new. members_view m.entries ≡ ms };
 
-    ghost keyed = { λ old ms k key new. (members_view key.0.entries ≡ ms) × (string_bytes key.1 ≡ k) };
+    ghost wrote_key = { λ old ms k key new. (members_view key.0.entries ≡ ms) × (string_bytes key.1 ≡ k) };
 
     fn null(&mut self) -> Result<Value, AllocError> {
         Ok(Value::Null)
@@ -206,16 +206,16 @@ impl Sink for Writer {
 
     ghost use Rattle.std.specs.Prelude.{[], ◌∷◌, ◌++◌};
     ghost use Rattle.json.specs.Token.{begin_object, key};
-    ghost use Rattle.bson_scalar.specs.Tokens.{tokens_of, members_in_turn};
+    ghost use Rattle.bson_scalar.specs.Tokens.{tokens_of, members_as_tokens};
 
     ghost before = { λ writer. writer.before };
 
     ghost wrote = { λ old d t new. new.tokens ≡ old.tokens ++ tokens_of d };
 
-    ghost mapped = { λ old ms m new. new.tokens ≡ old.tokens ++ begin_object ∷ members_in_turn ms };
+    ghost wrote_members = { λ old ms m new. new.tokens ≡ old.tokens ++ begin_object ∷ members_as_tokens ms };
 
-    ghost keyed = { λ old ms k t new. new.tokens
-        ≡ old.tokens ++ begin_object ∷ (members_in_turn ms ++ key k ∷ []) };
+    ghost wrote_key = { λ old ms k t new. new.tokens
+        ≡ old.tokens ++ begin_object ∷ (members_as_tokens ms ++ key k ∷ []) };
 
     fn null(&mut self) -> Result<(), AllocError> {
         Writer::null(self)

@@ -1,7 +1,7 @@
 //! `$symbol`, and `$code` alone: a text. Read and written as `{"$symbol": "s"}`, `{"$code": "s"}`.
 ghost use Rattle.std.specs.Prelude.{◌≡◌, IfOk, string_bytes};
 ghost use Rattle.serde_json.specs.View.{view};
-ghost use Rattle.bson_scalar.specs.Faults.{Gives};
+ghost use Rattle.bson_scalar.specs.Faults.{IsReadResult};
 ghost use Rattle.bson_scalar.specs.Reading.{symbol_read, code_read};
 ghost use Rattle.bson_scalar.specs.Texts.{symbol_tree, code_tree};
 ghost use Rattle.bson_scalar.specs.View.{scalar_view};
@@ -9,23 +9,23 @@ ghost use Rattle.bson_scalar.specs.View.{scalar_view};
 use crate::error::Error;
 use crate::scalar::Scalar;
 use crate::sink::Sink;
-use crate::tree_parts::text_in;
-use crate::wrapped::wrapped_owned;
+use crate::tree_parts::expect_string;
+use crate::object_writer::write_owned_text_object;
 use serde_json::Value;
 use std::alloc::AllocError;
 
 // What `$symbol` holds, as a symbol.
 pub(crate) fn read_symbol(value: Value) -> Result<Scalar, Error>
-    ensures { Gives scalar_view result (symbol_read (view value)) }
+    ensures { IsReadResult scalar_view result (symbol_read (view value)) }
 {
-    Ok(Scalar::Symbol(text_in(value, "`$symbol` must be a string")?))
+    Ok(Scalar::Symbol(expect_string(value, "`$symbol` must be a string")?))
 }
 
 // Reads the value at `$code`, the only key of its object, as code without a scope.
 pub(crate) fn read_code(value: Value) -> Result<Scalar, Error>
-    ensures { Gives scalar_view result (code_read (view value)) }
+    ensures { IsReadResult scalar_view result (code_read (view value)) }
 {
-    Ok(Scalar::JavaScriptCode(text_in(value, "`$code` must be a string")?))
+    Ok(Scalar::JavaScriptCode(expect_string(value, "`$code` must be a string")?))
 }
 
 // Writes the tree of a symbol, in both forms.
@@ -33,7 +33,7 @@ pub(crate) fn write_symbol<S: Sink>(text: String, out: &mut S) -> Result<S::Tree
     ensures written { IfOk result (λ t. S.wrote out.old (symbol_tree (string_bytes text)) t out.new) }
     ensures before { S.before out.new ≡ S.before out.old }
 {
-    wrapped_owned("$symbol", text, out)
+    write_owned_text_object("$symbol", text, out)
 }
 
 // Writes the tree of code without a scope, in both forms.
@@ -41,5 +41,5 @@ pub(crate) fn write_code<S: Sink>(text: String, out: &mut S) -> Result<S::Tree, 
     ensures written { IfOk result (λ t. S.wrote out.old (code_tree (string_bytes text)) t out.new) }
     ensures before { S.before out.new ≡ S.before out.old }
 {
-    wrapped_owned("$code", text, out)
+    write_owned_text_object("$code", text, out)
 }

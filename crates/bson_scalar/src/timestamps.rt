@@ -2,7 +2,7 @@
 //! under that key.
 ghost use Rattle.std.specs.Prelude.{◌≡◌, ◌<◌, ◌^◌, IfOk, OnOk, codes};
 ghost use Rattle.serde_json.specs.View.{view};
-ghost use Rattle.bson_scalar.specs.Faults.{Gives};
+ghost use Rattle.bson_scalar.specs.Faults.{IsReadResult};
 ghost use Rattle.bson_scalar.specs.Reading.{timestamp_read};
 ghost use Rattle.bson_scalar.specs.TreeParts.{object_of_two, natural};
 ghost use Rattle.bson_scalar.specs.Timestamps.{timestamp_tree};
@@ -11,22 +11,22 @@ ghost use Rattle.bson_scalar.specs.View.{scalar_view};
 use crate::error::Error;
 use crate::scalar::Scalar;
 use crate::sink::Sink;
-use crate::tree_parts::{two_keys_in, u32_of};
-use crate::wrapped::{begin, begin_second, end_one, end_two};
+use crate::tree_parts::{expect_two_keys, u32_of};
+use crate::object_writer::{begin_object, begin_second_member, end_object_of_one, end_object_of_two};
 use bson_types::timestamp::Timestamp;
 use serde_json::Value;
 use std::alloc::AllocError;
 
-const SHAPE: &str = "`$timestamp` must have `t` and `i`, integers from 0 to 4294967295";
+const SHAPE_MESSAGE: &str = "`$timestamp` must have `t` and `i`, integers from 0 to 4294967295";
 
 // What `$timestamp` holds, as a timestamp: `t` is its time, `i` its increment.
 pub(crate) fn read_timestamp(value: Value) -> Result<Scalar, Error>
-    ensures { Gives scalar_view result (timestamp_read (view value)) }
+    ensures { IsReadResult scalar_view result (timestamp_read (view value)) }
 {
-    let (increment, time) = two_keys_in(value, "i", "t", SHAPE)?;
+    let (increment, time) = expect_two_keys(value, "i", "t", SHAPE_MESSAGE)?;
     match (u32_of(&time), u32_of(&increment)) {
         (Some(time), Some(increment)) => Ok(Scalar::Timestamp(Timestamp { time, increment })),
-        _ => Err(Error::DeserializationError { message: SHAPE }),
+        _ => Err(Error::DeserializationError { message: SHAPE_MESSAGE }),
     }
 }
 
@@ -36,11 +36,11 @@ fn write_times<S: Sink>(timestamp: Timestamp, out: &mut S) -> Result<S::Tree, Al
         (object_of_two (codes "i") (natural timestamp.increment) (codes "t") (natural timestamp.time)) t out.new) }
     ensures before { S.before out.new ≡ S.before out.old }
 {
-    let key = begin("i", out)?;
+    let key = begin_object("i", out)?;
     let increment = out.natural(timestamp.increment)?;
-    let next = begin_second(key, increment, "t", out)?;
+    let next = begin_second_member(key, increment, "t", out)?;
     let time = out.natural(timestamp.time)?;
-    end_two(next, time, out)
+    end_object_of_two(next, time, out)
 }
 
 // Writes the tree of a timestamp, in both forms.
@@ -52,7 +52,7 @@ pub(crate) fn write_timestamp<S: Sink>(
     ensures before { S.before out.new ≡ S.before out.old }
     ensures ranged { OnOk result ((timestamp.time < 2 ^ 32) × (timestamp.increment < 2 ^ 32)) }
 {
-    let key = begin("$timestamp", out)?;
+    let key = begin_object("$timestamp", out)?;
     let times = write_times(timestamp, out)?;
-    end_one(key, times, out)
+    end_object_of_one(key, times, out)
 }

@@ -5,16 +5,16 @@ ghost use Rattle.serde_json.specs.Find.{as_str};
 ghost use Rattle.serde_json.specs.Data.{object};
 ghost use Rattle.serde_json.specs.View.{view, members_view};
 ghost use Rattle.hex.specs.Hex.{IsBytes};
-ghost use Rattle.bson_scalar.specs.Faults.{Gives, or_wrong_shape};
+ghost use Rattle.bson_scalar.specs.Faults.{IsReadResult, or_wrong_shape};
 ghost use Rattle.bson_scalar.specs.Reading.{single_key_member, two_members};
-ghost use Rattle.bson_scalar.specs.TreeParts.{u32_at, whole};
+ghost use Rattle.bson_scalar.specs.TreeParts.{u32_at, i64_at};
 
 use crate::error::Error;
 use serde_json::{Map, Value};
 
 // The value, or `DeserializationError` with the message where there is none.
 pub(crate) fn expect<T: Drop>(value: Option<T>, message: &'static str) -> Result<T, Error>
-    ensures { Gives (λ x. x) result (or_wrong_shape value) }
+    ensures { IsReadResult (λ x. x) result (or_wrong_shape value) }
 {
     match value {
         Some(value) => Ok(value),
@@ -23,8 +23,8 @@ pub(crate) fn expect<T: Drop>(value: Option<T>, message: &'static str) -> Result
 }
 
 // The text that a tree is, moved out of it.
-pub(crate) fn text_in(value: Value, message: &'static str) -> Result<String, Error>
-    ensures { Gives string_bytes result (or_wrong_shape (as_str (view value))) }
+pub(crate) fn expect_string(value: Value, message: &'static str) -> Result<String, Error>
+    ensures { IsReadResult string_bytes result (or_wrong_shape (as_str (view value))) }
 {
     match value {
         Value::String(text) => Ok(text),
@@ -33,27 +33,27 @@ pub(crate) fn text_in(value: Value, message: &'static str) -> Result<String, Err
 }
 
 // What an object of this key alone holds.
-pub(crate) fn single_key_in(value: Value, key: &str, message: &'static str) -> Result<Value, Error>
-    ensures { Gives view result (or_wrong_shape (single_key_member key.now (view value))) }
+pub(crate) fn expect_single_key(value: Value, key: &str, message: &'static str) -> Result<Value, Error>
+    ensures { IsReadResult view result (or_wrong_shape (single_key_member key.now (view value))) }
 {
     match single_key_of(value, key) {
-        Some(held) => Ok(held),
+        Some(content) => Ok(content),
         None => Err(Error::DeserializationError { message }),
     }
 }
 
 // What an object of just these two keys holds, of which `first` is the lesser.
-pub(crate) fn two_keys_in(
+pub(crate) fn expect_two_keys(
     value: Value,
     first: &str,
     second: &str,
     message: &'static str,
 ) -> Result<(Value, Value), Error>
-    ensures { Gives (λ p. (view p.0, view p.1)) result
+    ensures { IsReadResult (λ p. (view p.0, view p.1)) result
         (or_wrong_shape (two_members first.now second.now (view value))) }
 {
     match two_keys_of(value, first, second) {
-        Some(held) => Ok(held),
+        Some(content) => Ok(content),
         None => Err(Error::DeserializationError { message }),
     }
 }
@@ -64,7 +64,7 @@ fn are_keys(key: &str, other: &str, first: &str, second: &str) -> bool
     key == first && other == second
 }
 
-fn pair_of(mut members: Map<String, Value>, first: &str, second: &str) -> Option<(Value, Value)>
+fn two_member_values(mut members: Map<String, Value>, first: &str, second: &str) -> Option<(Value, Value)>
     ensures { option_map (λ p. (view p.0, view p.1)) result
         ≡ two_members first.now second.now (object (members_view members.entries)) }
 {
@@ -84,16 +84,16 @@ fn two_keys_of(value: Value, first: &str, second: &str) -> Option<(Value, Value)
     ensures { option_map (λ p. (view p.0, view p.1)) result ≡ two_members first.now second.now (view value) }
 {
     match value {
-        Value::Object(members) => pair_of(members, first, second),
+        Value::Object(members) => two_member_values(members, first, second),
         _ => None,
     }
 }
 
-fn only_of(mut held: Map<String, Value>, name: &str) -> Option<Value>
-    ensures { option_map view result ≡ single_key_member name.now (object (members_view held.entries)) }
+fn only_member_value(mut content: Map<String, Value>, name: &str) -> Option<Value>
+    ensures { option_map view result ≡ single_key_member name.now (object (members_view content.entries)) }
 {
-    let (key, value) = held.pop_first()?;
-    if !held.is_empty() {
+    let (key, value) = content.pop_first()?;
+    if !content.is_empty() {
         return None;
     }
     if key.as_str() == name {
@@ -107,14 +107,14 @@ fn single_key_of(value: Value, name: &str) -> Option<Value>
     ensures { option_map view result ≡ single_key_member name.now (view value) }
 {
     match value {
-        Value::Object(members) => only_of(members, name),
+        Value::Object(members) => only_member_value(members, name),
         _ => None,
     }
 }
 
 // The integer that a tree is, where it is an i64.
-pub(crate) fn whole_of(value: &Value) -> Option<i64>
-    ensures { result ≡ whole (view value.now) }
+pub(crate) fn i64_of(value: &Value) -> Option<i64>
+    ensures { result ≡ i64_at (view value.now) }
 {
     value.as_i64()
 }
@@ -123,7 +123,7 @@ pub(crate) fn whole_of(value: &Value) -> Option<i64>
 pub(crate) fn u32_of(value: &Value) -> Option<u32>
     ensures { result ≡ u32_at (view value.now) }
 {
-    match whole_of(value) {
+    match i64_of(value) {
         Some(z) => if 0 <= z && z <= u32::MAX as i64 {
             Some(z as u32)
         } else {

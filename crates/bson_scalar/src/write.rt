@@ -5,7 +5,7 @@ ghost use Rattle.serde_json.specs.View.{view};
 ghost use Rattle.bson_types.specs.BinarySubtypes.{subtype_byte};
 ghost use Rattle.bson_scalar.specs.Binaries.{binary_tree};
 ghost use Rattle.bson_scalar.specs.Normal.{ScalarInRange};
-ghost use Rattle.bson_scalar.specs.Tokens.{tokens_of, Sends, Puts};
+ghost use Rattle.bson_scalar.specs.Tokens.{tokens_of, IsSinkResult, Puts};
 ghost use Rattle.bson_scalar.specs.View.{scalar_view};
 ghost use Rattle.bson_scalar.specs.Written.{Writes, writes_scalar_in};
 
@@ -40,7 +40,7 @@ fn write_to<S: Sink>(
     value: Scalar,
     out: &mut S,
 ) -> Result<S::Tree, WriteError>
-    ensures written { Sends (λ d t. S.wrote out.old d t out.new) result (writes_scalar_in doubles form (scalar_view value)) }
+    ensures written { IsSinkResult (λ d t. S.wrote out.old d t out.new) result (writes_scalar_in doubles form (scalar_view value)) }
     ensures before { S.before out.new ≡ S.before out.old }
     ensures ranged { OnOk result (ScalarInRange (scalar_view value)) }
 {

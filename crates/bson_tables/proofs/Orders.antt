@@ -20,7 +20,7 @@ use Rattle.bson_scalar.specs.declared.form.Form.{Form}
 use Rattle.bson_scalar.specs.declared.form.Form.TheVariants.{Canonical, Relaxed}
 use Rattle.bson_model.specs.Normal.{normal_form}
 use Rattle.bson_model.specs.Value.{Value, scalar, code_scope, array, document, no_values, value, no_pairs, pair}
-use Rattle.bson_model.specs.Kept.{kept, read_kept}
+use Rattle.bson_model.specs.OrderedTrees.{kept, read_in_order}
 use Rattle.bson_model.specs.OrderedMeans.{MeansInOrder}
 use Rattle.bson_model.specs.OrderedReading.{reads_in_order}
 use Rattle.bson_model.specs.OrderedTexts.{HasMeaningInOrder}
@@ -42,14 +42,14 @@ double_key : kept (json.object
     ≡ Some (b_then_a (tree.boolean false) (tree.boolean true))
 double_key = refl
 
-double_key_of_text : read_kept (codes "{\"b\":null,\"a\":true,\"b\":false}")
+double_key_of_text : read_in_order (codes "{\"b\":null,\"a\":true,\"b\":false}")
     ≡ Some (b_then_a (tree.boolean false) (tree.boolean true))
 unfolding json.value Rattle.json.specs.Lex.punctuate Rattle.json.specs.Lex.lex Rattle.json.specs.Text.content
     Rattle.json.specs.Word.word
 double_key_of_text = refl
 
 -- at each depth
-double_key_within : read_kept (codes "{\"z\":[{\"b\":null,\"a\":true,\"b\":{\"y\":true,\"x\":null}}]}")
+double_key_within : read_in_order (codes "{\"z\":[{\"b\":null,\"a\":true,\"b\":{\"y\":true,\"x\":null}}]}")
     ≡ Some (object_of_one (codes "z") (tree.array (item (b_then_a
     (object_of_two (codes "y") (tree.boolean true) (codes "x") tree.null) (tree.boolean true)) no_items)))
 unfolding json.value Rattle.json.specs.Lex.punctuate Rattle.json.specs.Lex.lex Rattle.json.specs.Text.content
@@ -57,7 +57,7 @@ unfolding json.value Rattle.json.specs.Lex.punctuate Rattle.json.specs.Lex.lex R
 double_key_within = refl
 
 -- a wrapper's key twice is that wrapper, of its last value
-double_wrapper : read_kept (codes "{\"$symbol\":\"a\",\"$symbol\":\"b\"}")
+double_wrapper : read_in_order (codes "{\"$symbol\":\"a\",\"$symbol\":\"b\"}")
     ≡ Some (object_of_one (codes "$symbol") (tree.string (codes "b")))
 unfolding json.value Rattle.json.specs.Lex.punctuate Rattle.json.specs.Lex.lex Rattle.json.specs.Text.content
     Rattle.json.specs.Word.word

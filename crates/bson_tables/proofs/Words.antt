@@ -4,7 +4,7 @@ use Rattle.std.proofs.Common.{◌≡◌, [], ◌∷◌, pos, true, refl}
 use Rattle.std.specs.Prelude.{codes}
 use Rattle.std.specs.Hash.{le_bytes}
 use Rattle.bson_scalar.specs.Scalar as kind
-use Rattle.bson_model.specs.Feed.{feed}
+use Rattle.bson_model.specs.HashInput.{feed}
 use Rattle.bson_model.specs.Value as model
 
 list_words : feed

@@ -14,8 +14,8 @@ use Rattle.serde_json.specs.Data.{Data, no_members}
 use Rattle.serde_json.specs.Data as tree
 use Rattle.serde_json.specs.Find.{as_str}
 use Rattle.serde_json.specs.Read.{of_json, converted, number_of}
-use Rattle.bson_scalar.specs.Faults.{Fault, Fails, wrong_shape}
-use Rattle.bson_scalar.specs.Reading.{number_read_in, single_in}
+use Rattle.bson_scalar.specs.Faults.{Fault, IsReadError, wrong_shape}
+use Rattle.bson_scalar.specs.Reading.{number_read_in, wrapper_read_in}
 use Rattle.bson_scalar.specs.Table.{wrapper_of}
 use Rattle.bson_scalar.specs.declared.error.Error.{Error as ReadError}
 use Rattle.bson_scalar.specs.declared.error.Error.TheVariants as read_error
@@ -23,7 +23,7 @@ use Rattle.bson_scalar.specs.declared.form.Doubles.{Doubles}
 use Rattle.bson_scalar.specs.declared.wrapper.Wrapper.{Wrapper}
 use Rattle.bson_model.specs.Value as model
 use Rattle.bson_model.specs.Value.{Pairs}
-use Rattle.bson_model.specs.Kept.{kept_items, kept_members, unordered}
+use Rattle.bson_model.specs.OrderedTrees.{kept_items, kept_members, tree_sorted_by_key}
 use Rattle.bson_model.specs.OrderedReading.{reads_in_order, members_in_order, scope_in_order}
 use Rattle.bson_model.proofs.OfferedInOrder.{forgotten}
 use Rattle.bson_tokens.specs.Held.{IsHeldAs}
@@ -70,8 +70,8 @@ module _ (D : Doubles) (L S : Type 0) where
       let g = then_parsed (json.member k) (members (value depth) (length ts)) (value depth ts) ms r is in
       let both = subst (λ x. Once x × IsMeaningful D (json.object x)) g.5 d in
       let t = kept_first D k g.0 g.2 both.0 both.1 in
-      let one : of_json g.0 ≡ Some (unordered t.0) = forgotten g.0 ∙ ap (option_map unordered) t.1 in
-      let there : converted of_json (value depth ts) ≡ Some (unordered t.0, g.1) =
+      let one : of_json g.0 ≡ Some (tree_sorted_by_key t.0) = forgotten g.0 ∙ ap (option_map tree_sorted_by_key) t.1 in
+      let there : converted of_json (value depth ts) ≡ Some (tree_sorted_by_key t.0, g.1) =
       ap (converted of_json) g.3 ∙ ap (option_map (λ x. (x, g.1))) one in
       let none : converted of_json (value depth ts) ≡ None = broken refl in cc
 
@@ -84,7 +84,7 @@ module _ (D : Doubles) (L S : Type 0) where
 
   alone_denied : (f : Fault) (depth : ℕ) (k : List ℕ) (w : Wrapper) (ts r s : List Token) (held : Data)
       → wrapper_of k ≡ Some w → IsHeldAs (converted of_json (value depth ts)) held r → read_key r ≡ Some (None, s)
-      → single_in D w held ≡ Err f → ObjectDenied D L S stop.Syntax (from_key depth (Some k) ts)
+      → wrapper_read_in D w held ≡ Err f → ObjectDenied D L S stop.Syntax (from_key depth (Some k) ts)
   alone_denied f depth k w ts r s held named read end wrong ms rest is d =
       let h = held_is depth ts r held read in
       let j = h.0 in
@@ -93,12 +93,12 @@ module _ (D : Doubles) (L S : Type 0) where
       let both = subst (λ x. Once x × IsMeaningful D (json.object x)) (a.2 ∙ ap (json.member k j) none) d in
       let m = alone_means D k w j named both.0 both.1 in
       let same : m.0 ≡ h.2 = same_Some m.0 h.2 (sym m.2 ∙ h.3) in
-      let reads : single_in D w held ≡ Ok m.1 =
-      h.4 D (Some w) ∙ subst (λ t. single_in D w (unordered t) ≡ Ok m.1) same m.3 in cc
+      let reads : wrapper_read_in D w held ≡ Ok m.1 =
+      h.4 D (Some w) ∙ subst (λ t. wrapper_read_in D w (tree_sorted_by_key t) ≡ Ok m.1) same m.3 in cc
 
   pub scalar_denied : (cause : ReadError) (depth : ℕ) (k : List ℕ) (w : Wrapper) (ts r s : List Token) (held : Data)
       → wrapper_of k ≡ Some w → IsHeldAs (converted of_json (value depth ts)) held r → read_key r ≡ Some (None, s)
-      → Fails cause (single_in D w held) → ObjectDenied D L S (read_stop cause) (from_key depth (Some k) ts)
+      → IsReadError cause (wrapper_read_in D w held) → ObjectDenied D L S (read_stop cause) (from_key depth (Some k) ts)
   scalar_denied read_error.OutOfMemory depth k w ts r s held named read end wrong = λ ms rest is d. d
   scalar_denied (read_error.DeserializationError m) depth k w ts r s held named read end wrong =
       alone_denied _ depth k w ts r s held named read end wrong
@@ -142,7 +142,7 @@ module _ (D : Doubles) (L S : Type 0) where
       let both = subst (λ x. Once x × IsMeaningful D (json.object x)) g.5 d in
       let c = two_means D k l w h.0 g.0 g.2 named both.0 both.1 in
       let same : c.code ≡ h.2 = same_Some c.code h.2 (sym c.code_kept ∙ h.3) in
-      let text : as_str held ≡ Some c.text = h.5 ∙ subst (λ t. as_str (unordered t) ≡ Some c.text) same c.code_text in cc
+      let text : as_str held ≡ Some c.text = h.5 ∙ subst (λ t. as_str (tree_sorted_by_key t) ≡ Some c.text) same c.code_text in cc
 
   pub code_denied : (e : Stop) (depth : ℕ) (k l : List ℕ) (w : Wrapper) (ts r q : List Token) (held : Data)
       → wrapper_of k ≡ Some w → IsHeldAs (converted of_json (value depth ts)) held r → read_key r ≡ Some (Some l, q)

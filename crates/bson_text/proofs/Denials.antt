@@ -14,14 +14,14 @@ use Rattle.serde_json.specs.Data as tree
 use Rattle.bson_scalar.specs.Faults.{Fault, ◌>>=◌}
 use Rattle.bson_scalar.proofs.Offered.{scalar_form, scalar_from}
 use Rattle.bson_scalar.specs.Normal.{writable_scalar_in}
-use Rattle.bson_scalar.specs.Reading.{number_read_in, single_at_in, single_in}
+use Rattle.bson_scalar.specs.Reading.{number_read_in, optional_wrapper_read_in, wrapper_read_in}
 use Rattle.bson_scalar.specs.Scalar.{Scalar}
 use Rattle.bson_scalar.specs.Table.{wrapper_of, has_wrapper}
 use Rattle.bson_scalar.specs.declared.form.Doubles.{Doubles}
 use Rattle.bson_scalar.specs.declared.wrapper.Wrapper.{Wrapper}
 use Rattle.bson_model.specs.Value as model
 use Rattle.bson_model.specs.Value.{Value, Pairs, pair}
-use Rattle.bson_model.specs.Kept.{kept, kept_items}
+use Rattle.bson_model.specs.OrderedTrees.{kept, kept_items}
 use Rattle.bson_model.specs.OrderedReading.{reads_in_order, items_in_order, members_in_order}
 use Rattle.bson_text.specs.Walked.{keys_of}
 use Rattle.bson_text.proofs.Becoming.{lacks_by_writer}
@@ -49,10 +49,10 @@ pub number_written : (D : Doubles) (n : Num) (x : Scalar) → number_read_in D n
 number_written D n x read = (scalar_form D (tree.number n) x (scalar_from D (tree.number n) x read)).0
 
 pub wrapper_written : (D : Doubles) (k : List ℕ) (w : Wrapper) (d : Data) (x : Scalar) → wrapper_of k ≡ Some w
-    → single_in D w d ≡ Ok x → writable_scalar_in D x ≡ true
+    → wrapper_read_in D w d ≡ Ok x → writable_scalar_in D x ≡ true
 wrapper_written D k w d x named read =
     let t = object (member k d no_members) in
-    (scalar_form D t x (scalar_from D t x (subst (λ o. single_at_in D o d ≡ Ok x) (sym named) read))).0
+    (scalar_form D t x (scalar_from D t x (subst (λ o. optional_wrapper_read_in D o d ≡ Ok x) (sym named) read))).0
 
 pub none_lacks : {X : Type 0} (o : Option (X × List Token)) (Is : X → List Token → Type 0) → o ≡ None → Lacks o Is
 none_lacks o Is none x r is h = cc

@@ -21,7 +21,7 @@ use Rattle.bson_model.specs.Reading.{reads_in}
 use Rattle.bson_model.specs.Texts.{IsBelow, Ascends}
 use Rattle.bson_model.specs.Value.{Value}
 use Rattle.bson_model.proofs.Offered.{flipped, means_to_in}
-use Rattle.bson_model.specs.Kept.{kept, unordered}
+use Rattle.bson_model.specs.OrderedTrees.{kept, tree_sorted_by_key}
 use Rattle.bson_model.specs.OrderedReading.{reads_in_order}
 use Rattle.bson_model.proofs.OfferedInOrder.{forgotten, forgets, means_from, joined, joined_again, joined_none}
 use Rattle.bson_tree.specs.Place.{PathSegment, key, element, IsReason, FaultAtIn, HasValueIn}
@@ -66,9 +66,9 @@ module _ (D : Doubles) where
   pub sound : (j : json.Json) (t0 t : Data) (v : Value) → kept j ≡ Some t0 → reads_in_order D t0 ≡ Ok v
       → of_json j ≡ Some t → found D t ≡ None
   sound j t0 t v is reads of =
-      let same : unordered t0 ≡ t = same_Some (unordered t0) t (sym (forgotten j ∙ ap (option_map unordered) is) ∙ of) in
+      let same : tree_sorted_by_key t0 ≡ t = same_Some (tree_sorted_by_key t0) t (sym (forgotten j ∙ ap (option_map tree_sorted_by_key) is) ∙ of) in
       let m = means_to_in D (forgets D (means_from D t0 v reads)) in
-      subst (λ x. found D x ≡ None) same (none_at (unordered t0) _ (found D (unordered t0)) m refl (is_found D (unordered t0)))
+      subst (λ x. found D x ≡ None) same (none_at (tree_sorted_by_key t0) _ (found D (tree_sorted_by_key t0)) m refl (is_found D (tree_sorted_by_key t0)))
 
 -- ---- arrays
 

@@ -9,7 +9,7 @@ use Rattle.json.specs.Strict.{AreDistinct, keys}
 use Rattle.serde_json.specs.Data.{Data, Members, no_members, member, object}
 use Rattle.serde_json.specs.Find.{as_str}
 use Rattle.bson_scalar.specs.Faults.{Fault, wrong_shape, ◌>>=◌, or_wrong_shape}
-use Rattle.bson_scalar.specs.Reading.{single_at_in, single_in, on_text}
+use Rattle.bson_scalar.specs.Reading.{optional_wrapper_read_in, wrapper_read_in, on_text}
 use Rattle.bson_scalar.specs.Scalar.{Scalar}
 use Rattle.bson_scalar.specs.Table.{wrapper_of, has_wrapper}
 use Rattle.bson_scalar.specs.declared.form.Doubles.{Doubles}
@@ -17,11 +17,11 @@ use Rattle.bson_scalar.specs.declared.wrapper.Wrapper.{Wrapper}
 use Rattle.bson_model.specs.Reading.{code_at, scalar_value, scope_value}
 use Rattle.bson_model.specs.Value as model
 use Rattle.bson_model.specs.Value.{Value, Pairs}
-use Rattle.bson_model.specs.Kept.{kept, kept_members, put_kept, unordered, has_key, KeysDiffer}
+use Rattle.bson_model.specs.OrderedTrees.{kept, kept_members, put_in_place, tree_sorted_by_key, has_key, KeysDiffer}
 use Rattle.bson_model.specs.OrderedReading.{reads_in_order, members_in_order, wrapper_in_order, scope_in_order}
 use Rattle.bson_model.proofs.OfferedInOrder.{joined, joined_again, joined_none, put_last}
 use Rattle.bson_text.proofs.Differ.{Differ, differ, stands}
-use Rattle.bson_text.proofs.Members.{put_each}
+use Rattle.bson_text.proofs.Members.{insert_each}
 use Rattle.bson_text.specs.Exact.{as_they_stand, IsMeaningful, MembersMeanSome}
 use Rattle.bson_text.specs.Refused.{scope_first, MembersCodeFirst}
 use Rattle.bson_text.proofs.Denials.{split_kept, was_read, mapped, Once}
@@ -40,11 +40,11 @@ kept_apart (json.member k j js) ts is apart =
     let a = split_kept (member k) (kept j) (as_they_stand js) ts is in
     subst KeysDiffer (sym a.4) (same_has k js a.1 a.3 ∙ apart.0, kept_apart js a.1 a.3 apart.1)
 
-put_in_turn : (ms found : Members) → KeysDiffer (joined found ms) → put_each ms found ≡ joined found ms
+put_in_turn : (ms found : Members) → KeysDiffer (joined found ms) → insert_each ms found ≡ joined found ms
 put_in_turn no_members found h = sym (joined_none found)
 put_in_turn (member k d ms) found h =
     let again = joined_again found k d ms in
-    ap (put_each ms) (put_last found k d ms h)
+    ap (insert_each ms) (put_last found k d ms h)
     ∙ put_in_turn ms (joined found (member k d no_members)) (subst KeysDiffer (sym again) h) ∙ again
 
 and_some : {A B : Type 0} (f : A → Option B) (x : Option A) (b : B) → option_and_then f x ≡ Some b
@@ -57,11 +57,11 @@ join_kept : {A B C : Type 0} (f : A → B → C) (x : Option A) (y : Option B) (
 join_kept f x y a b h g = rw (h, g) refl
 
 stand : (js : json.Members) (found all : Members) → kept_members js found ≡ Some all
-    → (ms : Members) × (as_they_stand js ≡ Some ms) × (all ≡ put_each ms found)
+    → (ms : Members) × (as_they_stand js ≡ Some ms) × (all ≡ insert_each ms found)
 stand json.no_members found all is = (no_members, refl, sym (same_Some found all is))
 stand (json.member k j js) found all is =
-    let a = and_some (λ d. kept_members js (put_kept k d found)) (kept j) all is in
-    let g = stand js (put_kept k a.0 found) all a.2 in
+    let a = and_some (λ d. kept_members js (put_in_place k d found)) (kept j) all is in
+    let g = stand js (put_in_place k a.0 found) all a.2 in
     (member k a.0 g.0, join_kept (member k) (kept j) (as_they_stand js) a.0 g.0 a.1 g.1, g.2)
 
 pub kept_stands : (js : json.Members) (all : Members) → AreDistinct (keys js) → kept_members js no_members ≡ Some all
@@ -124,7 +124,7 @@ module _ (D : Doubles) where
 
   begins_scope : (b : Bool) (k l : List ℕ) (d e : Data) (v : Value) → bytes_eq k (codes "$scope") ≡ b
       → bytes_eq k (codes "$code") ≡ false → (bytes_eq k (codes "$scope") && bytes_eq l (codes "$code")) ≡ false
-      → cond b (code_at l (unordered e) k (scope_in_order D d)) (code_at k (unordered d) l (scope_in_order D e)) ≡ Ok v → ⊥
+      → cond b (code_at l (tree_sorted_by_key e) k (scope_in_order D d)) (code_at k (tree_sorted_by_key d) l (scope_in_order D e)) ≡ Ok v → ⊥
   begins_scope true k l d e v is plain first means =
       never_code (bytes_eq l (codes "$code")) (bytes_eq k (codes "$scope")) _ v
       (turned_and (bytes_eq l (codes "$code")) (bytes_eq k (codes "$scope")) first) means
@@ -146,8 +146,8 @@ module _ (D : Doubles) where
       → as_they_stand js ≡ Some ts → wrapper_of k ≡ None → scope_first (json.member k j js) ≡ false
       → wrapper_in_order D (member k d ts) ≡ Ok v → ⊥
   no_wrapper k j js d no_members v is plain first means =
-      let never : scalar_value (single_at_in D None (unordered d)) ≡ Ok v =
-      subst (λ w. scalar_value (single_at_in D w (unordered d)) ≡ Ok v) plain means in
+      let never : scalar_value (optional_wrapper_read_in D None (tree_sorted_by_key d)) ≡ Ok v =
+      subst (λ w. scalar_value (optional_wrapper_read_in D w (tree_sorted_by_key d)) ≡ Ok v) plain means in
       cc
   no_wrapper k j js d (member l e no_members) v is plain first means =
       begins_scope (bytes_eq k (codes "$scope")) k l d e v refl (no_code k plain)
@@ -209,13 +209,13 @@ module _ (D : Doubles) where
 
   pub alone_means : (k : List ℕ) (w : Wrapper) (j : json.Json) → wrapper_of k ≡ Some w
       → Once (json.member k j json.no_members) → IsMeaningful D (json.object (json.member k j json.no_members))
-      → (d : Data) × (x : Scalar) × (kept j ≡ Some d) × (single_in D w (unordered d) ≡ Ok x)
+      → (d : Data) × (x : Scalar) × (kept j ≡ Some d) × (wrapper_read_in D w (tree_sorted_by_key d) ≡ Ok x)
   alone_means k w j named u means =
       let g = wrapper_means k w j json.no_members named u means in
       let none = same_Some no_members g.1 g.4 in
       let read = subst (λ ts. wrapper_in_order D (member k g.0 ts) ≡ Ok g.2) (sym none) g.5 in
-      let x = scalar_read (single_at_in D (wrapper_of k) (unordered g.0)) g.2 read in
-      (g.0, x.0, g.3, subst (λ o. single_at_in D o (unordered g.0) ≡ Ok x.0) named x.1)
+      let x = scalar_read (optional_wrapper_read_in D (wrapper_of k) (tree_sorted_by_key g.0)) g.2 read in
+      (g.0, x.0, g.3, subst (λ o. optional_wrapper_read_in D o (tree_sorted_by_key g.0) ≡ Ok x.0) named x.1)
 
   -- code at the two keys
   code_read : (b c : Bool) (d : Data) (scope : Result (Option Pairs) Fault) (v : Value)
@@ -233,11 +233,11 @@ module _ (D : Doubles) where
   text_read (Some s) (Ok ps) v h = (s, refl, ps, refl)
 
   two_at : (k l : List ℕ) (d e : Data) (v : Value) → bytes_eq k (codes "$scope") ≡ false
-      → cond (bytes_eq k (codes "$scope")) (code_at l (unordered e) k (scope_in_order D d))
-      (code_at k (unordered d) l (scope_in_order D e)) ≡ Ok v → code_at k (unordered d) l (scope_in_order D e) ≡ Ok v
+      → cond (bytes_eq k (codes "$scope")) (code_at l (tree_sorted_by_key e) k (scope_in_order D d))
+      (code_at k (tree_sorted_by_key d) l (scope_in_order D e)) ≡ Ok v → code_at k (tree_sorted_by_key d) l (scope_in_order D e) ≡ Ok v
   two_at k l d e v apart h =
-      subst (λ b. cond b (code_at l (unordered e) k (scope_in_order D d))
-      (code_at k (unordered d) l (scope_in_order D e)) ≡ Ok v) apart h
+      subst (λ b. cond b (code_at l (tree_sorted_by_key e) k (scope_in_order D d))
+      (code_at k (tree_sorted_by_key d) l (scope_in_order D e)) ≡ Ok v) apart h
 
   -- a second key beside a wrapper's makes code with its scope, and no third stands there
   pub record Coded (k l : List ℕ) (j i : json.Json) (ms : json.Members) : Type 0 where
@@ -247,7 +247,7 @@ module _ (D : Doubles) where
     pub code : Data
     pub code_kept : kept j ≡ Some code
     pub text : List ℕ
-    pub code_text : as_str (unordered code) ≡ Some text
+    pub code_text : as_str (tree_sorted_by_key code) ≡ Some text
     pub scope : Data
     pub scope_kept : kept i ≡ Some scope
     pub pairs : Option Pairs
@@ -263,8 +263,8 @@ module _ (D : Doubles) where
       → wrapper_in_order D (member k d (member l e us)) ≡ Ok v → Coded k l j i ms
   coded_at k l w j i ms d e no_members v named is held more read =
       let two = two_at k l d e v (no_scope k w named) read in
-      let c = code_read (bytes_eq k (codes "$code")) (bytes_eq l (codes "$scope")) (unordered d) (scope_in_order D e) v two in
-      let t = text_read (as_str (unordered d)) (scope_in_order D e) v c.2 in
+      let c = code_read (bytes_eq k (codes "$code")) (bytes_eq l (codes "$scope")) (tree_sorted_by_key d) (scope_in_order D e) v two in
+      let t = text_read (as_str (tree_sorted_by_key d)) (scope_in_order D e) v c.2 in
       record {
         first = c.0;
         second = c.1;

@@ -10,7 +10,7 @@ use Rattle.json.proofs.Grammar.{key_token, read_key-shorter, members_more}
 use Rattle.serde_json.specs.Data.{Data, array, object, Items, Members, no_members, member}
 use Rattle.serde_json.specs.Read.{of_json, converted}
 use Rattle.bson_scalar.specs.declared.wrapper.Wrapper.{Wrapper}
-use Rattle.bson_model.specs.Kept.{kept, kept_items, kept_members, unordered}
+use Rattle.bson_model.specs.OrderedTrees.{kept, kept_items, kept_members, tree_sorted_by_key}
 use Rattle.bson_model.proofs.OfferedInOrder.{forgotten}
 use Rattle.bson_tokens.proofs.Offered.{was_read}
 use Rattle.bson_text.specs.Walked.{kept_object, inside, from_key}
@@ -98,8 +98,8 @@ mapped g (Some a) b h = (a, refl, cc)
 
 -- the tree in order of what has a tree by default
 pub kept_from : (j : json.Json) (held : Data) → of_json j ≡ Some held
-    → (d : Data) × (kept j ≡ Some d) × (unordered d ≡ held)
-kept_from j held h = mapped unordered (kept j) held (sym (forgotten j) ∙ h)
+    → (d : Data) × (kept j ≡ Some d) × (tree_sorted_by_key d ≡ held)
+kept_from j held h = mapped tree_sorted_by_key (kept j) held (sym (forgotten j) ∙ h)
 
 pub alone : (depth : ℕ) (k : List ℕ) (ts r s : List Token) (j : json.Json) → length r < length ts
     → value depth ts ≡ Some (j, r) → read_key r ≡ Some (None, s)

@@ -16,10 +16,10 @@ use Rattle.serde_json.specs.Data.{Data}
 use Rattle.serde_json.specs.Data as tree
 use Rattle.serde_json.specs.Find.{as_str}
 use Rattle.serde_json.specs.Read.{of_json, converted}
-use Rattle.bson_scalar.specs.Reading.{single_at_in}
+use Rattle.bson_scalar.specs.Reading.{optional_wrapper_read_in}
 use Rattle.bson_scalar.specs.declared.form.Doubles.{Doubles}
 use Rattle.bson_scalar.specs.declared.wrapper.Wrapper.{Wrapper}
-use Rattle.bson_model.specs.Kept.{kept, unordered}
+use Rattle.bson_model.specs.OrderedTrees.{kept, tree_sorted_by_key}
 use Rattle.bson_tokens.specs.Held.{IsHeldAs}
 use Rattle.bson_tokens.proofs.Offered.{was_read as from_tree}
 use Rattle.bson_text.specs.Walked.{from_key}
@@ -94,8 +94,8 @@ ended p (suc n) end rest is = ends_at p n end rest (read_key end) refl is
 -- what a wrapper's tree stands for
 pub held_is : (depth : ℕ) (ts r : List Token) (held : Data) → IsHeldAs (converted of_json (value depth ts)) held r
     → (j : json.Json) × (value depth ts ≡ Some (j, r)) × (d : Data) × (kept j ≡ Some d)
-    × ((D : Doubles) (w : Option Wrapper) → single_at_in D w held ≡ single_at_in D w (unordered d))
-    × (as_str held ≡ as_str (unordered d))
+    × ((D : Doubles) (w : Option Wrapper) → optional_wrapper_read_in D w held ≡ optional_wrapper_read_in D w (tree_sorted_by_key d))
+    × (as_str held ≡ as_str (tree_sorted_by_key d))
 held_is depth ts r held read =
     let j = from_tree of_json (value depth ts) read.0 r read.1 in
     let d = kept_from j.0 read.0 j.2 in (
@@ -103,7 +103,7 @@ held_is depth ts r held read =
       j.1,
       d.0,
       d.1,
-      λ D w. subst (λ t. single_at_in D w held ≡ single_at_in D w t) (sym d.2) (read.2.0 D w),
+      λ D w. subst (λ t. optional_wrapper_read_in D w held ≡ optional_wrapper_read_in D w t) (sym d.2) (read.2.0 D w),
       subst (λ t. as_str held ≡ as_str t) (sym d.2) read.2.1,
     )
 

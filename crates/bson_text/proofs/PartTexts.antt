@@ -10,7 +10,7 @@ use Rattle.json.specs.Tree.{json_tokens, items_tokens, members_tokens}
 use Rattle.json.proofs.Printed.Tokens.{print_from-append}
 use Rattle.serde_json.specs.Data.{Data, Items, no_items, item, array, Members, no_members, member, object}
 use Rattle.serde_json.specs.Written.{comma_if}
-use Rattle.bson_scalar.specs.TreeText.{outline, items_outline, members_outline, text_of, tokens_of}
+use Rattle.bson_scalar.specs.TreeText.{json_of_tree, json_of_items, json_of_members, text_of, tokens_of}
 use Rattle.bson_scalar.specs.Tokens.{code_tokens}
 use Rattle.bson_model.specs.Writing.{with_scope}
 
@@ -36,13 +36,13 @@ mutual
 printed_then : (t : Data) (ts : List Token) → print_from false (tokens_of t ++ ts) ≡ text_of t ++ print_from true ts
 printed_then t ts =
     print_from-append false (tokens_of t) ts
-    ∙ ap (λ b. text_of t ++ print_from b ts) (ends_json (outline t) false)
+    ∙ ap (λ b. text_of t ++ print_from b ts) (ends_json (json_of_tree t) false)
 
 -- ---- elements
 
 -- the text of elements, after another or at first, with the closing bracket
 abbrev pub printed_items : Bool → Items → List ℕ
-printed_items needs_comma ds = print_from needs_comma (items_tokens (items_outline ds))
+printed_items needs_comma ds = print_from needs_comma (items_tokens (json_of_items ds))
 
 pub no_more_items : (needs_comma : Bool) → printed_items needs_comma no_items ≡ 93 ∷ []
 unfolding print_from
@@ -63,8 +63,8 @@ first_printed true (json.object ms) ts = refl
 pub one_more_item : (needs_comma : Bool) (t : Data) (ds : Items)
     → comma_if needs_comma ++ (text_of t ++ printed_items true ds) ≡ printed_items needs_comma (item t ds)
 one_more_item needs_comma t ds =
-    let rest = items_tokens (items_outline ds) in
-    ap (λ l. comma_if needs_comma ++ l) (sym (printed_then t rest)) ∙ sym (first_printed needs_comma (outline t) rest)
+    let rest = items_tokens (json_of_items ds) in
+    ap (λ l. comma_if needs_comma ++ l) (sym (printed_then t rest)) ∙ sym (first_printed needs_comma (json_of_tree t) rest)
 
 pub array_printed : (ds : Items) → 91 ∷ printed_items false ds ≡ text_of (array ds)
 unfolding print_from
@@ -78,7 +78,7 @@ key_alone k = append-nil (quoted k ++ 58 ∷ [])
 
 -- the text of members, after another or at first, with the closing brace
 abbrev pub printed_members : Bool → Members → List ℕ
-printed_members needs_comma ms = print_from needs_comma (members_tokens (members_outline ms))
+printed_members needs_comma ms = print_from needs_comma (members_tokens (json_of_members ms))
 
 pub no_more_members : (needs_comma : Bool) → printed_members needs_comma no_members ≡ 125 ∷ []
 unfolding print_from
@@ -95,7 +95,7 @@ pub one_more_member : (needs_comma : Bool) (k : List ℕ) (t : Data) (ms : Membe
     → comma_if needs_comma ++ ((quoted k ++ 58 ∷ text_of t) ++ printed_members true ms)
     ≡ printed_members needs_comma (member k t ms)
 one_more_member needs_comma k t ms =
-    let rest = members_tokens (members_outline ms) in
+    let rest = members_tokens (json_of_members ms) in
     ap (λ l. comma_if needs_comma ++ l)
     (append_assoc (quoted k) (58 ∷ text_of t) (print_from true rest)
     ∙ sym (append_assoc (quoted k) (58 ∷ []) (text_of t ++ print_from true rest))

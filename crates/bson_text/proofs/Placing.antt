@@ -8,7 +8,7 @@ use Rattle.std.proofs.lemmas.List.Sorted.{All-permutation, IsPermutation-map, Is
 use Rattle.std.proofs.lemmas.Slice.Eq.{bytes_eq-Decides}
 use Rattle.std.specs.List.{All, filter, range_with_len}
 use Rattle.std.specs.List.Sorted.{IsPermutation}
-use Rattle.bson_model.specs.Stable.{have_one_key, IsStableByKey}
+use Rattle.bson_model.specs.StableOrder.{have_equal_keys, IsStableByKey}
 use Rattle.bson_text.specs.MemberSpans.{span_key, end_before, spans_from, no_span, span_or, key_or, picked, has_first}
 use Rattle.bson_text.specs.MemberSpans.{stands_again, ArePlacesByKey, InOrder, IsJoinedText}
 use Rattle.bson_text.specs.declared.spans.MemberSpan.{MemberSpan}
@@ -97,11 +97,11 @@ module _ (key_of : ℕ → List ℕ) where
     one_more false n ns = refl
 
     of_key : (p : MemberSpan) (ns : List ℕ)
-        → filter (have_one_key span_key p) (map span_of ns) ≡ map span_of (filter (has_key (span_key p)) ns)
+        → filter (have_equal_keys span_key p) (map span_of ns) ≡ map span_of (filter (has_key (span_key p)) ns)
     of_key p [] = refl
     of_key p (n ∷ ns) =
         let here = has_key (span_key p) n in
-        let left = filter (have_one_key span_key p) (map span_of ns) in
+        let left = filter (have_equal_keys span_key p) (map span_of ns) in
         ap (λ k. cond (bytes_eq (span_key p) k) (span_of n ∷ left) left) (own n)
         ∙ ap (λ qs. cond here (span_of n ∷ qs) qs) (of_key p ns)
         ∙ one_more here n (filter (has_key (span_key p)) ns)

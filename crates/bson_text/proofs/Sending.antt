@@ -8,7 +8,7 @@ use Rattle.json.specs.declared.Writer.{Writer}
 use Rattle.json.specs.Tree.{items_tokens, members_tokens}
 use Rattle.serde_json.specs.Data.{Items, no_items, item, Members, no_members, member, array, object}
 use Rattle.bson_scalar.specs.Tokens.{tokens_of, code_tokens}
-use Rattle.bson_scalar.specs.TreeText.{items_outline, members_outline}
+use Rattle.bson_scalar.specs.TreeText.{json_of_items, json_of_members}
 use Rattle.bson_scalar.specs.declared.form.Doubles.{Doubles}
 use Rattle.bson_scalar.specs.declared.form.Form.{Form}
 use Rattle.bson_scalar.proofs.Offered.{text_is}
@@ -40,14 +40,14 @@ at_first a b xs Holds (mode, form, old, is) h = subst (λ D. Holds D a.form) mod
 
 items_sent : (n : ℕ) (vs : Values) (old now new : TextWriter)
     → ItemsWritten (λ a k v b. ValueTokensWritten a v b) (λ i. []) n vs old now → TokensWritten now (token.end_array ∷ []) new
-    → (us : Items) × (values_in_order old.doubles old.form vs ≡ Ok us) × TokensWritten old (items_tokens (items_outline us)) new
+    → (us : Items) × (values_in_order old.doubles old.form vs ≡ Ok us) × TokensWritten old (items_tokens (json_of_items us)) new
 items_sent n no_values old now new is ended =
     (no_items, refl, subst (λ a. TokensWritten a (token.end_array ∷ []) new) (sym is) ended)
 items_sent n (model.value v vs) old now new (mid, (u, w, sent), more) ended =
     let rest = items_sent (n + 1) vs mid now new more ended in (
       item u rest.0,
       rw (w, at_first old mid (tokens_of u) (λ D f. values_in_order D f vs ≡ Ok rest.0) sent rest.1) refl,
-      joined old mid new (tokens_of u) (items_tokens (items_outline rest.0)) sent rest.2,
+      joined old mid new (tokens_of u) (items_tokens (json_of_items rest.0)) sent rest.2,
     )
 
 pub array_sent : (vs : Values) (old mark now new : TextWriter) → TokensWritten old (token.begin_array ∷ []) mark
@@ -57,7 +57,7 @@ array_sent vs old mark now new begin written ended =
     let rest = items_sent 0 vs mark now new written ended in (
       array rest.0,
       rw (at_first old mark (token.begin_array ∷ []) (λ D f. values_in_order D f vs ≡ Ok rest.0) begin rest.1) refl,
-      joined old mark new (token.begin_array ∷ []) (items_tokens (items_outline rest.0)) begin rest.2,
+      joined old mark new (token.begin_array ∷ []) (items_tokens (json_of_items rest.0)) begin rest.2,
     )
 
 -- ---- documents
@@ -65,7 +65,7 @@ array_sent vs old mark now new begin written ended =
 pairs_sent : (ps : Pairs) (old now new : TextWriter)
     → PairsWritten (λ a k v b. ValueTokensWritten a v b) (λ a k b. TokensWritten a (token.key k ∷ []) b) ps old now
     → TokensWritten now (token.end_object ∷ []) new
-    → (us : Members) × (pairs_in_order old.doubles old.form ps ≡ Ok us) × TokensWritten old (members_tokens (members_outline us)) new
+    → (us : Members) × (pairs_in_order old.doubles old.form ps ≡ Ok us) × TokensWritten old (members_tokens (json_of_members us)) new
 pairs_sent no_pairs old now new is ended =
     (no_members, refl, subst (λ a. TokensWritten a (token.end_object ∷ []) new) (sym is) ended)
 pairs_sent (pair k v ps) old now new (named, mid, key, (u, w, sent), more) ended =
@@ -76,7 +76,7 @@ pairs_sent (pair k v ps) old now new (named, mid, key, (u, w, sent), more) ended
         at_first old named (token.key k ∷ []) (λ D f. writes_in_order D f v ≡ Ok u) key w,
         at_first old mid (token.key k ∷ tokens_of u) (λ D f. pairs_in_order D f ps ≡ Ok rest.0) both rest.1,
       ) refl,
-      joined old mid new (token.key k ∷ tokens_of u) (members_tokens (members_outline rest.0)) both rest.2,
+      joined old mid new (token.key k ∷ tokens_of u) (members_tokens (json_of_members rest.0)) both rest.2,
     )
 
 pub document_sent : (ps : Pairs) (old mark now new : TextWriter) → TokensWritten old (token.begin_object ∷ []) mark
@@ -86,7 +86,7 @@ document_sent ps old mark now new begin written ended =
     let rest = pairs_sent ps mark now new written ended in (
       rest.0,
       at_first old mark (token.begin_object ∷ []) (λ D f. pairs_in_order D f ps ≡ Ok rest.0) begin rest.1,
-      joined old mark new (token.begin_object ∷ []) (members_tokens (members_outline rest.0)) begin rest.2,
+      joined old mark new (token.begin_object ∷ []) (members_tokens (json_of_members rest.0)) begin rest.2,
     )
 
 pub embedded : (ps : Pairs) (old new : TextWriter) → PairTokensWritten old ps new → ValueTokensWritten old (document ps) new

@@ -8,8 +8,8 @@ use Rattle.std.specs.Cmp.Lexicographic.{slice_cmp}
 use Rattle.std.specs.Ordering.{match_ordering}
 use Rattle.bson_model.specs.Displayed.{display_text, entry, entry_texts}
 use Rattle.bson_tokens.specs.declared.arrangement.Arrangement.TheVariants.{Ascending}
-use Rattle.bson_model.specs.Sorted.{put_pair, sorted, sorted_pairs}
-use Rattle.bson_model.specs.Stable.{pairs_of}
+use Rattle.bson_model.specs.Sorted.{insert_sorted_pair, sorted, sorted_pairs}
+use Rattle.bson_model.specs.StableOrder.{pairs_of}
 use Rattle.bson_model.specs.Value.{Value, Pairs, no_pairs, pair, document}
 use Rattle.bson_text.specs.MemberSpans.{span_key, open_text, object_text, SpanValues, value_at, IsMemberSpan}
 use Rattle.bson_text.specs.ShownWritten.{next_display, member_front, separator_if, DisplayBegun, DisplayValueAdded, DisplayKeyAdded}
@@ -91,20 +91,20 @@ some_at Less a b c x y z = x
 some_at Equal a b c x y z = y
 some_at Greater a b c x y z = z
 
-put_some : (k : List ℕ) (v : Value) (ps : Pairs) → is_none (put_pair k v ps) ≡ false
+put_some : (k : List ℕ) (v : Value) (ps : Pairs) → is_none (insert_sorted_pair k v ps) ≡ false
 put_some k v no_pairs = refl
 put_some k v (pair l w ps) =
-    some_at (slice_cmp nat_cmp k l) (pair k v (pair l w ps)) (pair l v ps) (pair l w (put_pair k v ps)) refl refl refl
+    some_at (slice_cmp nat_cmp k l) (pair k v (pair l w ps)) (pair l v ps) (pair l w (insert_sorted_pair k v ps)) refl refl refl
 
 some_in_turn : (ps found : Pairs) → is_none found ≡ false → is_none (put_in_turn ps found) ≡ false
 some_in_turn no_pairs found is = is
-some_in_turn (pair k v ps) found is = some_in_turn ps (put_pair k (sorted v) found) (put_some k (sorted v) found)
+some_in_turn (pair k v ps) found is = some_in_turn ps (insert_sorted_pair k (sorted v) found) (put_some k (sorted v) found)
 
 -- with its keys in order as well
 some_sorted : (ps : Pairs) → 0 < length (keys_of ps) → is_none (sorted_pairs (each_key_once ps)) ≡ false
 some_sorted no_pairs h = absurd (omega arith)
 some_sorted (pair k v ps) h =
-    ap is_none (once_sorted (pair k v ps)) ∙ some_in_turn ps (put_pair k (sorted v) no_pairs) refl
+    ap is_none (once_sorted (pair k v ps)) ∙ some_in_turn ps (insert_sorted_pair k (sorted v) no_pairs) refl
 
 none_sorted : (ps : Pairs) → length (keys_of ps) ≡ 0 → sorted_pairs (each_key_once ps) ≡ no_pairs
 none_sorted no_pairs h = refl

@@ -11,7 +11,7 @@ use Rattle.bson_scalar.specs.TreeText.{text_of}
 use Rattle.bson_scalar.specs.declared.form.Doubles.{Doubles}
 use Rattle.bson_scalar.specs.declared.form.Form.{Form}
 use Rattle.bson_model.specs.Sorted.{sorted}
-use Rattle.bson_model.specs.Stable.{pairs_of}
+use Rattle.bson_model.specs.StableOrder.{pairs_of}
 use Rattle.bson_model.specs.Value.{Value, Pairs, no_pairs, pair}
 use Rattle.bson_model.specs.Writing.{writes_in, writes_pairs_in}
 use Rattle.bson_text.specs.MemberSpans.{span_key, members_text, Ascend}

@@ -8,7 +8,7 @@ use Rattle.serde_json.specs.Data.{Data, Items, no_items, item, array, object}
 use Rattle.serde_json.specs.Written.{comma_if}
 use Rattle.bson_scalar.specs.Tokens.{tokens_of, code_tokens, Puts}
 use Rattle.bson_scalar.specs.TreeText.{text_of}
-use Rattle.bson_scalar.specs.Written.{Refusal}
+use Rattle.bson_scalar.specs.Written.{WriteFault}
 use Rattle.bson_scalar.specs.declared.form.Doubles.{Doubles}
 use Rattle.bson_scalar.specs.declared.form.Form.{Form}
 use Rattle.bson_scalar.proofs.Offered.{text_is}
@@ -49,7 +49,7 @@ part_added a b c needs_comma old new ts comma part none is =
     as_text a c _ _ needs_comma (ap (λ l. comma_if a.needs_comma ++ print l) (is ∙ ap (λ l. l ++ ts) none))
     (joined a b c (comma_if a.needs_comma) (print new) a.needs_comma needs_comma comma part)
 
-pub printed : (r : Result Data Refusal) (old new : List Token) → Puts (Ok tt) r old new
+pub printed : (r : Result Data WriteFault) (old new : List Token) → Puts (Ok tt) r old new
     → (t : Data) × (r ≡ Ok t) × (new ≡ old ++ tokens_of t)
 printed (Ok t) old new h = (t, refl, h)
 printed (Err e) old new h = absurd h

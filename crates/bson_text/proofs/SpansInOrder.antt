@@ -10,8 +10,8 @@ use Rattle.std.specs.Prelude.{IfSome, IfOk}
 use Rattle.std.specs.Cmp.Lexicographic.{slice_cmp}
 use Rattle.std.specs.List.{All}
 use Rattle.serde_json.specs.Written.{comma_if}
-use Rattle.bson_model.specs.Sorted.{put_pair, IsBelowKeys, KeysAscend}
-use Rattle.bson_model.specs.Stable.{put_each, pairs_of}
+use Rattle.bson_model.specs.Sorted.{insert_sorted_pair, IsBelowKeys, KeysAscend}
+use Rattle.bson_model.specs.StableOrder.{insert_each, pairs_of}
 use Rattle.bson_model.specs.Value.{Value, Pairs, no_pairs}
 use Rattle.bson_model.proofs.Offered.{turned, put_ascending}
 use Rattle.bson_text.specs.MemberSpans.{span_key, span_text, open_text, members_text, object_text, Ascend}
@@ -86,24 +86,24 @@ kept_one p ps left is once = ap last_ones is ∙ rw once refl
 
 module _ (values : SpanValues) where
   abbrev put_spans : List MemberSpan → Pairs → Pairs
-  put_spans = put_each span_key (value_at values)
+  put_spans = insert_each span_key (value_at values)
 
   -- one that stands again is put for nothing
   put_again : (p : MemberSpan) (ps : List MemberSpan) (qs : Pairs) → stands_again (span_key p) ps ≡ true
-      → put_spans ps (put_pair (span_key p) (value_at values p) qs) ≡ put_spans ps qs
+      → put_spans ps (insert_sorted_pair (span_key p) (value_at values p) qs) ≡ put_spans ps qs
   put_again p [] qs again = cc
   put_again p (q ∷ ps) qs again =
       let same = (bytes_eq-Decides (span_key q) (span_key p)).0 again in
       let v = value_at values p in
       let w = value_at values q in
-      ap (put_spans ps) (ap (λ k. put_pair (span_key q) w (put_pair k v qs)) (sym same)
+      ap (put_spans ps) (ap (λ k. insert_sorted_pair (span_key q) w (insert_sorted_pair k v qs)) (sym same)
       ∙ put_twice (span_key q) w v qs)
 
   put_at : (b : Bool) (p : MemberSpan) (ps : List MemberSpan) (qs : Pairs) → stands_again (span_key p) ps ≡ b
       → ((rs : Pairs) → put_spans ps rs ≡ put_spans (last_ones ps) rs)
       → put_spans (p ∷ ps) qs ≡ put_spans (last_ones (p ∷ ps)) qs
   put_at true p ps qs h is = rw h (put_again p ps qs h ∙ is qs)
-  put_at false p ps qs h is = rw h (is (put_pair (span_key p) (value_at values p) qs))
+  put_at false p ps qs h is = rw h (is (insert_sorted_pair (span_key p) (value_at values p) qs))
 
   put_last_ones : (ps : List MemberSpan) (qs : Pairs) → put_spans ps qs ≡ put_spans (last_ones ps) qs
   put_last_ones [] qs = refl
@@ -175,7 +175,7 @@ pub record HasMembers (IsText : List ℕ → Value → List ℕ → Type 0) (old
 
 pub object_in_order : (IsText : List ℕ → Value → List ℕ → Type 0) (old texts new : List ℕ) (values : SpanValues)
     (ps : List MemberSpan) → All (IsMemberSpan IsText texts values) ps → IsObjectWritten ps old texts new
-    → HasMembers IsText old texts new (put_each span_key (value_at values) ps no_pairs)
+    → HasMembers IsText old texts new (insert_each span_key (value_at values) ps no_pairs)
 object_in_order IsText old texts new values ps h (written, (qs, stable, same, up, is), needs_comma) =
     let ks = last_ones qs in
     record {

@@ -7,11 +7,11 @@ use Rattle.std.proofs.lemmas.List.Elements.{All-nil, All-head, All-tail, All-con
 use Rattle.std.proofs.Math.Seq.{drop-append_seam, take-length}
 use Rattle.std.specs.List.{All}
 use Rattle.serde_json.specs.Written.{comma_if}
-use Rattle.bson_model.specs.Sorted.{put_pair, sorted, sorted_pairs}
+use Rattle.bson_model.specs.Sorted.{insert_sorted_pair, sorted, sorted_pairs}
 use Rattle.bson_model.specs.Value.{Value, Pairs, no_pairs, pair, document}
 use Rattle.bson_text.specs.MemberSpans.{span_key, span_text, end_before, spans_from, open_text}
 use Rattle.bson_text.specs.MemberSpans.{SpanValues, value_at, IsObjectWritten, IsOpenObject, IsMemberSpan, IsSpanWithin}
-use Rattle.bson_model.specs.Stable.{put_each}
+use Rattle.bson_model.specs.StableOrder.{insert_each}
 use Rattle.bson_text.specs.Walked.{keys_of, each_key_once}
 use Rattle.bson_text.specs.declared.spans.MemberSpan.{MemberSpan}
 use Rattle.bson_text.specs.declared.sorted_text.Mark.{Mark}
@@ -45,12 +45,12 @@ module _ (values : SpanValues) (v : Value) (at : ℕ) where
   value_there i less = ap (λ b. cond b v (values i)) (ne_eqb i at (λ e. omega (arith, e, less)))
 
   put_there : (ps : List MemberSpan) (qs : Pairs) → All (λ p. at < p.start) ps
-      → put_each span_key (value_at with_value) ps qs ≡ put_each span_key (value_at values) ps qs
+      → insert_each span_key (value_at with_value) ps qs ≡ insert_each span_key (value_at values) ps qs
   put_there [] qs h = refl
   put_there (p ∷ ps) qs h =
       let first = All-head (λ q. at < q.start) p ps h in
-      put_there ps (put_pair (span_key p) (with_value p.start) qs) (All-tail (λ q. at < q.start) p ps h)
-      ∙ ap (λ w. put_each span_key (value_at values) ps (put_pair (span_key p) w qs)) (value_there p.start first)
+      put_there ps (insert_sorted_pair (span_key p) (with_value p.start) qs) (All-tail (λ q. at < q.start) p ps h)
+      ∙ ap (λ w. insert_each span_key (value_at values) ps (insert_sorted_pair (span_key p) w qs)) (value_there p.start first)
 
 -- ---- members that are added
 
@@ -103,7 +103,7 @@ module _ (IsText : List ℕ → Value → List ℕ → Type 0) where
     pub values : SpanValues
     pub all : All (StandsBehind text (length front) values) (spans_from ks starts (length text))
     pub put : (qs : Pairs)
-        → put_each span_key (value_at values) (spans_from ks starts (length text)) qs ≡ put_in_turn ps qs
+        → insert_each span_key (value_at values) (spans_from ks starts (length text)) qs ≡ put_in_turn ps qs
     pub opened : text ≡ front ++ open_text text needs_comma (spans_from ks starts (length text))
     pub paired : length ks ≡ length starts
     pub ends : needs_comma ≡ true → end_before starts (length text) ≡ length front
@@ -158,9 +158,9 @@ module _ (IsText : List ℕ → Value → List ℕ → Type 0) where
       record {
         values = values;
         all = All-cons (StandsBehind text (length front) values) p spans (omega (arith, longer), this) behind_it;
-        put = λ qs. put_there rest.values (sorted v) start spans (put_pair k.now (values start) qs) higher
-            ∙ ap (λ w. put_each span_key (value_at rest.values) spans (put_pair k.now w qs)) value
-            ∙ rest.put (put_pair k.now (sorted v) qs);
+        put = λ qs. put_there rest.values (sorted v) start spans (insert_sorted_pair k.now (values start) qs) higher
+            ∙ ap (λ w. insert_each span_key (value_at rest.values) spans (insert_sorted_pair k.now w qs)) value
+            ∙ rest.put (insert_sorted_pair k.now (sorted v) qs);
         opened = whole ∙ append_assoc front comma (s ++ others)
             ∙ ap (λ l. front ++ (comma ++ (l ++ others))) (sym own);
         paired = ap suc rest.paired;
@@ -202,7 +202,7 @@ module _ (IsText : List ℕ → Value → List ℕ → Type 0) where
     pub opened : IsOpenObject before now.text (spans_from ks starts (length now.text))
     pub values : SpanValues
     pub all : All (IsMemberSpan IsText now.text values) (spans_from ks starts (length now.text))
-    pub put : put_each span_key (value_at values) (spans_from ks starts (length now.text)) no_pairs
+    pub put : insert_each span_key (value_at values) (spans_from ks starts (length now.text)) no_pairs
         ≡ put_in_turn ps no_pairs
 
   pub opened_document : (before held : List ℕ) (mid now : Seen) (mark : Mark) (ps : Pairs) (ks : List Key)

@@ -11,7 +11,7 @@ use Rattle.serde_json.specs.Read.{converted}
 use Rattle.bson_scalar.specs.declared.form.Doubles.{Doubles}
 use Rattle.bson_scalar.specs.Table.{has_wrapper}
 use Rattle.bson_model.specs.Value.{Value, Pairs, document}
-use Rattle.bson_model.specs.Kept.{kept}
+use Rattle.bson_model.specs.OrderedTrees.{kept}
 use Rattle.bson_model.specs.OrderedReading.{reads_in_order, members_in_order}
 use Rattle.bson_model.specs.OrderedTexts.{HasMeaningInOrder}
 use Rattle.bson_model.proofs.OfferedInOrder.{means_from, means_in, read_is_kept, text_means}

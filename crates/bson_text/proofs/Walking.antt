@@ -15,13 +15,13 @@ use Rattle.bson_scalar.specs.Table.{wrapper_of, has_wrapper}
 use Rattle.bson_scalar.specs.declared.form.Doubles.{Doubles}
 use Rattle.bson_model.specs.Value as model
 use Rattle.bson_model.specs.Value.{Value, Values, Pairs}
-use Rattle.bson_model.specs.Kept.{kept, kept_items}
+use Rattle.bson_model.specs.OrderedTrees.{kept, kept_items}
 use Rattle.bson_model.specs.OrderedReading.{items_in_order, members_in_order}
 use Rattle.bson_tokens.proofs.Offered.{was_read}
 use Rattle.bson_text.specs.Walked.{ItemsWritten, PairsWritten, keys_of, each_key_once, TreeMeans, ItemsMean, ObjectMeans}
 use Rattle.bson_text.specs.Walked.{MembersMean, kept_object, inside, from_key}
 use Rattle.bson_text.specs.Exact.{as_they_stand}
-use Rattle.bson_text.proofs.Members.{put_each, kept_each, free_each, reads_each}
+use Rattle.bson_text.proofs.Members.{insert_each, kept_each, free_each, reads_each}
 use Rattle.bson_text.proofs.Objects.{Key, texts, append_none, texts_more, step_more, begins, object_of, array_of}
 
 module _ {S : Type 0} (D : Doubles) (wrote : S → List ℕ → Value → S → Type 0) where
@@ -122,7 +122,7 @@ module _ {S : Type 0} (D : Doubles) (wrote : S → List ℕ → Value → S → 
         → MembersMean D b (kept_object whole) s Hold
     members_passed b whole s keys mark now Hold go holds =
         let g = go json.no_members s no_members model.no_pairs now refl refl refl (λ is. refl) refl in (
-          put_each g.1 no_members,
+          insert_each g.1 no_members,
           each_key_once g.2,
           ap kept_object g.3 ∙ ap (option_map (λ d. (d, s))) (kept_each g.0 g.1 no_members g.4),
           reads_each D g.1 no_members g.2 model.no_pairs g.5 refl,

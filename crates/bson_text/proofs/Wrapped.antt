@@ -12,7 +12,7 @@ use Rattle.serde_json.specs.Data.{Data, Num, Members, no_members, member, object
 use Rattle.serde_json.specs.Data as tree
 use Rattle.serde_json.specs.Read.{of_json, converted, number_of}
 use Rattle.bson_scalar.specs.Faults.{Fault}
-use Rattle.bson_scalar.specs.Reading.{number_read_in, single_at_in, single_in}
+use Rattle.bson_scalar.specs.Reading.{number_read_in, optional_wrapper_read_in, wrapper_read_in}
 use Rattle.bson_scalar.specs.Table.{wrapper_of, has_wrapper}
 use Rattle.bson_scalar.specs.declared.form.Doubles.{Doubles}
 use Rattle.bson_scalar.specs.declared.wrapper.Wrapper.{Wrapper}
@@ -117,13 +117,13 @@ module _ (D : Doubles) where
       ap (λ o. cond (is_some o || has_wrapper us) (found_wrapper D (member k d us)) (found_members D (member k d us))) named
 
   lone : (k : List ℕ) (w : Wrapper) (d : Data) → wrapper_of k ≡ Some w
-      → found D (object (member k d no_members)) ≡ within (key k) (of_scalar (single_in D w d))
+      → found D (object (member k d no_members)) ≡ within (key k) (of_scalar (wrapper_read_in D w d))
   lone k w d named = by_wrapper k w d no_members named
-      ∙ ap (λ o. within (key k) (of_scalar (single_at_in D o d))) named
+      ∙ ap (λ o. within (key k) (of_scalar (optional_wrapper_read_in D o d))) named
 
   pub alone_placed : (e f : Stop) (depth : ℕ) (k : List ℕ) (w : Wrapper) (ts r s : List Token) (held : Data)
       → wrapper_of k ≡ Some w → IsHeldAs (converted of_json (value depth ts)) held r → read_key r ≡ Some (None, s)
-      → IsScalarFault (single_in D w held) e → Keyed k e f → ObjectPlaced D f (from_key depth (Some k) ts) s
+      → IsScalarFault (wrapper_read_in D w held) e → Keyed k e f → ObjectPlaced D f (from_key depth (Some k) ts) s
   alone_placed e f depth k w ts r s held named read ended at out = at_map f _ _ (λ q (p, is, further) ms rest ds parsed rise of.
       let P = value depth in
       let j = from_tree of_json (P ts) read.0 r read.1 in
@@ -134,13 +134,13 @@ module _ (D : Doubles) where
       let a = split_kept (member k) (of_json j.0) (trees_of json.no_members) ds (subst (λ x. trees_of x ≡ Some ds) all of) in
       let end : a.1 ≡ no_members = sym (same_Some no_members a.1 a.3) in
       let tree_is : a.0 ≡ read.0 = same_Some a.0 read.0 (sym a.2 ∙ j.2) in
-      let now = subst (IsScalarFault (single_in D w held)) is at in
-      let same : found D (object ds) ≡ within (key k) (of_scalar (single_in D w held)) =
+      let now = subst (IsScalarFault (wrapper_read_in D w held)) is at in
+      let same : found D (object ds) ≡ within (key k) (of_scalar (wrapper_read_in D w held)) =
       ap (λ x. found D (object x)) (a.4 ∙ ap (member k a.0) end ∙ ap (λ x. member k x no_members) tree_is)
       ∙ lone k w read.0 named ∙ ap (λ x. within (key k) (of_scalar x)) (sym (read.2.0 D (Some w))) in (
         off.0,
-        placed_within (of_scalar (single_in D w held)) (found D (object ds)) (key k) None p.value q now further
-            (same ∙ or_nothing (within (key k) (of_scalar (single_in D w held)))),
+        placed_within (of_scalar (wrapper_read_in D w held)) (found D (object ds)) (key k) None p.value q now further
+            (same ∙ or_nothing (within (key k) (of_scalar (wrapper_read_in D w held)))),
       )) out
 
   cond_here : (b : Bool) (v : Verdict) → b ≡ false → cond b v here ≡ here

@@ -13,7 +13,7 @@ use Rattle.serde_json.specs.Data.{Data, Num, null, boolean, number, string, arra
 use Rattle.serde_json.specs.Data.{member}
 use Rattle.serde_json.specs.Find.{as_str}
 use Rattle.serde_json.specs.Read.{of_json, converted, number_of}
-use Rattle.bson_scalar.specs.Reading.{number_read_in, single_at_in, single_in}
+use Rattle.bson_scalar.specs.Reading.{number_read_in, optional_wrapper_read_in, wrapper_read_in}
 use Rattle.bson_scalar.specs.Scalar.{Scalar, code}
 use Rattle.bson_scalar.specs.Table.{wrapper_of}
 use Rattle.bson_scalar.specs.declared.form.Doubles.{Doubles}
@@ -21,7 +21,7 @@ use Rattle.bson_scalar.specs.declared.wrapper.Wrapper.{Wrapper}
 use Rattle.bson_model.specs.Reading.{scalar_value, code_value}
 use Rattle.bson_model.specs.Value as model
 use Rattle.bson_model.specs.Value.{Value, Pairs, scalar}
-use Rattle.bson_model.specs.Kept.{kept, unordered}
+use Rattle.bson_model.specs.OrderedTrees.{kept, tree_sorted_by_key}
 use Rattle.bson_model.specs.OrderedReading.{reads_in_order, scope_in_order}
 use Rattle.bson_tokens.specs.Held.{IsHeldAs}
 use Rattle.bson_tokens.proofs.Offered.{was_read}
@@ -57,14 +57,14 @@ module _ (D : Doubles) where
   pub single_means : (depth : ℕ) (k : List ℕ) (wrapper : Wrapper) (ts r s : List Token) (held : Data) (x : Scalar)
       (Wrote : Value → Type 0) → wrapper_of k ≡ Some wrapper
       → IsHeldAs (converted of_json (value depth ts)) held r → length r < length ts
-      → read_key r ≡ Some (None, s) → single_in D wrapper held ≡ Ok x → Wrote (scalar x)
+      → read_key r ≡ Some (None, s) → wrapper_read_in D wrapper held ≡ Ok x → Wrote (scalar x)
       → ObjectMeans D (kept_object (from_key depth (Some k) ts)) s Wrote
   single_means depth k wrapper ts r s held x Wrote named read less ended single written =
       let j = was_read of_json (value depth ts) read.0 r read.1 in
       let d = kept_from j.0 read.0 j.2 in
       let is : is_some (wrapper_of k) ≡ true = ap is_some named in
-      let means : single_at_in D (wrapper_of k) (unordered d.0) ≡ Ok x = ap (single_at_in D (wrapper_of k)) d.2
-      ∙ sym (read.2.0 D (wrapper_of k)) ∙ ap (λ o. single_at_in D o held) named ∙ single in (
+      let means : optional_wrapper_read_in D (wrapper_of k) (tree_sorted_by_key d.0) ≡ Ok x = ap (optional_wrapper_read_in D (wrapper_of k)) d.2
+      ∙ sym (read.2.0 D (wrapper_of k)) ∙ ap (λ o. optional_wrapper_read_in D o held) named ∙ single in (
         member k d.0 no_members,
         scalar x,
         ap kept_object (alone depth k ts r s j.0 less j.1 ended) ∙ alone_kept k j.0 d.0 s d.1,
@@ -112,7 +112,7 @@ module _ (D : Doubles) where
         ends ps framed,
       )
 
-  code_is : (s : List ℕ) (d e : Data) (scope : Option Pairs) → unordered d ≡ string s → scope_in_order D e ≡ Ok scope
+  code_is : (s : List ℕ) (d e : Data) (scope : Option Pairs) → tree_sorted_by_key d ≡ string s → scope_in_order D e ≡ Ok scope
       → reads_in_order D (object (member (codes "$code") d (member (codes "$scope") e no_members)))
       ≡ Ok (code_value s scope)
   code_is s d e scope is means = rw (is, means) refl

@@ -11,7 +11,7 @@ use Rattle.bson_scalar.specs.Scalar.{Scalar}
 use Rattle.bson_scalar.specs.Table.{has_wrapper}
 use Rattle.bson_scalar.specs.declared.form.Doubles.{Doubles}
 use Rattle.bson_model.specs.Value.{Value, Values, Pairs}
-use Rattle.bson_model.specs.Kept.{kept, kept_items}
+use Rattle.bson_model.specs.OrderedTrees.{kept, kept_items}
 use Rattle.bson_model.specs.OrderedReading.{reads_in_order, items_in_order, members_in_order, scope_in_order}
 use Rattle.bson_text.specs.Walked.{inside}
 use Rattle.bson_tokens.specs.PutSpans.{KeysAscendAfter}

@@ -13,7 +13,7 @@ use Rattle.bson_scalar.specs.declared.form.Doubles.{Doubles}
 use Rattle.bson_scalar.specs.declared.form.Form.{Form}
 use Rattle.bson_model.specs.Value.{Value}
 use Rattle.bson_model.specs.Writing.{writes_in}
-use Rattle.bson_model.specs.Stable.{IsStableByKey}
+use Rattle.bson_model.specs.StableOrder.{IsStableByKey}
 use Rattle.bson_text.specs.declared.spans.MemberSpan.{MemberSpan}
 use Rattle.bson_tokens.specs.PutSpans.{Follows}
 

@@ -4,7 +4,7 @@ use Rattle.json.specs.Strict.{AreDistinct}
 use Rattle.json.specs.Token.{Token}
 use Rattle.json.specs.declared.error.Error.{Error}
 use Rattle.json.specs.declared.error.Error.TheVariants as json_error
-use Rattle.bson_scalar.specs.Faults.{Fault as Wrong, Fails}
+use Rattle.bson_scalar.specs.Faults.{Fault as Wrong, IsReadError}
 use Rattle.bson_scalar.specs.Normal.{writable_scalar_in}
 use Rattle.bson_scalar.specs.Scalar.{Scalar}
 use Rattle.bson_scalar.specs.declared.error.Error.{Error as ReadError}
@@ -75,7 +75,7 @@ Becomes old (Fault place) = IsFault old
 
 -- The error of reading a scalar.
 abbrev pub IsOfReading : Result Scalar Wrong → Stop → Type 0
-IsOfReading r e = (cause : ReadError) × Fails cause r × Becomes (read_stop cause) e
+IsOfReading r e = (cause : ReadError) × IsReadError cause r × Becomes (read_stop cause) e
 
 -- what an error rules out. `GaveUp`: that the text can be streamed. `DuplicateKey`: that keys are unique. A fault: that
 -- keys are unique and the text is valid. `OutOfMemory`: nothing

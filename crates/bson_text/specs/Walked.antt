@@ -13,7 +13,7 @@ use Rattle.bson_scalar.specs.declared.form.Doubles.{Doubles}
 use Rattle.bson_model.specs.Reading.{code_value}
 use Rattle.bson_model.specs.Value as model
 use Rattle.bson_model.specs.Value.{Value, Values, no_values, Pairs, no_pairs, pair}
-use Rattle.bson_model.specs.Kept.{kept, kept_members}
+use Rattle.bson_model.specs.OrderedTrees.{kept, kept_members}
 use Rattle.bson_model.specs.OrderedReading.{reads_in_order, items_in_order, members_in_order, scope_in_order}
 
 -- the elements of an array from the place n on were written in turn, each under its place's name

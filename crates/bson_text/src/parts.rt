@@ -25,7 +25,7 @@ use bson_scalar::form::Doubles;
 use bson_scalar::scalar::Scalar;
 use bson_scalar::wrapper::{Wrapper, wrapper_named};
 use bson_tokens::number::number;
-use bson_tree::shape::{SCOPE, other_keys_reason};
+use bson_tree::shape::{SCOPE_MESSAGE, other_keys_reason};
 use json::{Reader, Token};
 use serde_json::Value;
 use std::alloc::Global;
@@ -49,7 +49,7 @@ pub(crate) fn read_scope(level: Level, reader: &mut Reader<'_>) -> Result<Scope,
         Token::Null => Ok(Scope::Null),
         Token::BeginObject => Ok(Scope::Object),
         Token::String(_) | Token::Number(_) | Token::Bool(_) => {
-            Err(shape_at_key(level, reader, SCOPE))
+            Err(shape_at_key(level, reader, SCOPE_MESSAGE))
         }
         Token::BeginArray => {
             if level.depth == 0 {
@@ -58,7 +58,7 @@ pub(crate) fn read_scope(level: Level, reader: &mut Reader<'_>) -> Result<Scope,
             let Ok(()) = skip_items(reader, level.depth - 1) else {
                 return Err(Stop::Syntax);
             };
-            Err(shape_at_key(level, reader, SCOPE))
+            Err(shape_at_key(level, reader, SCOPE_MESSAGE))
         }
         Token::EndObject | Token::EndArray | Token::Key(_) | Token::Bad => Err(Stop::Syntax),
     }

@@ -1,7 +1,7 @@
 //! The path of an error, extended by each array and object around it. The rest of each is skipped.
 ghost use Rattle.std.specs.Prelude.{◌≡◌, ◌++◌, ◌∷◌, [], ◌||◌, is_some, IfOk, IfErr, OnOk, Ok, Result};
-ghost use Rattle.bson_scalar.specs.Faults.{Fails, Fault};
-ghost use Rattle.bson_scalar.specs.Reading.{single_in};
+ghost use Rattle.bson_scalar.specs.Faults.{IsReadError, Fault};
+ghost use Rattle.bson_scalar.specs.Reading.{wrapper_read_in};
 ghost use Rattle.bson_scalar.specs.Scalar.{Scalar as Meaning};
 ghost use Rattle.bson_scalar.specs.View.{scalar_view};
 ghost use Rattle.serde_json.specs.View.{view};
@@ -61,7 +61,7 @@ fn with_segment(mut place: Box<Place>, segment: Segment) -> Result<Box<Place>, A
 
 // Returns the fault of a scalar, with an empty path.
 pub(crate) fn fault_of(alloc: Global, cause: error::Error) -> Stop
-    ensures placed { (r : Result Meaning Fault) → Fails cause r → IsScalarFault r result }
+    ensures placed { (r : Result Meaning Fault) → IsReadError cause r → IsScalarFault r result }
     ensures kind { Becomes (read_stop cause) result }
 {
     match cause {
@@ -255,10 +255,10 @@ pub(crate) fn read_scalar(
     held: Value,
     key: &str,
 ) -> Result<Scalar, Stop>
-    ensures ok { IfOk result (λ x. single_in level.doubles wrapper (view held) ≡ Ok (scalar_view x)) }
-    ensures placed { IfErr result (λ f. (e : Stopped) × IsScalarFault (single_in level.doubles wrapper (view held)) e
+    ensures ok { IfOk result (λ x. wrapper_read_in level.doubles wrapper (view held) ≡ Ok (scalar_view x)) }
+    ensures placed { IfErr result (λ f. (e : Stopped) × IsScalarFault (wrapper_read_in level.doubles wrapper (view held)) e
         × Keyed key.now e f) }
-    ensures kind { IfErr result (λ f. IsOfReading (single_in level.doubles wrapper (view held)) f) }
+    ensures kind { IfErr result (λ f. IsOfReading (wrapper_read_in level.doubles wrapper (view held)) f) }
 {
     match read_wrapper(level.alloc, level.doubles, wrapper, held) {
         Ok(value) => Ok(value),

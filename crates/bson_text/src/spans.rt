@@ -11,7 +11,7 @@ ghost use Rattle.bson_text.specs.MemberSpans.{end_before, spans_from, span_or, k
 ghost use Rattle.bson_text.specs.MemberSpans.{ArePlacesByKey, InOrder, IsBraced, IsObjectWritten, IsJoinedText, IsOpenObject, IsSpanWithin};
 ghost use Rattle.bson_tokens.specs.PutSpans.{KeysAscendAfter, Follows};
 ghost use Rattle.bson_text.specs.Stops.{MayStopAtEnd};
-ghost use Rattle.bson_model.specs.Stable.{IsStableByKey};
+ghost use Rattle.bson_model.specs.StableOrder.{IsStableByKey};
 ghost use Rattle.serde_json.specs.Written.{comma_if};
 
 use crate::stop::Stop;

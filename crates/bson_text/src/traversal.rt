@@ -17,7 +17,7 @@ use bson_scalar::scalar::Scalar;
 use bson_scalar::wrapper::{Wrapper, wrapper_named};
 use bson_tokens::MAX_DEPTH;
 use bson_tokens::held::read_held;
-use bson_tree::shape::{CODE, other_keys_reason};
+use bson_tree::shape::{CODE_MESSAGE, other_keys_reason};
 use itoa::Buffer;
 use json::{Reader, Scratch, Token};
 use std::alloc::Global;
@@ -166,7 +166,7 @@ impl<'a, W: ValueWriter> Traversal<'a, W> {
     ghost use Rattle.serde_json.specs.Read.{converted};
     ghost use Rattle.bson_scalar.specs.Table.{wrapper_of};
     ghost use Rattle.bson_model.specs.Value.{array};
-    ghost use Rattle.bson_model.specs.Kept.{kept, kept_items};
+    ghost use Rattle.bson_model.specs.OrderedTrees.{kept, kept_items};
     ghost use Rattle.bson_text.specs.Walked.{TreeMeans, ItemsMean, ObjectMeans, MembersMean, ScopeMeans};
     ghost use Rattle.bson_text.specs.Walked.{CodeMeans, kept_object, inside, from_key};
     ghost use Rattle.bson_text.specs.Placed.{ValueStops, ItemsStop, ObjectStops, MembersStop, CodeStops, ScopeStops};
@@ -331,7 +331,7 @@ impl<'a, W: ValueWriter> Traversal<'a, W> {
             return Err(shape_at_value(level, &mut self.reader, other_keys_reason(wrapper)));
         }
         let Ok(code) = text_of(held) else {
-            return Err(shape_at_value(level, &mut self.reader, CODE));
+            return Err(shape_at_value(level, &mut self.reader, CODE_MESSAGE));
         };
         self.write_code(level, &code, false, name)
     }

@@ -8,14 +8,14 @@ use Rattle.std.proofs.lemmas.Slice.Eq.{bytes_eq-Decides}
 use Rattle.serde_json.specs.Data.{Data, Num, Items, no_items, item, Members, no_members, member}
 use Rattle.serde_json.specs.Data as tree
 use Rattle.bson_scalar.specs.Faults.{Fault}
-use Rattle.bson_scalar.specs.Reading.{number_read_in, single_at_in}
+use Rattle.bson_scalar.specs.Reading.{number_read_in, optional_wrapper_read_in}
 use Rattle.bson_scalar.specs.Scalar.{Scalar}
 use Rattle.bson_scalar.specs.Scalar as kind
 use Rattle.bson_scalar.specs.Table.{wrapper_of, has_wrapper}
 use Rattle.bson_scalar.specs.declared.form.Doubles.{Doubles}
 use Rattle.bson_model.proofs.Offered.{means_to_in}
 use Rattle.bson_model.specs.Value as model
-use Rattle.bson_tree.specs.Place.{PathSegment, key, element, FaultAtIn, FaultAmongIn, FaultWithinIn, HasValueIn}
+use Rattle.bson_tree.specs.Place.{PathSegment, key, element, FaultAtIn, ItemFaultAtIn, MemberFaultAtIn, HasValueIn}
 use Rattle.bson_tree.specs.Place.{array, document}
 use Rattle.bson_tree.specs.Place.{here as at_element, later, at_key, behind}
 use Rattle.bson_tree.proofs.Offered.{HasScopeIn, IsScopeFaultIn, in_scope, no_scope}
@@ -36,28 +36,28 @@ module _ (D : Doubles) where
   number_is n (Ok x) h = number_value D n x h
   number_is n (Err f) h = no_number D n f h
 
-  array_is : (ds : Items) (v : Verdict) → Is (HasItems D ds) (λ f path. FaultAmongIn D f 0 ds path) v
+  array_is : (ds : Items) (v : Verdict) → Is (HasItems D ds) (λ f path. ItemFaultAtIn D f 0 ds path) v
       → Is (HasValueIn D (tree.array ds)) (λ f path. FaultAtIn D f (tree.array ds) path) v
   array_is ds None h = array_value D ds h
   array_is ds (Some f) h = array ds h
 
   items_are : (n : ℕ) (d : Data) (ds : Items) (v w : Verdict) → Is (HasValueIn D d) (λ f path. FaultAtIn D f d path) v
-      → Is (HasItems D ds) (λ f path. FaultAmongIn D f (n + 1) ds path) w
-      → Is (HasItems D (item d ds)) (λ f path. FaultAmongIn D f n (item d ds) path) (or (within (element n) v) w)
+      → Is (HasItems D ds) (λ f path. ItemFaultAtIn D f (n + 1) ds path) w
+      → Is (HasItems D (item d ds)) (λ f path. ItemFaultAtIn D f n (item d ds) path) (or (within (element n) v) w)
   items_are n d ds None None a b = (model.value a.0 b.0, rw (means_to_in D a.1, b.1) refl)
   items_are n d ds None (Some f) a b = later n d a.0 ds a.1 b
   items_are n d ds (Some f) w a b = at_element n d ds a
 
   members_are : (k : List ℕ) (d : Data) (ms : Members) (v w : Verdict)
       → Is (HasValueIn D d) (λ f path. FaultAtIn D f d path) v
-      → Is (HasPairs D ms) (λ f path. FaultWithinIn D f ms path) w
-      → Is (HasPairs D (member k d ms)) (λ f path. FaultWithinIn D f (member k d ms) path) (or (within (key k) v) w)
+      → Is (HasPairs D ms) (λ f path. MemberFaultAtIn D f ms path) w
+      → Is (HasPairs D (member k d ms)) (λ f path. MemberFaultAtIn D f (member k d ms) path) (or (within (key k) v) w)
   members_are k d ms None None a b = (model.pair k a.0 b.0, rw (means_to_in D a.1, b.1) refl)
   members_are k d ms None (Some f) a b = behind k d a.0 ms a.1 b
   members_are k d ms (Some f) w a b = at_key k d ms a
 
   document_is : (ms : Members) (v : Verdict) → has_wrapper ms ≡ false
-      → Is (HasPairs D ms) (λ f path. FaultWithinIn D f ms path) v
+      → Is (HasPairs D ms) (λ f path. MemberFaultAtIn D f ms path) v
       → Is (HasValueIn D (tree.object ms)) (λ f path. FaultAtIn D f (tree.object ms) path) v
   document_is ms None none h = document_value D ms none h
   document_is ms (Some f) none h = document ms none h
@@ -66,14 +66,14 @@ module _ (D : Doubles) where
   ObjectIs ms v = Is (HasValueIn D (tree.object ms)) (λ f path. FaultAtIn D f (tree.object ms) path) v
 
   object_is : (ms : Members) (b : Bool) → has_wrapper ms ≡ b
-      → Is (HasPairs D ms) (λ f path. FaultWithinIn D f ms path) (found_members D ms)
+      → Is (HasPairs D ms) (λ f path. MemberFaultAtIn D f ms path) (found_members D ms)
       → (has_wrapper ms ≡ true → ObjectIs ms (found_wrapper D ms))
       → ObjectIs ms (cond b (found_wrapper D ms) (found_members D ms))
   object_is ms true h in_turn wrapped = wrapped h
   object_is ms false h in_turn wrapped = document_is ms (found_members D ms) h in_turn
 
   lone_is : (k : List ℕ) (d : Data) (r : Result Scalar Fault) → has_wrapper (member k d no_members) ≡ true
-      → single_at_in D (wrapper_of k) d ≡ r → ObjectIs (member k d no_members) (within (key k) (of_scalar r))
+      → optional_wrapper_read_in D (wrapper_of k) d ≡ r → ObjectIs (member k d no_members) (within (key k) (of_scalar r))
   lone_is k d (Ok x) w h = lone_value D k d x w h
   lone_is k d (Err f) w h = lone_fault D k d f w h
 
@@ -81,7 +81,7 @@ module _ (D : Doubles) where
   abbrev ScopeIs : Data → Verdict → Type 0
   ScopeIs e v = Is (HasScopeIn D e) (IsScopeFaultIn D e) v
 
-  scope_map_is : (ms : Members) (v : Verdict) → Is (HasPairs D ms) (λ f path. FaultWithinIn D f ms path) v
+  scope_map_is : (ms : Members) (v : Verdict) → Is (HasPairs D ms) (λ f path. MemberFaultAtIn D f ms path) v
       → ScopeIs (tree.object ms) (within (key (codes "$scope")) v)
   scope_map_is ms None h = scope_of_map D ms h
   scope_map_is ms (Some f) h = in_scope ms h
@@ -118,18 +118,18 @@ module _ (D : Doubles) where
     is_found (tree.array ds) = array_is ds (found_items D 0 ds) (are_found 0 ds)
     is_found (tree.object ms) = object_is ms (has_wrapper ms) refl (in_found ms) (wrapper_found ms)
 
-    are_found : (n : ℕ) (ds : Items) → Is (HasItems D ds) (λ f path. FaultAmongIn D f n ds path) (found_items D n ds)
+    are_found : (n : ℕ) (ds : Items) → Is (HasItems D ds) (λ f path. ItemFaultAtIn D f n ds path) (found_items D n ds)
     are_found n no_items = (model.no_values, refl)
     are_found n (item d ds) = items_are n d ds (found D d) (found_items D (n + 1) ds) (is_found d)
         (are_found (n + 1) ds)
 
-    in_found : (ms : Members) → Is (HasPairs D ms) (λ f path. FaultWithinIn D f ms path) (found_members D ms)
+    in_found : (ms : Members) → Is (HasPairs D ms) (λ f path. MemberFaultAtIn D f ms path) (found_members D ms)
     in_found no_members = (model.no_pairs, refl)
     in_found (member k d ms) = members_are k d ms (found D d) (found_members D ms) (is_found d) (in_found ms)
 
     wrapper_found : (ms : Members) → has_wrapper ms ≡ true → ObjectIs ms (found_wrapper D ms)
     wrapper_found no_members w = cc
-    wrapper_found (member k d no_members) w = lone_is k d (single_at_in D (wrapper_of k) d) w refl
+    wrapper_found (member k d no_members) w = lone_is k d (optional_wrapper_read_in D (wrapper_of k) d) w refl
     wrapper_found (member k d (member l e no_members)) w = two_are k d l e _ w refl (scope_found e)
     wrapper_found (member k d (member l e (member m f ms))) w =
         shape_fault D (member k d (member l e (member m f ms))) w (λ is. never is) refl

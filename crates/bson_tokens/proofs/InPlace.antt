@@ -16,7 +16,7 @@ use Rattle.std.specs.List.Sorted.{IsSortedBy, IsSortedByKey}
 use Rattle.std.specs.Ordering.{is_lt, ordering_then}
 use Rattle.std.specs.Str.{bytes_eq}
 use Rattle.json.specs.Json.{Json, null}
-use Rattle.bson_model.specs.Stable.{IsStableByKey, have_one_key}
+use Rattle.bson_model.specs.StableOrder.{IsStableByKey, have_equal_keys}
 use Rattle.bson_tokens.specs.PutSpans.{Rise, members_of}
 use Rattle.bson_tokens.specs.declared.arrangement.Arrangement.TheVariants.{FirstPlaces}
 use Rattle.bson_tokens.proofs.Normalizing.{cmp, AreBehind, IsNormalized}
@@ -216,7 +216,7 @@ module _ {M : Type 0} (key_of : M → List ℕ) (place_of : M → ℕ) where
 
   module _ (m : M) where
     abbrev twins : List M → List M
-    twins ms = filter (have_one_key key_of m) ms
+    twins ms = filter (have_equal_keys key_of m) ms
 
     from_at : (c : Bool) (n : ℕ) (o : M) (ms : List M) → n ≤ place_of o → FromPlace n (twins ms)
         → FromPlace n (cond c (o ∷ twins ms) (twins ms))
@@ -225,7 +225,7 @@ module _ {M : Type 0} (key_of : M → List ℕ) (place_of : M → ℕ) where
 
     from_twins : (n : ℕ) (ms : List M) → FromPlace n ms → FromPlace n (twins ms)
     from_twins n [] are = tt
-    from_twins n (o ∷ ms) are = from_at (have_one_key key_of m o) n o ms are.0 (from_twins n ms are.1)
+    from_twins n (o ∷ ms) are = from_at (have_equal_keys key_of m o) n o ms are.0 (from_twins n ms are.1)
 
     never_at : (c : Bool) (o : M) (ms : List M) → FromPlace (place_of o) (twins ms) → NeverFall (twins ms)
         → NeverFall (cond c (o ∷ twins ms) (twins ms))
@@ -235,7 +235,7 @@ module _ {M : Type 0} (key_of : M → List ℕ) (place_of : M → ℕ) where
     twins_never_fall : (ms : List M) → NeverFall ms → NeverFall (twins ms)
     twins_never_fall [] up = tt
     twins_never_fall (o ∷ ms) up =
-        never_at (have_one_key key_of m o) o ms (from_twins (place_of o) ms up.0) (twins_never_fall ms up.1)
+        never_at (have_equal_keys key_of m o) o ms (from_twins (place_of o) ms up.0) (twins_never_fall ms up.1)
 
     -- of two of the key the one that is no lower has no lower place
     no_lower : (o p : M) → key_of m ≡ key_of o → key_of m ≡ key_of p → before p o ≡ false → place_of o ≤ place_of p
@@ -245,7 +245,7 @@ module _ {M : Type 0} (key_of : M → List ℕ) (place_of : M → ℕ) where
         let later = sym (ap (λ r. is_lt (ordering_then r (nat_cmp (place_of p) (place_of o)))) tied) ∙ not_less in
         ge_from_not_lt (place_of p) (place_of o) later
 
-    later_at : (c : Bool) (o p : M) (ms : List M) → have_one_key key_of m p ≡ c → key_of m ≡ key_of o
+    later_at : (c : Bool) (o p : M) (ms : List M) → have_equal_keys key_of m p ≡ c → key_of m ≡ key_of o
         → before p o ≡ false → FromPlace (place_of o) (twins ms)
         → FromPlace (place_of o) (cond c (p ∷ twins ms) (twins ms))
     later_at true o p ms h mine not_less are =
@@ -255,16 +255,16 @@ module _ {M : Type 0} (key_of : M → List ℕ) (place_of : M → ℕ) where
     later : (o : M) (ms : List M) → key_of m ≡ key_of o → NoneLower before o ms → FromPlace (place_of o) (twins ms)
     later o [] mine none = tt
     later o (p ∷ ms) mine none =
-        later_at (have_one_key key_of m p) o p ms refl mine none.0 (later o ms mine none.1)
+        later_at (have_equal_keys key_of m p) o p ms refl mine none.0 (later o ms mine none.1)
 
-    sorted_at : (c : Bool) (o : M) (ms : List M) → have_one_key key_of m o ≡ c → NoneLower before o ms
+    sorted_at : (c : Bool) (o : M) (ms : List M) → have_equal_keys key_of m o ≡ c → NoneLower before o ms
         → NeverFall (twins ms) → NeverFall (cond c (o ∷ twins ms) (twins ms))
     sorted_at true o ms h none rest = (later o ms (same_key (key_of m) (key_of o) h) none, rest)
     sorted_at false o ms h none rest = rest
 
     sorted_never_fall : (ms : List M) → Sorted before ms → NeverFall (twins ms)
     sorted_never_fall [] up = tt
-    sorted_never_fall (o ∷ ms) up = sorted_at (have_one_key key_of m o) o ms refl up.0 (sorted_never_fall ms up.1)
+    sorted_never_fall (o ∷ ms) up = sorted_at (have_equal_keys key_of m o) o ms refl up.0 (sorted_never_fall ms up.1)
 
   -- ---- the sort
 
@@ -278,7 +278,7 @@ module _ {M : Type 0} (key_of : M → List ℕ) (place_of : M → ℕ) where
       let mine = differ lowest xs rise in
       let others = differ_permuted mark place_of nothing xs ys same mine in (
         λ m. same_lists (twins m ys) (twins m xs) (sorted_never_fall m ys up)
-            (twins_never_fall m xs (never_fall lowest xs rise)) (still_differ (have_one_key key_of m) ys others)
-            (still_differ (have_one_key key_of m) xs mine) (same_picked (have_one_key key_of m) xs ys same mine),
+            (twins_never_fall m xs (never_fall lowest xs rise)) (still_differ (have_equal_keys key_of m) ys others)
+            (still_differ (have_equal_keys key_of m) xs mine) (same_picked (have_equal_keys key_of m) xs ys same mine),
         λ k d least most. first_alone _ _ (sorted k d least most),
       )

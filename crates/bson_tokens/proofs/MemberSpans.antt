@@ -7,7 +7,7 @@ use Rattle.std.proofs.lemmas.Slice.Eq.{bytes_eq-Decides}
 use Rattle.std.specs.Str.{bytes_eq}
 use Rattle.json.specs.Json.{Json, Members, member}
 use Rattle.bson_tokens.specs.Normalized.{put_first}
-use Rattle.bson_model.specs.Stable.{IsStableByKey}
+use Rattle.bson_model.specs.StableOrder.{IsStableByKey}
 use Rattle.bson_tokens.specs.PutSpans.{Rise, members_of, put_each_by, merged, merged_from}
 use Rattle.bson_tokens.specs.declared.arrangement.Arrangement.TheVariants.{FirstPlaces}
 use Rattle.bson_tokens.proofs.Normalizing.{AreBehind, IsNormalized}

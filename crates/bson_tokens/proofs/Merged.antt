@@ -9,7 +9,7 @@ use Rattle.std.specs.List.Sorted.{IsSortedByKey}
 use Rattle.std.specs.Ordering.{is_lt, match_ordering}
 use Rattle.std.specs.Str.{bytes_eq}
 use Rattle.json.specs.Json.{Json, Members, no_members, member}
-use Rattle.bson_model.specs.Stable.{IsStableByKey}
+use Rattle.bson_model.specs.StableOrder.{IsStableByKey}
 use Rattle.bson_tokens.specs.Normalized.{put_ascending, put_by}
 use Rattle.bson_tokens.specs.PutSpans.{Rise, members_of, put_each_by, merged, merged_from}
 use Rattle.bson_tokens.specs.declared.arrangement.Arrangement.{Arrangement}

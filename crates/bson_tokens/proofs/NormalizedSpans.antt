@@ -13,7 +13,7 @@ use Rattle.bson_tokens.specs.declared.arrangement.Arrangement.{Arrangement}
 use Rattle.bson_tokens.specs.declared.arrangement.Arrangement.TheVariants.{FirstPlaces, Ascending}
 use Rattle.bson_tokens.specs.declared.order.MemberSpan.{MemberSpan}
 use Rattle.std.specs.List.Sorted.{IsSortedByKey}
-use Rattle.bson_model.specs.Stable.{IsStableByKey}
+use Rattle.bson_model.specs.StableOrder.{IsStableByKey}
 use Rattle.bson_tokens.proofs.InPlace.{stable_by_place}
 use Rattle.bson_tokens.proofs.Merged.{settled_by_key, settled_by_place}
 use Rattle.bson_tokens.proofs.Ordered.{as_entries, put_as_entries}

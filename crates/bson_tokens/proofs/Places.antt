@@ -13,7 +13,7 @@ use Rattle.std.specs.Str.{bytes_eq}
 use Rattle.json.specs.Find.{get_member, later_or}
 use Rattle.json.specs.Json.{Json, Members, no_members, member}
 use Rattle.json.specs.Strict.{keys}
-use Rattle.bson_model.specs.Places.{without, first_places}
+use Rattle.bson_model.specs.DuplicateKeys.{without, first_places}
 use Rattle.bson_tokens.specs.Normalized.{put_first, put_by, normalized, normalized_members}
 use Rattle.bson_tokens.specs.declared.arrangement.Arrangement.{Arrangement}
 use Rattle.bson_tokens.specs.declared.arrangement.Arrangement.TheVariants.{FirstPlaces, Ascending}

@@ -11,11 +11,11 @@ use Rattle.serde_json.specs.View.{members_view}
 use Rattle.serde_json.specs.declared.value.Value.{Value}
 use Rattle.serde_json.specs.Find.{as_i64, as_str, as_number}
 use Rattle.bson_scalar.specs.Faults.{Fault, wrong_shape, ◌>>=◌, or_wrong_shape}
-use Rattle.bson_scalar.specs.Reading.{single_in, single_at_in, single_key_member, two_members, on_text, on_single_key, on_two}
+use Rattle.bson_scalar.specs.Reading.{wrapper_read_in, optional_wrapper_read_in, single_key_member, two_members, on_text, on_single_key, on_two_keys}
 use Rattle.bson_scalar.specs.Reading.{millis_of, is_one}
-use Rattle.bson_scalar.specs.Reading.{one_read, undefined_read}
+use Rattle.bson_scalar.specs.Reading.{number_one_read, undefined_read}
 use Rattle.bson_scalar.specs.Scalar.{Scalar, date, min_key, max_key}
-use Rattle.bson_scalar.specs.TreeParts.{whole, u32_at, small_number}
+use Rattle.bson_scalar.specs.TreeParts.{i64_at, u32_at, small_number}
 use Rattle.bson_scalar.specs.declared.wrapper.Wrapper.{Wrapper}
 use Rattle.bson_scalar.specs.declared.wrapper.Wrapper.TheVariants.{Oid, Symbol, RegularExpression, NumberInt}
 use Rattle.bson_scalar.specs.declared.wrapper.Wrapper.TheVariants.{NumberLong, NumberDouble, NumberDecimal, Binary}
@@ -133,7 +133,7 @@ same_number n (tree.array ds) = refl
 same_number zero (tree.object ms) = refl
 same_number (suc n) (tree.object ms) = refl
 
-same_whole : (n : ℕ) (d : Data) → whole (pruned n d) ≡ whole d
+same_whole : (n : ℕ) (d : Data) → i64_at (pruned n d) ≡ i64_at d
 same_whole n d = ap (option_and_then as_i64) (same_number n d)
 
 same_small : (n : ℕ) (d : Data) → u32_at (pruned n d) ≡ u32_at d
@@ -193,7 +193,7 @@ lone_then a n d f = ap (λ o. or_wrong_shape o >>= (λ t. on_text t f)) (lone a 
     ∙ map_then (pruned n) (λ t. on_text t f) (λ t. on_text t f) (single_key_member a d) (λ t. text_same n t f)
 
 two_then : {X : Type 0} (a b : List ℕ) (n : ℕ) (d : Data) (f : Data → Data → Result X Fault)
-    → ((x y : Data) → f (pruned n x) (pruned n y) ≡ f x y) → on_two a b (pruned (suc n) d) f ≡ on_two a b d f
+    → ((x y : Data) → f (pruned n x) (pruned n y) ≡ f x y) → on_two_keys a b (pruned (suc n) d) f ≡ on_two_keys a b d f
 two_then a b n d f same =
     ap (λ o. or_wrong_shape o >>= (λ (p : Data × Data). f p.0 p.1)) (two a b n d)
     ∙ map_then (λ (p : Data × Data). (pruned n p.0, pruned n p.1)) (λ (p : Data × Data). f p.0 p.1)
@@ -207,7 +207,7 @@ same_millis n (tree.string s) = refl
 same_millis n (tree.array ds) = refl
 same_millis n (tree.object ms) = lone_then (codes "$numberLong") n (tree.object ms) _
 
-same_one : (y : Scalar) (n : ℕ) (d : Data) → one_read y (pruned n d) ≡ one_read y d
+same_one : (y : Scalar) (n : ℕ) (d : Data) → number_one_read y (pruned n d) ≡ number_one_read y d
 same_one y n d = ap (λ z. cond (is_one z) (Ok y) (Err wrong_shape)) (same_whole n d)
 
 same_undefined : (n : ℕ) (d : Data) → undefined_read (pruned n d) ≡ undefined_read d
@@ -219,7 +219,7 @@ same_undefined n (tree.array ds) = refl
 same_undefined zero (tree.object ms) = refl
 same_undefined (suc n) (tree.object ms) = refl
 
-same_single : (D : Doubles) (w : Wrapper) (d : Data) → single_in D w (pruned 2 d) ≡ single_in D w d
+same_single : (D : Doubles) (w : Wrapper) (d : Data) → wrapper_read_in D w (pruned 2 d) ≡ wrapper_read_in D w d
 same_single D Oid d = text_same 2 d _
 same_single D Symbol d = text_same 2 d _
 same_single D RegularExpression d =
@@ -240,7 +240,7 @@ same_single D DbPointer d =
     two_then (codes "$id") (codes "$ref") 1 d _ (λ i r. text_then 1 r _ _ (λ name. lone_then (codes "$oid") 0 i _))
 same_single D Undefined d = same_undefined 2 d
 
-same_at : (D : Doubles) (w : Option Wrapper) (d : Data) → single_at_in D w (pruned 2 d) ≡ single_at_in D w d
+same_at : (D : Doubles) (w : Option Wrapper) (d : Data) → optional_wrapper_read_in D w (pruned 2 d) ≡ optional_wrapper_read_in D w d
 same_at D (Some w) d = same_single D w d
 same_at D None d = refl
 

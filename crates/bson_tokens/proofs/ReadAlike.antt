@@ -12,7 +12,7 @@ use Rattle.bson_scalar.specs.declared.form.Doubles.{Doubles}
 use Rattle.bson_model.specs.Sorted.{sorted}
 use Rattle.bson_model.specs.Value.{Value}
 use Rattle.bson_model.specs.OrderedTexts.{HasMeaningInOrder, MeansByDefault}
-use Rattle.bson_model.specs.Kept.{put_kept, kept, kept_items, kept_members, read_kept, unordered}
+use Rattle.bson_model.specs.OrderedTrees.{put_in_place, kept, kept_items, kept_members, read_in_order, tree_sorted_by_key}
 use Rattle.bson_model.proofs.OfferedInOrder.{read_forgotten}
 use Rattle.bson_tokens.specs.Normalized.{put_first, put_ascending, put_by, normalized, normalized_items, normalized_members}
 use Rattle.bson_tokens.specs.Normalized.{HasNumbers, ItemsHaveNumbers, MembersHaveNumbers, IsNormalizedText}
@@ -23,7 +23,7 @@ use Rattle.bson_tokens.proofs.Normalizing.{cmp, IsBehind, AreBehind, IsNormalize
 -- ---- both ways to read a tree
 
 abbrev put_data : Arrangement → List ℕ → Data → Members → Members
-put_data FirstPlaces = put_kept
+put_data FirstPlaces = put_in_place
 put_data Ascending = put
 
 abbrev mutual
@@ -83,7 +83,7 @@ mutual
   members_by_place : (ms : json.Members) (found : Members) → members_by FirstPlaces ms found ≡ kept_members ms found
   members_by_place json.no_members found = refl
   members_by_place (json.member k j ms) found = rw (by_place j)
-      (later _ _ (kept j) (λ d. members_by_place ms (put_kept k d found)))
+      (later _ _ (kept j) (λ d. members_by_place ms (put_in_place k d found)))
 
 -- ---- members as they stand
 
@@ -108,12 +108,12 @@ after f Option.None y h = absurd cc
 
 put_first_at : (b : Bool) (k c : List ℕ) (j i : json.Json) (d e : Data) (ms : json.Members) (ds : Members)
     → tree_by FirstPlaces j ≡ Some d → tree_by FirstPlaces i ≡ Some e → each_by FirstPlaces ms ≡ Some ds
-    → each_by FirstPlaces (put_first k j ms) ≡ Some (put_kept k d ds)
+    → each_by FirstPlaces (put_first k j ms) ≡ Some (put_in_place k d ds)
     → each_by FirstPlaces (cond b (json.member c j ms) (json.member c i (put_first k j ms)))
-    ≡ Some (cond b (member c d ds) (member c e (put_kept k d ds)))
+    ≡ Some (cond b (member c d ds) (member c e (put_in_place k d ds)))
 put_first_at true k c j i d e ms ds new old are is = member_by FirstPlaces c j d ms ds new are
 put_first_at false k c j i d e ms ds new old are is =
-    member_by FirstPlaces c i e (put_first k j ms) (put_kept k d ds) old is
+    member_by FirstPlaces c i e (put_first k j ms) (put_in_place k d ds) old is
 
 put_ascending_at : (o : Ordering) (k c : List ℕ) (j i : json.Json) (d e : Data) (ms : json.Members) (ds : Members)
     → tree_by Ascending j ≡ Some d → tree_by Ascending i ≡ Some e → each_by Ascending ms ≡ Some ds
@@ -133,7 +133,7 @@ each_put : (a : Arrangement) (k : List ℕ) (j : json.Json) (d : Data) (ms : jso
     → tree_by a j ≡ Some d → each_by a ms ≡ Some ds → each_by a (put_by a k j ms) ≡ Some (put_data a k d ds)
 each_put FirstPlaces k j d json.no_members ds new are =
     member_by FirstPlaces k j d json.no_members no_members new refl
-    ∙ ap (λ l. Some (put_kept k d l)) (same_Some no_members ds are)
+    ∙ ap (λ l. Some (put_in_place k d l)) (same_Some no_members ds are)
 each_put Ascending k j d json.no_members ds new are =
     member_by Ascending k j d json.no_members no_members new refl
     ∙ ap (λ l. Some (put k d l)) (same_Some no_members ds are)
@@ -141,7 +141,7 @@ each_put FirstPlaces k j d (json.member c i ms) ds new are =
     let a = after (λ e. option_map (member c e) (each_by FirstPlaces ms)) (tree_by FirstPlaces i) ds are in
     let b = mapped (member c a.0) (each_by FirstPlaces ms) ds a.2 in
     put_first_at (bytes_eq k c) k c j i d a.0 ms b.0 new a.1 b.1 (each_put FirstPlaces k j d ms b.0 new b.1)
-    ∙ ap (λ l. Some (put_kept k d l)) b.2
+    ∙ ap (λ l. Some (put_in_place k d l)) b.2
 each_put Ascending k j d (json.member c i ms) ds new are =
     let a = after (λ e. option_map (member c e) (each_by Ascending ms)) (tree_by Ascending i) ds are in
     let b = mapped (member c a.0) (each_by Ascending ms) ds a.2 in
@@ -240,13 +240,13 @@ kept_alike j has = sym (by_place (normalized FirstPlaces j)) ∙ tree_alike Firs
 
 -- ---- texts
 
-pub text_kept : (text written : List ℕ) → IsNormalizedText FirstPlaces text written → read_kept written ≡ read_kept text
+pub text_kept : (text written : List ℕ) → IsNormalizedText FirstPlaces text written → read_in_order written ≡ read_in_order text
 text_kept text written is = ap (option_and_then kept) is.read_again ∙ kept_alike is.tree is.numbers
     ∙ sym (ap (option_and_then kept) is.is_tree)
 
 pub text_read : (a : Arrangement) (text written : List ℕ) → IsNormalizedText a text written → read written ≡ read text
 text_read FirstPlaces text written is =
-    read_forgotten written ∙ ap (option_map unordered) (text_kept text written is) ∙ sym (read_forgotten text)
+    read_forgotten written ∙ ap (option_map tree_sorted_by_key) (text_kept text written is) ∙ sym (read_forgotten text)
 text_read Ascending text written is = ap (option_and_then of_json) is.read_again ∙ read_alike is.tree is.numbers
     ∙ sym (ap (option_and_then of_json) is.is_tree)
 
@@ -262,7 +262,7 @@ meant D a text written v is =
     let same = text_read a text written is in
     (meant_by D v written text same, meant_by D v text written (sym same))
 
-ordered_by : (D : Doubles) (v : Value) (text other : List ℕ) → read_kept text ≡ read_kept other → read text ≡ read other
+ordered_by : (D : Doubles) (v : Value) (text other : List ℕ) → read_in_order text ≡ read_in_order other → read text ≡ read other
     → HasMeaningInOrder D text v → HasMeaningInOrder D other v
 ordered_by D v text other same by_key has = record {
   tree = has.tree;

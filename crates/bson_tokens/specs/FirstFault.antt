@@ -5,7 +5,7 @@ use Rattle.std.specs.Str.{bytes_eq}
 use Rattle.serde_json.specs.Data.{Data, Items, no_items, item, Members, no_members, member}
 use Rattle.serde_json.specs.Data as tree
 use Rattle.bson_scalar.specs.Faults.{Fault, wrong_shape}
-use Rattle.bson_scalar.specs.Reading.{number_read_in, single_at_in}
+use Rattle.bson_scalar.specs.Reading.{number_read_in, optional_wrapper_read_in}
 use Rattle.bson_scalar.specs.Scalar.{Scalar}
 use Rattle.bson_scalar.specs.Table.{wrapper_of, has_wrapper}
 use Rattle.bson_scalar.specs.declared.form.Doubles.{Doubles}
@@ -56,7 +56,7 @@ abbrev mutual
   -- in an object with a wrapper key
   pub found_wrapper : Doubles → Members → Verdict
   found_wrapper D no_members = here
-  found_wrapper D (member k d no_members) = within (key k) (of_scalar (single_at_in D (wrapper_of k) d))
+  found_wrapper D (member k d no_members) = within (key k) (of_scalar (optional_wrapper_read_in D (wrapper_of k) d))
   found_wrapper D (member k d (member l e no_members)) =
       if bytes_eq k (codes "$code") && bytes_eq l (codes "$scope") then of_code d (found_scope D e) else here
   found_wrapper D (member k d (member l e (member m f ms))) = here

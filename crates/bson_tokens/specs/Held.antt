@@ -4,13 +4,13 @@ use Rattle.json.specs.Token.{Token}
 use Rattle.serde_json.specs.Data.{Data, Items, no_items, Members, no_members, member, put}
 use Rattle.serde_json.specs.Data as tree
 use Rattle.serde_json.specs.Find.{as_str}
-use Rattle.bson_scalar.specs.Reading.{single_at_in}
+use Rattle.bson_scalar.specs.Reading.{optional_wrapper_read_in}
 use Rattle.bson_scalar.specs.declared.form.Doubles.{Doubles}
 use Rattle.bson_scalar.specs.declared.wrapper.Wrapper.{Wrapper}
 
 -- each wrapper reads d as it reads t, with the same error
 abbrev pub StandsFor : Data → Data → Type 0
-StandsFor t d = ((D : Doubles) (w : Option Wrapper) → single_at_in D w d ≡ single_at_in D w t) × (as_str d ≡ as_str t)
+StandsFor t d = ((D : Doubles) (w : Option Wrapper) → optional_wrapper_read_in D w d ≡ optional_wrapper_read_in D w t) × (as_str d ≡ as_str t)
 
 -- a tree was read, these tokens remain, and wrappers read d as they read the tree
 abbrev pub IsHeldAs : Option (Data × List Token) → Data → List Token → Type 0

@@ -10,8 +10,8 @@ ghost use Rattle.json.specs.Tree.{depth};
 ghost use Rattle.serde_json.specs.Read.{read};
 ghost use Rattle.bson_scalar.specs.declared.form.Doubles.{Doubles};
 ghost use Rattle.bson_model.specs.Value.{Value};
-ghost use Rattle.bson_model.specs.Kept.{read_kept};
-ghost use Rattle.bson_model.specs.Places.{first_places};
+ghost use Rattle.bson_model.specs.OrderedTrees.{read_in_order};
+ghost use Rattle.bson_model.specs.DuplicateKeys.{first_places};
 ghost use Rattle.bson_model.specs.OrderedTexts.{HasMeaningInOrder, MeansByDefault};
 ghost use Rattle.bson_tree.specs.Place.{PathSegment};
 ghost use Rattle.bson_tokens.specs.Normalized.{normalized, normalized_members, IsNormalizedText};
@@ -31,7 +31,7 @@ pub fn one_double()
 /// of the text, and in either arrangement as `serde_json`'s tree.
 pub fn normalized_texts_read_alike()
     ensures in_order { (text written : List ℕ) → IsNormalizedText FirstPlaces text written
-        → read_kept written ≡ read_kept text }
+        → read_in_order written ≡ read_in_order text }
     ensures by_key { (a : Arrangement) (text written : List ℕ) → IsNormalizedText a text written
         → read written ≡ read text }
 {}

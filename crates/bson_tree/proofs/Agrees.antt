@@ -9,7 +9,7 @@ use Rattle.bson_scalar.specs.declared.form.Doubles.{Doubles}
 use Rattle.bson_model.specs.Fault.{MeansNothingIn, fault_in, fault_of_in}
 use Rattle.bson_model.proofs.Offered.{means_to_in}
 use Rattle.bson_model.specs.Reading.{reads_in, reads_items_in, reads_members_in, scope_value}
-use Rattle.bson_tree.specs.Place.{PathSegment, FaultAtIn, FaultAmongIn, FaultWithinIn, number, array, document}
+use Rattle.bson_tree.specs.Place.{PathSegment, FaultAtIn, ItemFaultAtIn, MemberFaultAtIn, number, array, document}
 use Rattle.bson_tree.specs.Place.{wrapper}
 use Rattle.bson_tree.specs.Place.{scope, shape}
 use Rattle.bson_tree.specs.Place.{here, later, at_key, behind, key, element, lone, code_with_scope}
@@ -30,12 +30,12 @@ module _ (D : Doubles) where
     fault_to (scope s ms m) = ap (λ r. scope_value s (r >>= λ qs. Ok (Some qs))) (in_to m)
     fault_to (shape ms w o none) = shape_nothing D ms w o none
 
-    pub among_to : {f : Fault} {n : ℕ} {ds : Items} {path : List PathSegment} → FaultAmongIn D f n ds path
+    pub among_to : {f : Fault} {n : ℕ} {ds : Items} {path : List PathSegment} → ItemFaultAtIn D f n ds path
         → reads_items_in D ds ≡ Err f
     among_to (here n d ds m) = rw (fault_to m) refl
     among_to (later n d v ds e m) = rw (means_to_in D e, among_to m) refl
 
-    pub in_to : {f : Fault} {ms : Members} {path : List PathSegment} → FaultWithinIn D f ms path → reads_members_in D ms ≡ Err f
+    pub in_to : {f : Fault} {ms : Members} {path : List PathSegment} → MemberFaultAtIn D f ms path → reads_members_in D ms ≡ Err f
     in_to (at_key k d ms m) = rw (fault_to m) refl
     in_to (behind k d v ms e m) = rw (means_to_in D e, in_to m) refl
 
@@ -58,14 +58,14 @@ module _ (D : Doubles) where
     one_path (shape ns w o h) (scope s ms a) = absurd (o (code_with_scope s ms))
     one_path (shape ns w o h) (shape ms v p i) = refl
 
-    one_among : {f g : Fault} {n : ℕ} {ds : Items} {w x : List PathSegment} → FaultAmongIn D f n ds w
-        → FaultAmongIn D g n ds x → w ≡ x
+    one_among : {f g : Fault} {n : ℕ} {ds : Items} {w x : List PathSegment} → ItemFaultAtIn D f n ds w
+        → ItemFaultAtIn D g n ds x → w ≡ x
     one_among (here n d ds a) (here m e es b) = ap (λ y. y ++ element n ∷ []) (one_path a b)
     one_among (here n d ds a) (later m e v es h b) = absurd (nothing_read D (fault_to a) _ h)
     one_among (later n d v ds h a) (here m e es b) = absurd (nothing_read D (fault_to b) _ h)
     one_among (later n d v ds h a) (later m e u es i b) = one_among a b
 
-    one_in : {f g : Fault} {ms : Members} {w x : List PathSegment} → FaultWithinIn D f ms w → FaultWithinIn D g ms x → w ≡ x
+    one_in : {f g : Fault} {ms : Members} {w x : List PathSegment} → MemberFaultAtIn D f ms w → MemberFaultAtIn D g ms x → w ≡ x
     one_in (at_key k d ms a) (at_key l e ns b) = ap (λ y. y ++ key k ∷ []) (one_path a b)
     one_in (at_key k d ms a) (behind l e v ns h b) = absurd (nothing_read D (fault_to a) _ h)
     one_in (behind k d v ms h a) (at_key l e ns b) = absurd (nothing_read D (fault_to b) _ h)

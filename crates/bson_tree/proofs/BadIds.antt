@@ -15,8 +15,8 @@ use Rattle.bson_scalar.specs.Doubles.{double_in}
 use Rattle.bson_scalar.specs.Faults.{Fault, wrong_shape, wrong_id, ◌>>=◌, or_wrong_shape}
 use Rattle.bson_scalar.specs.Means.{MeansScalar, IsOidText}
 use Rattle.bson_scalar.specs.Means as means
-use Rattle.bson_scalar.specs.Reading.{single_in, single_at_in, on_text}
-use Rattle.bson_scalar.specs.Reading.{parsed_object_id, id_or, oid_read, pointer_read, two_members, single_key_member, on_single_key, int_of}
+use Rattle.bson_scalar.specs.Reading.{wrapper_read_in, optional_wrapper_read_in, on_text}
+use Rattle.bson_scalar.specs.Reading.{parsed_object_id, id_or_fault, oid_read, pointer_read, two_members, single_key_member, on_single_key, int_of}
 use Rattle.bson_scalar.specs.Reading.{millis_of, undefined_read, decimal_pattern, bytes_of, byte_of}
 use Rattle.bson_scalar.specs.Scalar.{Scalar}
 use Rattle.bson_scalar.specs.Scalar as kind
@@ -140,12 +140,12 @@ id_text s id h =
     (ap (λ r. r >>= λ x. Ok (kind.object_id x)) h))
 
 -- the text at fault is the one that is read
-id_fault : (t s : List ℕ) (r : _) → id_or t r ≡ Err (wrong_id s) → t ≡ s
+id_fault : (t s : List ℕ) (r : _) → id_or_fault t r ≡ Err (wrong_id s) → t ≡ s
 id_fault t s (Ok id) h = cc
 id_fault t s (Err e) h = cc
 
 -- a text is never of the wrong shape
-shape_no_id : (t : List ℕ) (r : _) → id_or t r ≡ Err wrong_shape → ⊥
+shape_no_id : (t : List ℕ) (r : _) → id_or_fault t r ≡ Err wrong_shape → ⊥
 shape_no_id t (Ok id) h = cc
 shape_no_id t (Err e) h = cc
 
@@ -224,7 +224,7 @@ oid_key k is =
     let d = tree.string zero_text in
     let x = kind.object_id zero_id in
     let read = scalar_to Special (object_of_one (codes "$oid") d) x (means.oid zero_text zero_id is_zero_id) in
-    oid_production (scalar_from Special (object_of_one k d) x (ap (λ w. single_at_in Special w d) is ∙ read))
+    oid_production (scalar_from Special (object_of_one k d) x (ap (λ w. optional_wrapper_read_in Special w d) is ∙ read))
 
 pointer_key : (k : List ℕ) → wrapper_of k ≡ Some DbPointer → k ≡ codes "$dbPointer"
 pointer_key k is =
@@ -233,11 +233,11 @@ pointer_key k is =
     let x = kind.db_pointer [] zero_id in
     let read = scalar_to Special (object_of_one (codes "$dbPointer") d) x
     (means.db_pointer [] zero_text zero_id is_zero_id) in
-    pointer_production (scalar_from Special (object_of_one k d) x (ap (λ w. single_at_in Special w d) is ∙ read))
+    pointer_production (scalar_from Special (object_of_one k d) x (ap (λ w. optional_wrapper_read_in Special w d) is ∙ read))
 
 module _ (D : Doubles) where
   single_bad : (k : List ℕ) (d : Data) (s : List ℕ) (w : Wrapper) → wrapper_of k ≡ Some w
-      → single_in D w d ≡ Err (wrong_id s) → HasBadId (object_of_one k d) s
+      → wrapper_read_in D w d ≡ Err (wrong_id s) → HasBadId (object_of_one k d) s
   single_bad k d s Oid is h = rw (oid_key k is) (oid_bad d s h)
   single_bad k d s DbPointer is h = rw (pointer_key k is) (pointer_bad d s h)
   single_bad k d s Symbol is h = absurd (then_no_id (as_str d) _ (λ t. ok_no_id _) s h)
@@ -269,7 +269,7 @@ module _ (D : Doubles) where
 
   -- what reading finds at a key is a bad id
   pub single_at_bad : (k : List ℕ) (d : Data) (s : List ℕ) (w : Option Wrapper) → wrapper_of k ≡ w
-      → single_at_in D w d ≡ Err (wrong_id s) → HasBadId (object_of_one k d) s
+      → optional_wrapper_read_in D w d ≡ Err (wrong_id s) → HasBadId (object_of_one k d) s
   single_at_bad k d s (Some w) is h = single_bad k d s w is h
   single_at_bad k d s None is h = cc
 

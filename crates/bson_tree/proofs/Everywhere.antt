@@ -8,7 +8,7 @@ use Rattle.std.proofs.lemmas.Slice.Eq.{bytes_eq-Decides}
 use Rattle.serde_json.specs.Data.{Data, Num, Items, no_items, item, Members, no_members, member}
 use Rattle.serde_json.specs.Data as tree
 use Rattle.bson_scalar.specs.Faults.{Fault, wrong_shape}
-use Rattle.bson_scalar.specs.Reading.{number_read_in, single_at_in}
+use Rattle.bson_scalar.specs.Reading.{number_read_in, optional_wrapper_read_in}
 use Rattle.bson_scalar.specs.Scalar.{Scalar}
 use Rattle.bson_scalar.specs.Scalar as kind
 use Rattle.bson_scalar.specs.Table.{wrapper_of, has_wrapper}
@@ -17,7 +17,7 @@ use Rattle.bson_model.specs.Fault.{MeansNothingIn}
 use Rattle.bson_model.specs.Reading.{reads_in}
 use Rattle.bson_model.specs.Value as model
 use Rattle.bson_model.proofs.Offered.{means_to_in}
-use Rattle.bson_tree.specs.Place.{PathSegment, key, element, FaultAtIn, FaultAmongIn, FaultWithinIn, HasValueIn}
+use Rattle.bson_tree.specs.Place.{PathSegment, key, element, FaultAtIn, ItemFaultAtIn, MemberFaultAtIn, HasValueIn}
 use Rattle.bson_tree.specs.Place.{array, document, here, later, at_key, behind}
 use Rattle.bson_tree.proofs.Agrees.{fault_to}
 use Rattle.bson_tree.proofs.FaultLaws.{nothing_read}
@@ -35,7 +35,7 @@ module _ (D : Doubles) where
   ValueOr t = Or (HasValueIn D t) (λ f path. FaultAtIn D f t path)
 
   abbrev PairsOr : Members → Type 0
-  PairsOr ms = Or (HasPairs D ms) (λ f path. FaultWithinIn D f ms path)
+  PairsOr ms = Or (HasPairs D ms) (λ f path. MemberFaultAtIn D f ms path)
 
   abbrev ScopeOr : Data → Type 0
   ScopeOr e = Or (HasScopeIn D e) (IsScopeFaultIn D e)
@@ -44,13 +44,13 @@ module _ (D : Doubles) where
   number_is n (Ok x) h = inl (number_value D n x h)
   number_is n (Err f) h = inr (f, [], no_number D n f h)
 
-  array_is : (ds : Items) → Or (HasItems D ds) (λ f path. FaultAmongIn D f 0 ds path) → ValueOr (tree.array ds)
+  array_is : (ds : Items) → Or (HasItems D ds) (λ f path. ItemFaultAtIn D f 0 ds path) → ValueOr (tree.array ds)
   array_is ds (inl a) = inl (array_value D ds a)
   array_is ds (inr a) = inr (a.0, a.1, array ds a.2)
 
   items_are : (n : ℕ) (d : Data) (ds : Items) → ValueOr d
-      → Or (HasItems D ds) (λ f path. FaultAmongIn D f (n + 1) ds path)
-      → Or (HasItems D (item d ds)) (λ f path. FaultAmongIn D f n (item d ds) path)
+      → Or (HasItems D ds) (λ f path. ItemFaultAtIn D f (n + 1) ds path)
+      → Or (HasItems D (item d ds)) (λ f path. ItemFaultAtIn D f n (item d ds) path)
   items_are n d ds (inl a) (inl b) = inl (model.value a.0 b.0, rw (means_to_in D a.1, b.1) refl)
   items_are n d ds (inl a) (inr b) = inr (b.0, b.1, later n d a.0 ds a.1 b.2)
   items_are n d ds (inr a) b = inr (a.0, a.1 ++ element n ∷ [], here n d ds a.2)
@@ -70,7 +70,7 @@ module _ (D : Doubles) where
   object_is ms false h pairs of_wrapper = document_is ms h pairs
 
   lone_is : (k : List ℕ) (d : Data) (r : Result Scalar Fault) → has_wrapper (member k d no_members) ≡ true
-      → single_at_in D (wrapper_of k) d ≡ r → ValueOr (tree.object (member k d no_members))
+      → optional_wrapper_read_in D (wrapper_of k) d ≡ r → ValueOr (tree.object (member k d no_members))
   lone_is k d (Ok x) w h = inl (lone_value D k d x w h)
   lone_is k d (Err f) w h = inr (f, key k ∷ [], lone_fault D k d f w h)
 
@@ -113,7 +113,7 @@ module _ (D : Doubles) where
     value_or_fault (tree.array ds) = array_is ds (items_or_fault 0 ds)
     value_or_fault (tree.object ms) = object_is ms (has_wrapper ms) refl (pairs_or_fault ms) (wrapper_or_fault ms)
 
-    items_or_fault : (n : ℕ) (ds : Items) → Or (HasItems D ds) (λ f path. FaultAmongIn D f n ds path)
+    items_or_fault : (n : ℕ) (ds : Items) → Or (HasItems D ds) (λ f path. ItemFaultAtIn D f n ds path)
     items_or_fault n no_items = inl (model.no_values, refl)
     items_or_fault n (item d ds) = items_are n d ds (value_or_fault d) (items_or_fault (n + 1) ds)
 
@@ -123,7 +123,7 @@ module _ (D : Doubles) where
 
     wrapper_or_fault : (ms : Members) → has_wrapper ms ≡ true → ValueOr (tree.object ms)
     wrapper_or_fault no_members w = cc
-    wrapper_or_fault (member k d no_members) w = lone_is k d (single_at_in D (wrapper_of k) d) w refl
+    wrapper_or_fault (member k d no_members) w = lone_is k d (optional_wrapper_read_in D (wrapper_of k) d) w refl
     wrapper_or_fault (member k d (member l e no_members)) w = two_are k d l e _ w refl (scope_or_fault e)
     wrapper_or_fault (member k d (member l e (member m f ms))) w =
         inr (wrong_shape, [], shape_fault D (member k d (member l e (member m f ms))) w (λ is. never is) refl)

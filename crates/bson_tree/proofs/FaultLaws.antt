@@ -9,8 +9,8 @@ use Rattle.serde_json.specs.Data as tree
 use Rattle.serde_json.specs.Find.{as_i64}
 use Rattle.bson_scalar.specs.Doubles.{finite_number}
 use Rattle.bson_scalar.specs.Faults.{Fault, wrong_shape, wrong_id, ◌>>=◌, or_wrong_shape}
-use Rattle.bson_scalar.specs.Ints.{narrowest}
-use Rattle.bson_scalar.specs.Reading.{number_read_in, or_double_read, single_at_in, on_text}
+use Rattle.bson_scalar.specs.Ints.{narrowest_int}
+use Rattle.bson_scalar.specs.Reading.{number_read_in, or_double_read, optional_wrapper_read_in, on_text}
 use Rattle.bson_scalar.specs.Scalar.{Scalar}
 use Rattle.bson_scalar.specs.Scalar as kind
 use Rattle.bson_scalar.specs.TreeParts.{object_of_one, object_of_two}
@@ -23,7 +23,7 @@ use Rattle.bson_model.specs.Reading.{scalar_value, code_at, scope_value}
 use Rattle.bson_model.specs.Value.{Pairs}
 use Rattle.bson_model.specs.Value as model
 use Rattle.bson_model.proofs.Offered.{means_from_in, means_to_in}
-use Rattle.bson_tree.specs.Place.{IsWrapperFaultIn, IsOpen, lone, code_with_scope}
+use Rattle.bson_tree.specs.Place.{IsWrapperFaultIn, HasWrapperKeys, lone, code_with_scope}
 use Rattle.bson_tree.proofs.BadIds.{bad_read, key_is, single_at_bad}
 
 -- ---- numbers
@@ -39,7 +39,7 @@ no_double None n f h = no_scalar (finite_number n) kind.double f h
 
 -- a number that is refused has no other fault
 pub number_fault : (D : Doubles) (n : Num) (f : Fault) → number_read_in D n ≡ Err f → f ≡ wrong_shape
-number_fault Special n f h = no_scalar (as_i64 n) narrowest f h
+number_fault Special n f h = no_scalar (as_i64 n) narrowest_int f h
 number_fault Finite n f h = no_double (as_i64 n) n f h
 
 -- ---- code with a scope
@@ -65,18 +65,18 @@ module _ (D : Doubles) where
   nothing_read h v m = both (means_to_in D m) h
 
   lone_read : (k : List ℕ) (d : Data) (r : Result Scalar Fault) → has_wrapper (member k d no_members) ≡ true
-      → single_at_in D (wrapper_of k) d ≡ r → reads_in D (object_of_one k d) ≡ scalar_value r
+      → optional_wrapper_read_in D (wrapper_of k) d ≡ r → reads_in D (object_of_one k d) ≡ scalar_value r
   lone_read k d r w h = wrapped (member k d no_members) w ∙ ap scalar_value h
 
   pub wrapper_fault : (k : List ℕ) (d : Data) (f : Fault) → has_wrapper (member k d no_members) ≡ true
-      → single_at_in D (wrapper_of k) d ≡ Err f → IsWrapperFaultIn D (object_of_one k d) f
+      → optional_wrapper_read_in D (wrapper_of k) d ≡ Err f → IsWrapperFaultIn D (object_of_one k d) f
   wrapper_fault k d (wrong_id s) w h = single_at_bad D k d s (wrapper_of k) refl h
   wrapper_fault k d wrong_shape w h =
       let read = lone_read k d (Err wrong_shape) w h in
       (nothing_read read, λ s bad. let clash = sym (bad_read D bad) ∙ read in cc)
 
   shape_at : (k : List ℕ) (d : Data) (r : Result Scalar Fault) → has_wrapper (member k d no_members) ≡ true
-      → single_at_in D (wrapper_of k) d ≡ r → IsWrapperFaultIn D (object_of_one k d) wrong_shape
+      → optional_wrapper_read_in D (wrapper_of k) d ≡ r → IsWrapperFaultIn D (object_of_one k d) wrong_shape
       → reads_in D (object_of_one k d) ≡ Err wrong_shape
   shape_at k d (Ok x) w h is = absurd (is.0 (model.scalar x) (means_from_in D _ _ (lone_read k d (Ok x) w h)))
   shape_at k d (Err wrong_shape) w h is = lone_read k d (Err wrong_shape) w h
@@ -99,7 +99,7 @@ module _ (D : Doubles) where
 
   -- ---- objects with a wrapper key
 
-  scope_nothing : (s : List ℕ) (e : Data) → (IsOpen (Coded (tree.string s) e) → ⊥)
+  scope_nothing : (s : List ℕ) (e : Data) → (HasWrapperKeys (Coded (tree.string s) e) → ⊥)
       → MeansNothingIn D (tree.object (Coded (tree.string s) e)) → scope_value s (reads_scope_in D e) ≡ Err wrong_shape
   scope_nothing s tree.null o none = absurd (none (model.scalar (kind.code s)) (means_from_in D _ _ refl))
   scope_nothing s (tree.boolean b) o none = refl
@@ -108,7 +108,7 @@ module _ (D : Doubles) where
   scope_nothing s (tree.array ds) o none = refl
   scope_nothing s (tree.object ms) o none = absurd (o (code_with_scope s ms))
 
-  code_nothing : (d e : Data) → (IsOpen (Coded d e) → ⊥) → MeansNothingIn D (tree.object (Coded d e))
+  code_nothing : (d e : Data) → (HasWrapperKeys (Coded d e) → ⊥) → MeansNothingIn D (tree.object (Coded d e))
       → code_at (codes "$code") d (codes "$scope") (reads_scope_in D e) ≡ Err wrong_shape
   code_nothing tree.null e o none = refl
   code_nothing (tree.boolean b) e o none = refl
@@ -119,23 +119,23 @@ module _ (D : Doubles) where
 
   two_nothing : (k : List ℕ) (d : Data) (l : List ℕ) (e : Data) (b : Bool)
       → (bytes_eq k (codes "$code") && bytes_eq l (codes "$scope")) ≡ b
-      → (IsOpen (member k d (member l e no_members)) → ⊥) → MeansNothingIn D (object_of_two k d l e)
+      → (HasWrapperKeys (member k d (member l e no_members)) → ⊥) → MeansNothingIn D (object_of_two k d l e)
       → code_at k d l (reads_scope_in D e) ≡ Err wrong_shape
   two_nothing k d l e true h o none =
       let keys = and_parts _ _ h in
-      let coded : (IsOpen (member k d (member l e no_members)) → ⊥) → MeansNothingIn D (object_of_two k d l e)
+      let coded : (HasWrapperKeys (member k d (member l e no_members)) → ⊥) → MeansNothingIn D (object_of_two k d l e)
       → code_at k d l (reads_scope_in D e) ≡ Err wrong_shape =
       rw (key_is k _ keys.0, key_is l _ keys.1) (code_nothing d e) in
       coded o none
   two_nothing k d l e false h o none = other_keys k d l (reads_scope_in D e) h
 
-  wrapper_nothing : (ms : Members) → (IsOpen ms → ⊥) → MeansNothingIn D (tree.object ms)
+  wrapper_nothing : (ms : Members) → (HasWrapperKeys ms → ⊥) → MeansNothingIn D (tree.object ms)
       → reads_wrapper_in D ms ≡ Err wrong_shape
   wrapper_nothing no_members o none = refl
   wrapper_nothing (member k d no_members) o none = absurd (o (lone k d))
   wrapper_nothing (member k d (member l e no_members)) o none = two_nothing k d l e _ refl o none
   wrapper_nothing (member k d (member l e (member m f ms))) o none = refl
 
-  pub shape_nothing : (ms : Members) → has_wrapper ms ≡ true → (IsOpen ms → ⊥) → MeansNothingIn D (tree.object ms)
+  pub shape_nothing : (ms : Members) → has_wrapper ms ≡ true → (HasWrapperKeys ms → ⊥) → MeansNothingIn D (tree.object ms)
       → reads_in D (tree.object ms) ≡ Err wrong_shape
   shape_nothing ms w o none = wrapped ms w ∙ wrapper_nothing ms o none

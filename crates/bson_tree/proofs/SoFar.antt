@@ -18,8 +18,8 @@ use Rattle.bson_scalar.specs.declared.form.Doubles.{Doubles}
 use Rattle.bson_model.specs.Reading.{reads_in, reads_items_in, reads_members_in}
 use Rattle.bson_model.specs.Value.{Value, Values, no_values, value, Pairs, no_pairs, pair, value_at_key}
 use Rattle.bson_tree.specs.declared.place.Place.{Place}
-use Rattle.bson_tree.specs.Built.{then_value, then_pair, Builds}
-use Rattle.bson_tree.specs.Place.{PathSegment, key, element, FaultAtIn, FaultAmongIn, FaultWithinIn, here, later}
+use Rattle.bson_tree.specs.Built.{push_value, push_pair, Builds}
+use Rattle.bson_tree.specs.Place.{PathSegment, key, element, FaultAtIn, ItemFaultAtIn, MemberFaultAtIn, here, later}
 use Rattle.bson_tree.specs.Place.{at_key}
 use Rattle.bson_tree.specs.Place.{behind, IsPlace, path_of}
 use Rattle.bson_model.proofs.Offered.{means_from_in}
@@ -32,7 +32,7 @@ onto_values no_values r = r
 onto_values (value v vs) r = onto_values vs r >>= λ ws. Ok (value v ws)
 
 onto_values-then : (vs : Values) (v : Value) (r : Result Values Fault)
-    → onto_values (then_value vs v) r ≡ onto_values vs (r >>= λ ws. Ok (value v ws))
+    → onto_values (push_value vs v) r ≡ onto_values vs (r >>= λ ws. Ok (value v ws))
 onto_values-then no_values v r = refl
 onto_values-then (value w vs) v r = ap (λ q. q >>= λ ws. Ok (value w ws)) (onto_values-then vs v r)
 
@@ -46,7 +46,7 @@ pub record ItemsRead {X : Type 0} (D : Doubles) (listed : X → Values → Type 
   pub done : Values
   pub stands : listed read done
   pub whole : onto_values done (reads_items_in D rest) ≡ reads_items_in D all
-  pub fault : (f : Fault) (path : List PathSegment) → FaultAmongIn D f n rest path → FaultAmongIn D f 0 all path
+  pub fault : (f : Fault) (path : List PathSegment) → ItemFaultAtIn D f n rest path → ItemFaultAtIn D f 0 all path
 
 -- ---- the pairs of a map
 
@@ -55,7 +55,7 @@ onto_pairs no_pairs r = r
 onto_pairs (pair k v ps) r = onto_pairs ps r >>= λ qs. Ok (pair k v qs)
 
 onto_pairs-then : (ps : Pairs) (k : List ℕ) (v : Value) (r : Result Pairs Fault)
-    → onto_pairs (then_pair ps k v) r ≡ onto_pairs ps (r >>= λ qs. Ok (pair k v qs))
+    → onto_pairs (push_pair ps k v) r ≡ onto_pairs ps (r >>= λ qs. Ok (pair k v qs))
 onto_pairs-then no_pairs k v r = refl
 onto_pairs-then (pair l w ps) k v r = ap (λ q. q >>= λ qs. Ok (pair l w qs)) (onto_pairs-then ps k v r)
 
@@ -79,12 +79,12 @@ none_more true v r s h f = cc
 none_more false v r s h f = f h
 
 get_then : (q k : List ℕ) (v : Value) (ps : Pairs) → value_at_key q ps ≡ None → bytes_eq q k ≡ false
-    → value_at_key q (then_pair ps k v) ≡ None
+    → value_at_key q (push_pair ps k v) ≡ None
 get_then q k v no_pairs h a = rw a refl
 get_then q k v (pair l w ps) h a = none_more (bytes_eq q l) w (value_at_key q ps) _ h (λ e. get_then q k v ps e a)
 
 fresh_after : (ps : Pairs) (k : List ℕ) (v : Value) (ms : Members) → AllApart k ms → Fresh ps ms
-    → Fresh (then_pair ps k v) ms
+    → Fresh (push_pair ps k v) ms
 fresh_after ps k v no_members a f = tt
 fresh_after ps k v (member l d ms) a f = (get_then l k v ps f.0 a.0, f.1, fresh_after ps k v ms a.1 f.2)
 
@@ -110,7 +110,7 @@ pub record PairsRead {X : Type 0} (D : Doubles) (paired : X → Pairs → Type 0
   pub stands : paired read done
   pub fresh : Fresh done rest
   pub whole : onto_pairs done (reads_members_in D rest) ≡ reads_members_in D all
-  pub fault : (f : Fault) (path : List PathSegment) → FaultWithinIn D f rest path → FaultWithinIn D f all path
+  pub fault : (f : Fault) (path : List PathSegment) → MemberFaultAtIn D f rest path → MemberFaultAtIn D f all path
 
 module _ {X Z : Type 0} (D : Doubles) (built : Z → Value → Type 0) (listed : X → Values → Type 0) (all : Items) where
   pub items_begun : (read : X) → listed read no_values → ItemsRead D listed read 0 all all
@@ -120,14 +120,14 @@ module _ {X Z : Type 0} (D : Doubles) (built : Z → Value → Type 0) (listed :
   pub items_more : (read new : X) (n : ℕ) (xs rest : List json.Value) (x : json.Value) (r : Result Z Place) (z : Z)
       → xs ≡ x ∷ rest → ItemsRead D listed read n (items_view xs) all → r ≡ Ok z
       → Builds built (reads_in D (view x)) (λ f. FaultAtIn D f (view x)) r
-      → ((vs : Values) (v : Value) → listed read vs → built z v → listed new (then_value vs v))
+      → ((vs : Values) (v : Value) → listed read vs → built z v → listed new (push_value vs v))
       → ItemsRead D listed new (n + 1) (items_view rest) all
   items_more read new n xs rest x r z next so_far is h push =
       let ds = items_view rest in
       let was = subst (λ ys. ItemsRead D listed read n (items_view ys) all) next so_far in
       let v = built_in built (reads_in D (view x)) (λ f. FaultAtIn D f (view x)) r z is h in
       record {
-        done = then_value was.done v.0;
+        done = push_value was.done v.0;
         stands = push was.done v.0 was.stands v.2;
         whole = onto_values-then was.done v.0 (reads_items_in D ds)
             ∙ ap (λ q. onto_values was.done (q >>= λ w. reads_items_in D ds >>= λ ws. Ok (value w ws))) (sym v.1)
@@ -139,7 +139,7 @@ module _ {X Z : Type 0} (D : Doubles) (built : Z → Value → Type 0) (listed :
   pub items_stopped : (read : X) (n : ℕ) (xs rest : List json.Value) (x : json.Value) (r : Result Z Place)
       (p q : Place) → xs ≡ x ∷ rest → ItemsRead D listed read n (items_view xs) all → r ≡ Err p
       → Builds built (reads_in D (view x)) (λ f. FaultAtIn D f (view x)) r → path_of q ≡ path_of p ++ element n ∷ []
-      → q.reason ≡ p.reason → IsPlace (λ f. FaultAmongIn D f 0 all) q
+      → q.reason ≡ p.reason → IsPlace (λ f. ItemFaultAtIn D f 0 all) q
   items_stopped read n xs rest x r p q next so_far is h path reason =
       let was = subst (λ ys. ItemsRead D listed read n (items_view ys) all) next so_far in
       carried p q (element n) (λ f w m. was.fault f (w ++ element n ∷ []) (here n (view x) (items_view rest) m)) path
@@ -147,7 +147,7 @@ module _ {X Z : Type 0} (D : Doubles) (built : Z → Value → Type 0) (listed :
 
   pub items_ended : (read : X) (n : ℕ) (xs : List json.Value) → xs ≡ []
       → ItemsRead D listed read n (items_view xs) all
-      → Builds listed (reads_items_in D all) (λ f. FaultAmongIn D f 0 all) (Ok read)
+      → Builds listed (reads_items_in D all) (λ f. ItemFaultAtIn D f 0 all) (Ok read)
   items_ended read n xs none so_far =
       let was = subst (λ ys. ItemsRead D listed read n (items_view ys) all) none so_far in
       (was.done, sym was.whole ∙ onto_values-ok was.done, was.stands)
@@ -174,7 +174,7 @@ module _ {X Z : Type 0} (D : Doubles) (built : Z → Value → Type 0) (paired :
   pub pairs_more : (read new : X) (es rest : List Member) (x : Member) (r : Result Z Place) (z : Z) → es ≡ x ∷ rest
       → PairsRead D paired read (members_view es) (members_view all) → r ≡ Ok z
       → Builds built (reads_in D (view x.1)) (λ f. FaultAtIn D f (view x.1)) r
-      → ((ps : Pairs) (v : Value) → paired read ps → built z v → paired new (then_pair ps (string_bytes x.0) v))
+      → ((ps : Pairs) (v : Value) → paired read ps → built z v → paired new (push_pair ps (string_bytes x.0) v))
       → PairsRead D paired new (members_view rest) (members_view all)
   pairs_more read new es rest x r z next so_far is h put =
       let k = string_bytes x.0 in
@@ -183,7 +183,7 @@ module _ {X Z : Type 0} (D : Doubles) (built : Z → Value → Type 0) (paired :
       let was = subst (λ ys. PairsRead D paired read (members_view ys) (members_view all)) next so_far in
       let v = built_in built (reads_in D d) (λ f. FaultAtIn D f d) r z is h in
       record {
-        done = then_pair was.done k v.0;
+        done = push_pair was.done k v.0;
         stands = put was.done v.0 was.stands v.2;
         fresh = fresh_after was.done k v.0 ms was.fresh.1 was.fresh.2;
         whole = onto_pairs-then was.done k v.0 (reads_members_in D ms)
@@ -196,7 +196,7 @@ module _ {X Z : Type 0} (D : Doubles) (built : Z → Value → Type 0) (paired :
       → es ≡ x ∷ rest → PairsRead D paired read (members_view es) (members_view all) → r ≡ Err p
       → Builds built (reads_in D (view x.1)) (λ f. FaultAtIn D f (view x.1)) r
       → path_of q ≡ path_of p ++ key (string_bytes x.0) ∷ [] → q.reason ≡ p.reason
-      → IsPlace (λ f. FaultWithinIn D f (members_view all)) q
+      → IsPlace (λ f. MemberFaultAtIn D f (members_view all)) q
   pairs_stopped read es rest x r p q next so_far is h path reason =
       let k = string_bytes x.0 in
       let was = subst (λ ys. PairsRead D paired read (members_view ys) (members_view all)) next so_far in
@@ -205,7 +205,7 @@ module _ {X Z : Type 0} (D : Doubles) (built : Z → Value → Type 0) (paired :
 
   pub pairs_ended : (read : X) (es : List Member) → es ≡ []
       → PairsRead D paired read (members_view es) (members_view all)
-      → Builds paired (reads_members_in D (members_view all)) (λ f. FaultWithinIn D f (members_view all)) (Ok read)
+      → Builds paired (reads_members_in D (members_view all)) (λ f. MemberFaultAtIn D f (members_view all)) (Ok read)
   pairs_ended read es none so_far =
       let was = subst (λ ys. PairsRead D paired read (members_view ys) (members_view all)) none so_far in
       (was.done, sym was.whole ∙ onto_pairs-ok was.done, was.stands)

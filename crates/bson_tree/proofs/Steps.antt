@@ -15,7 +15,7 @@ use Rattle.serde_json.specs.declared.number.Number.{Number}
 use Rattle.serde_json.specs.declared.value.Value.{Value as Tree, the_lemmas}
 use Rattle.serde_json.specs.declared.value.Value.TheVariants as declared
 use Rattle.serde_json.specs.Find.{as_str, as_object}
-use Rattle.bson_scalar.specs.Reading.{number_read_in, single_at_in}
+use Rattle.bson_scalar.specs.Reading.{number_read_in, optional_wrapper_read_in}
 use Rattle.bson_scalar.specs.Scalar.{Scalar}
 use Rattle.bson_scalar.specs.Table.{wrapper_of, has_wrapper}
 use Rattle.bson_scalar.specs.declared.form.Doubles.{Doubles}
@@ -25,8 +25,8 @@ use Rattle.bson_model.specs.Value.{Value, Values, Pairs}
 use Rattle.bson_model.specs.Value as model
 use Rattle.bson_tree.specs.declared.place.Place.{Place}
 use Rattle.bson_tree.specs.declared.place.Reason.{Reason}
-use Rattle.bson_tree.specs.Place.{PathSegment, key, path_of, FaultAtIn, FaultAmongIn, FaultWithinIn, number}
-use Rattle.bson_tree.specs.Place.{array, document, wrapper, scope, shape, HasValueIn, IsReason, IsPlace, IsOpen}
+use Rattle.bson_tree.specs.Place.{PathSegment, key, path_of, FaultAtIn, ItemFaultAtIn, MemberFaultAtIn, number}
+use Rattle.bson_tree.specs.Place.{array, document, wrapper, scope, shape, HasValueIn, IsReason, IsPlace, HasWrapperKeys}
 use Rattle.bson_tree.specs.Place.{code_with_scope}
 use Rattle.bson_tree.specs.Built.{Builds}
 use Rattle.bson_model.proofs.Offered.{means_from_in}
@@ -86,7 +86,7 @@ HasScopeIn D d = (ps : Option Pairs) × (reads_scope_in D d ≡ Ok ps)
 
 -- why a tree is no scope, and the path from the fault to the object that it is in
 pub data IsScopeFaultIn (D : Doubles) : Data → Fault → List PathSegment → Type 0 where
-  in_scope : {f : Fault} {path : List PathSegment} (ms : Members) → FaultWithinIn D f ms path
+  in_scope : {f : Fault} {path : List PathSegment} (ms : Members) → MemberFaultAtIn D f ms path
       → IsScopeFaultIn D (tree.object ms) f (path ++ key (codes "$scope") ∷ [])
   no_scope : (d : Data) → ((ms : Members) → d ≡ tree.object ms → ⊥) → reads_scope_in D d ≡ Err wrong_shape
       → IsScopeFaultIn D d wrong_shape []
@@ -95,14 +95,14 @@ pub data IsScopeFaultIn (D : Doubles) : Data → Fault → List PathSegment → 
 
 -- two keys that are not those of code and its scope
 not_open_by_keys : (k : List ℕ) (d : Data) (l : List ℕ) (e : Data)
-    → (bytes_eq k (codes "$code") && bytes_eq l (codes "$scope")) ≡ false → IsOpen (member k d (member l e no_members))
+    → (bytes_eq k (codes "$code") && bytes_eq l (codes "$scope")) ≡ false → HasWrapperKeys (member k d (member l e no_members))
     → ⊥
 not_open_by_keys k d l e h (code_with_scope s ms) = cc
 
-not_open_by_code : (d e : Data) → ((s : List ℕ) → d ≡ tree.string s → ⊥) → IsOpen (Coded d e) → ⊥
+not_open_by_code : (d e : Data) → ((s : List ℕ) → d ≡ tree.string s → ⊥) → HasWrapperKeys (Coded d e) → ⊥
 not_open_by_code d e h (code_with_scope s ms) = h s refl
 
-not_open_by_scope : (d e : Data) → ((ms : Members) → e ≡ tree.object ms → ⊥) → IsOpen (Coded d e) → ⊥
+not_open_by_scope : (d e : Data) → ((ms : Members) → e ≡ tree.object ms → ⊥) → HasWrapperKeys (Coded d e) → ⊥
 not_open_by_scope d e h (code_with_scope s ms) = h ms refl
 
 no_string : (d : Data) → as_str d ≡ None → (s : List ℕ) → d ≡ tree.string s → ⊥
@@ -111,7 +111,7 @@ no_string d none s is = let some = sym (ap as_str is) ∙ none in cc
 no_object : (d : Data) → as_object d ≡ None → (ms : Members) → d ≡ tree.object ms → ⊥
 no_object d none ms is = let some = sym (ap as_object is) ∙ none in cc
 
-pub never : {k l m : List ℕ} {c d e : Data} {ms : Members} → IsOpen (member k c (member l d (member m e ms))) → ⊥
+pub never : {k l m : List ℕ} {c d e : Data} {ms : Members} → HasWrapperKeys (member k c (member l d (member m e ms))) → ⊥
 never is = elim is [ ]
 
 two_entries : {X : Type 0} (es mid rest : List X) (x y : X) → es ≡ x ∷ mid → mid ≡ y ∷ rest → length rest ≡ 0
@@ -162,10 +162,10 @@ module _ (D : Doubles) where
 
   -- the place of a fault in a list is that of the list's tree
   pub array_place : {X : Type 0} (listed : X → Values → Type 0) (ds : Items) (r : Result X Place) (p : Place)
-      → r ≡ Err p → Builds listed (reads_items_in D ds) (λ f. FaultAmongIn D f 0 ds) r
+      → r ≡ Err p → Builds listed (reads_items_in D ds) (λ f. ItemFaultAtIn D f 0 ds) r
       → IsPlace (λ f. FaultAtIn D f (tree.array ds)) p
   array_place listed ds r p is h =
-      with_place p (λ f path m. array ds m) (placed_in listed (reads_items_in D ds) (λ f. FaultAmongIn D f 0 ds) r p is h)
+      with_place p (λ f path m. array ds m) (placed_in listed (reads_items_in D ds) (λ f. ItemFaultAtIn D f 0 ds) r p is h)
 
   pub document_value : (ms : Members) → has_wrapper ms ≡ false → HasPairs D ms → HasValueIn D (tree.object ms)
   document_value ms none ps =
@@ -174,33 +174,33 @@ module _ (D : Doubles) where
       ∙ ap (λ r. r >>= λ qs. Ok (model.document qs)) ps.1)
 
   pub document_place : {X : Type 0} (paired : X → Pairs → Type 0) (ms : Members) (r : Result X Place) (p : Place)
-      → has_wrapper ms ≡ false → r ≡ Err p → Builds paired (reads_members_in D ms) (λ f. FaultWithinIn D f ms) r
+      → has_wrapper ms ≡ false → r ≡ Err p → Builds paired (reads_members_in D ms) (λ f. MemberFaultAtIn D f ms) r
       → IsPlace (λ f. FaultAtIn D f (tree.object ms)) p
   document_place paired ms r p none is h =
       with_place p (λ f path m. document ms none m)
-      (placed_in paired (reads_members_in D ms) (λ f. FaultWithinIn D f ms) r p is h)
+      (placed_in paired (reads_members_in D ms) (λ f. MemberFaultAtIn D f ms) r p is h)
 
   -- ---- wrappers
 
   pub lone_value : (k : List ℕ) (d : Data) (x : Scalar) → has_wrapper (member k d no_members) ≡ true
-      → single_at_in D (wrapper_of k) d ≡ Ok x → HasValueIn D (tree.object (member k d no_members))
+      → optional_wrapper_read_in D (wrapper_of k) d ≡ Ok x → HasValueIn D (tree.object (member k d no_members))
   lone_value k d x h e =
       value_of (tree.object (member k d no_members)) (model.scalar x)
       (wrapped D (member k d no_members) h ∙ ap scalar_value e)
 
   -- what reading finds at the key of a wrapper
   pub lone_fault : (k : List ℕ) (d : Data) (f : Fault) → has_wrapper (member k d no_members) ≡ true
-      → single_at_in D (wrapper_of k) d ≡ Err f → FaultAtIn D f (tree.object (member k d no_members)) (key k ∷ [])
+      → optional_wrapper_read_in D (wrapper_of k) d ≡ Err f → FaultAtIn D f (tree.object (member k d no_members)) (key k ∷ [])
   lone_fault k d f w h = wrapper k d w (wrapper_fault D k d f w h)
 
   -- an object that is read as one of the wrong shape
-  pub shape_fault : (ms : Members) → has_wrapper ms ≡ true → (IsOpen ms → ⊥)
+  pub shape_fault : (ms : Members) → has_wrapper ms ≡ true → (HasWrapperKeys ms → ⊥)
       → reads_wrapper_in D ms ≡ Err wrong_shape → FaultAtIn D wrong_shape (tree.object ms) []
   shape_fault ms w o h = shape ms w o (nothing_read D (wrapped D ms w ∙ h))
 
   -- the reason at a wrapper's key
   pub lone_place : (k : List ℕ) (d : Data) (f : Fault) (e : Reason) (p : Place)
-      → has_wrapper (member k d no_members) ≡ true → single_at_in D (wrapper_of k) d ≡ Err f → IsReason f e
+      → has_wrapper (member k d no_members) ≡ true → optional_wrapper_read_in D (wrapper_of k) d ≡ Err f → IsReason f e
       → path_of p ≡ key k ∷ [] → p.reason ≡ e → IsPlace (λ g. FaultAtIn D g (tree.object (member k d no_members))) p
   lone_place k d f e p w h is path reason = record {
     fault = f;
@@ -259,13 +259,13 @@ module _ (D : Doubles) where
       (scope_path (tree.string s) e s refl wrong_shape [] (no_scope e (no_object e none) bad))
 
   pub scope_place : {X : Type 0} (paired : X → Pairs → Type 0) (s k : List ℕ) (ms : Members) (r : Result X Place)
-      (p q : Place) → r ≡ Err p → Builds paired (reads_members_in D ms) (λ f. FaultWithinIn D f ms) r
+      (p q : Place) → r ≡ Err p → Builds paired (reads_members_in D ms) (λ f. MemberFaultAtIn D f ms) r
       → k ≡ codes "$scope" → path_of q ≡ path_of p ++ key k ∷ [] → q.reason ≡ p.reason
       → IsPlace (λ f. FaultAtIn D f (tree.object (Coded (tree.string s) (tree.object ms)))) q
   scope_place paired s k ms r p q is h at_scope path reason =
       carried p q (key (codes "$scope")) (λ f w m. scope s ms m)
       (path ∙ ap (λ l. path_of p ++ key l ∷ []) at_scope) reason
-      (placed_in paired (reads_members_in D ms) (λ f. FaultWithinIn D f ms) r p is h)
+      (placed_in paired (reads_members_in D ms) (λ f. MemberFaultAtIn D f ms) r p is h)
 
   pub scope_of_map : (ms : Members) → HasPairs D ms → HasScopeIn D (tree.object ms)
   scope_of_map ms ps = (Some ps.0, ap (λ r. r >>= λ qs. Ok (Some qs)) ps.1)

@@ -38,15 +38,15 @@ path_of place = map segment_of place.segments.items
 -- ---- its text
 
 -- a key as it is; a place in an array as its number, counted from 0
-abbrev pub word_of : PathSegment → List ℕ
-word_of (key k) = k
-word_of (element n) = decimal n
+abbrev pub segment_text : PathSegment → List ℕ
+segment_text (key k) = k
+segment_text (element n) = decimal n
 
 -- the words from the tree inward, with points between
-abbrev pub dotted : List PathSegment → List ℕ
-dotted [] = []
-dotted (segment ∷ []) = word_of segment
-dotted (segment ∷ out ∷ more) = dotted (out ∷ more) ++ codes "." ++ word_of segment
+abbrev pub path_text : List PathSegment → List ℕ
+path_text [] = []
+path_text (segment ∷ []) = segment_text segment
+path_text (segment ∷ out ∷ more) = path_text (out ∷ more) ++ codes "." ++ segment_text segment
 
 -- ---- what is wrong with a wrapper of one key
 
@@ -63,50 +63,50 @@ pub data HasBadId : Data → List ℕ → Type 0 where
 
 -- the fault is a bad id, or the shape is wrong: the tree means nothing for another cause
 abbrev pub IsWrapperFaultIn : Doubles → Data → Fault → Type 0
-IsWrapperFaultIn D t (wrong_id s) = HasBadId t s
-IsWrapperFaultIn D t wrong_shape = MeansNothingIn D t × ((s : List ℕ) → HasBadId t s → ⊥)
+IsWrapperFaultIn doubles t (wrong_id s) = HasBadId t s
+IsWrapperFaultIn doubles t wrong_shape = MeansNothingIn doubles t × ((s : List ℕ) → HasBadId t s → ⊥)
 
 -- ---- where the fault is
 
 -- an object that has one key, or the two of code with a scope that is an object
-pub data IsOpen : Members → Type 0 where
-  lone : (k : List ℕ) (d : Data) → IsOpen (member k d no_members)
+pub data HasWrapperKeys : Members → Type 0 where
+  lone : (k : List ℕ) (d : Data) → HasWrapperKeys (member k d no_members)
   code_with_scope : (s : List ℕ) (ms : Members)
-      → IsOpen (member (codes "$code") (tree.string s) (member (codes "$scope") (tree.object ms) no_members))
+      → HasWrapperKeys (member (codes "$code") (tree.string s) (member (codes "$scope") (tree.object ms) no_members))
 
 mutual
   -- the first fault of the tree, and the path from it outward
-  pub data FaultAtIn (D : Doubles) : Fault → Data → List PathSegment → Type 0 where
+  pub data FaultAtIn (doubles : Doubles) : Fault → Data → List PathSegment → Type 0 where
     -- a number that is no i64; where finite doubles are read, one whose nearest double is not finite
-    number : (n : Num) → MeansNothingIn D (tree.number n) → FaultAtIn D wrong_shape (tree.number n) []
-    array : {f : Fault} {path : List PathSegment} (ds : Items) → FaultAmongIn D f 0 ds path → FaultAtIn D f (tree.array ds) path
-    document : {f : Fault} {path : List PathSegment} (ms : Members) → has_wrapper ms ≡ false → FaultWithinIn D f ms path
-        → FaultAtIn D f (tree.object ms) path
+    number : (n : Num) → MeansNothingIn doubles (tree.number n) → FaultAtIn doubles wrong_shape (tree.number n) []
+    array : {f : Fault} {path : List PathSegment} (ds : Items) → ItemFaultAtIn doubles f 0 ds path → FaultAtIn doubles f (tree.array ds) path
+    document : {f : Fault} {path : List PathSegment} (ms : Members) → has_wrapper ms ≡ false → MemberFaultAtIn doubles f ms path
+        → FaultAtIn doubles f (tree.object ms) path
     -- the value at the key of a wrapper
     wrapper : {f : Fault} (k : List ℕ) (d : Data) → has_wrapper (member k d no_members) ≡ true
-        → IsWrapperFaultIn D (object_of_one k d) f → FaultAtIn D f (object_of_one k d) (key k ∷ [])
-    scope : {f : Fault} {path : List PathSegment} (s : List ℕ) (ms : Members) → FaultWithinIn D f ms path
-        → FaultAtIn D f (object_of_two (codes "$code") (tree.string s) (codes "$scope") (tree.object ms)) (path
+        → IsWrapperFaultIn doubles (object_of_one k d) f → FaultAtIn doubles f (object_of_one k d) (key k ∷ [])
+    scope : {f : Fault} {path : List PathSegment} (s : List ℕ) (ms : Members) → MemberFaultAtIn doubles f ms path
+        → FaultAtIn doubles f (object_of_two (codes "$code") (tree.string s) (codes "$scope") (tree.object ms)) (path
         ++ key (codes "$scope") ∷ [])
     -- an object with a wrapper key that has the shape of no wrapper
-    shape : (ms : Members) → has_wrapper ms ≡ true → (IsOpen ms → ⊥) → MeansNothingIn D (tree.object ms)
-        → FaultAtIn D wrong_shape (tree.object ms) []
+    shape : (ms : Members) → has_wrapper ms ≡ true → (HasWrapperKeys ms → ⊥) → MeansNothingIn doubles (tree.object ms)
+        → FaultAtIn doubles wrong_shape (tree.object ms) []
 
   -- of elements, the first of which has this place in its array
-  pub data FaultAmongIn (D : Doubles) : Fault → ℕ → Items → List PathSegment → Type 0 where
-    here : {f : Fault} {path : List PathSegment} (n : ℕ) (d : Data) (ds : Items) → FaultAtIn D f d path
-        → FaultAmongIn D f n (item d ds) (path ++ element n ∷ [])
+  pub data ItemFaultAtIn (doubles : Doubles) : Fault → ℕ → Items → List PathSegment → Type 0 where
+    here : {f : Fault} {path : List PathSegment} (n : ℕ) (d : Data) (ds : Items) → FaultAtIn doubles f d path
+        → ItemFaultAtIn doubles f n (item d ds) (path ++ element n ∷ [])
     -- the element before it means something
-    later : {f : Fault} {path : List PathSegment} (n : ℕ) (d : Data) (v : Value) (ds : Items) → MeansIn D d v
-        → FaultAmongIn D f (n + 1) ds path → FaultAmongIn D f n (item d ds) path
+    later : {f : Fault} {path : List PathSegment} (n : ℕ) (d : Data) (v : Value) (ds : Items) → MeansIn doubles d v
+        → ItemFaultAtIn doubles f (n + 1) ds path → ItemFaultAtIn doubles f n (item d ds) path
 
   -- of the values of a map, by ascending key
-  pub data FaultWithinIn (D : Doubles) : Fault → Members → List PathSegment → Type 0 where
-    at_key : {f : Fault} {path : List PathSegment} (k : List ℕ) (d : Data) (ms : Members) → FaultAtIn D f d path
-        → FaultWithinIn D f (member k d ms) (path ++ key k ∷ [])
+  pub data MemberFaultAtIn (doubles : Doubles) : Fault → Members → List PathSegment → Type 0 where
+    at_key : {f : Fault} {path : List PathSegment} (k : List ℕ) (d : Data) (ms : Members) → FaultAtIn doubles f d path
+        → MemberFaultAtIn doubles f (member k d ms) (path ++ key k ∷ [])
     -- the value at the key before it means something
-    behind : {f : Fault} {path : List PathSegment} (k : List ℕ) (d : Data) (v : Value) (ms : Members) → MeansIn D d v
-        → FaultWithinIn D f ms path → FaultWithinIn D f (member k d ms) path
+    behind : {f : Fault} {path : List PathSegment} (k : List ℕ) (d : Data) (v : Value) (ms : Members) → MeansIn doubles d v
+        → MemberFaultAtIn doubles f ms path → MemberFaultAtIn doubles f (member k d ms) path
 
 -- ---- what is found
 
@@ -116,21 +116,21 @@ IsReason f (WrongShape message) = f ≡ wrong_shape
 IsReason f (BadObjectId e) = (s : List ℕ) × (f ≡ wrong_id s) × IsIdFault s e
 
 -- a fault is at the place, for its reason
-pub record IsPlace (lies : Fault → List PathSegment → Type 0) (place : Place) : Type 0 where
+pub record IsPlace (fault_at : Fault → List PathSegment → Type 0) (place : Place) : Type 0 where
   pub fault : Fault
-  pub path : lies fault (path_of place)
+  pub path : fault_at fault (path_of place)
   pub reason : IsReason fault place.reason
 
 -- the tree means nothing, and its first fault is at the place, for its reason
-pub record IsFirstFaultIn (D : Doubles) (t : Data) (place : Place) : Type 0 where
-  pub nothing : MeansNothingIn D t
+pub record IsFirstFaultIn (doubles : Doubles) (t : Data) (place : Place) : Type 0 where
+  pub nothing : MeansNothingIn doubles t
   pub fault : Fault
-  pub path : FaultAtIn D fault t (path_of place)
+  pub path : FaultAtIn doubles fault t (path_of place)
   pub reason : IsReason fault place.reason
 
 -- the tree has a value
 abbrev pub HasValueIn : Doubles → Data → Type 0
-HasValueIn D t = (v : Value) × MeansIn D t v
+HasValueIn doubles t = (v : Value) × MeansIn doubles t v
 
 -- ---- where no finite doubles are read
 

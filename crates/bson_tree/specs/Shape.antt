@@ -14,6 +14,6 @@ abbrev pub wrapper_in : Members → Option Wrapper
 wrapper_in no_members = None
 wrapper_in (member k d ms) = or_next (wrapper_of k) (wrapper_in ms)
 
-abbrev pub alone_text : Wrapper → List ℕ
-alone_text Code = codes "`$code` must be the only key of its object, or next to `$scope`"
-alone_text w = codes "`" ++ key_of w ++ codes "` must be the only key of its object"
+abbrev pub only_key_message : Wrapper → List ℕ
+only_key_message Code = codes "`$code` must be the only key of its object, or next to `$scope`"
+only_key_message w = codes "`" ++ key_of w ++ codes "` must be the only key of its object"

@@ -4,7 +4,7 @@ ghost use Rattle.bson_scalar.specs.View.{scalar_view};
 ghost use Rattle.bson_model.specs.Value as model;
 ghost use Rattle.bson_model.specs.Value.{Values, Pairs, no_values, no_pairs, value_at_key, scalar, code_scope};
 ghost use Rattle.bson_model.specs.Value.{array, document};
-ghost use Rattle.bson_tree.specs.Built.{then_pair, then_value};
+ghost use Rattle.bson_tree.specs.Built.{push_pair, push_value};
 
 use bson_scalar::scalar::Scalar;
 use std::alloc::{AllocError, Global};
@@ -44,7 +44,7 @@ pub trait ValueBuilder {
     /// Adds the next element.
     fn push(items: &mut Self::Items, value: Self::Value) -> Result<(), AllocError>
         ensures { OnOk result ((vs : Values) (v : model.Value) → listed items.old vs → built value v
-            → listed items.new (then_value vs v)) };
+            → listed items.new (push_value vs v)) };
 
     /// The array of the elements.
     fn array(items: Self::Items) -> Self::Value
@@ -58,7 +58,7 @@ pub trait ValueBuilder {
     fn put(pairs: &mut Self::Pairs, key: String, value: Self::Value) -> Result<(), AllocError>
         requires { (ps : Pairs) × paired pairs.old ps × (value_at_key (string_bytes key) ps ≡ None) }
         ensures { OnOk result ((ps : Pairs) (v : model.Value) → paired pairs.old ps → built value v
-            → paired pairs.new (then_pair ps (string_bytes key) v)) };
+            → paired pairs.new (push_pair ps (string_bytes key) v)) };
 
     /// The document of the pairs.
     fn document(pairs: Self::Pairs) -> Self::Value

@@ -29,12 +29,12 @@ pub fn faults_have_places()
 /// end of a path. There is one fault and one path, and the fault is the one that reading the tree
 /// returns.
 pub fn places_in_each_mode()
-    ensures nothing { (D : Doubles) (t : Data) → MeansNothingIn D t
-        ↔ ((f : Fault) × (path : List PathSegment) × FaultAtIn D f t path) }
-    ensures read { (D : Doubles) (f : Fault) (t : Data) → (reads_in D t ≡ Err f)
-        ↔ ((path : List PathSegment) × FaultAtIn D f t path) }
-    ensures fault { (D : Doubles) (f g : Fault) (t : Data) (path other : List PathSegment) → FaultAtIn D f t path
-        → FaultAtIn D g t other → f ≡ g }
-    ensures path { (D : Doubles) (f g : Fault) (t : Data) (path other : List PathSegment) → FaultAtIn D f t path
-        → FaultAtIn D g t other → path ≡ other }
+    ensures nothing { (doubles : Doubles) (t : Data) → MeansNothingIn doubles t
+        ↔ ((f : Fault) × (path : List PathSegment) × FaultAtIn doubles f t path) }
+    ensures read { (doubles : Doubles) (f : Fault) (t : Data) → (reads_in doubles t ≡ Err f)
+        ↔ ((path : List PathSegment) × FaultAtIn doubles f t path) }
+    ensures fault { (doubles : Doubles) (f g : Fault) (t : Data) (path other : List PathSegment) → FaultAtIn doubles f t path
+        → FaultAtIn doubles g t other → f ≡ g }
+    ensures path { (doubles : Doubles) (f g : Fault) (t : Data) (path other : List PathSegment) → FaultAtIn doubles f t path
+        → FaultAtIn doubles g t other → path ≡ other }
 {}

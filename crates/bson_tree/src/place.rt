@@ -1,6 +1,6 @@
 //! The place of a fault.
 ghost use Rattle.std.specs.Prelude.{◌≡◌, ◌++◌, map, IfOk, OnOk, string_bytes};
-ghost use Rattle.bson_tree.specs.Place.{dotted, segment_of, path_of, word_of};
+ghost use Rattle.bson_tree.specs.Place.{path_text, segment_of, path_of, segment_text};
 
 use bson_types::oid;
 use std::alloc::{AllocError, Global};
@@ -66,7 +66,7 @@ impl Place {
     ///
     /// Returns `AllocError` if a request for memory is refused.
     pub fn path(&self, alloc: Global) -> Result<String, AllocError>
-        ensures { IfOk result (λ text. string_bytes text ≡ dotted (path_of self.now)) }
+        ensures { IfOk result (λ text. string_bytes text ≡ path_text (path_of self.now)) }
     {
         let mut path = String::new(alloc);
         write_path(alloc, &self.segments, &mut path)?;
@@ -76,7 +76,7 @@ impl Place {
 
 // Adds the words of the segments, the last of which comes first.
 fn write_path(alloc: Global, segments: &[Segment], path: &mut String) -> Result<(), AllocError>
-    ensures { OnOk result (string_bytes path.new ≡ string_bytes path.old ++ dotted (map segment_of segments.now)) }
+    ensures { OnOk result (string_bytes path.new ≡ string_bytes path.old ++ path_text (map segment_of segments.now)) }
 {
     let Some((segment, outer)) = segments.split_first() else {
         return Ok(());
@@ -91,7 +91,7 @@ fn write_path(alloc: Global, segments: &[Segment], path: &mut String) -> Result<
 
 // A key, or the number of a place in an array.
 fn word(alloc: Global, segment: &Segment) -> Result<String, AllocError>
-    ensures { IfOk result (λ word. string_bytes word ≡ word_of (segment_of segment.now)) }
+    ensures { IfOk result (λ word. string_bytes word ≡ segment_text (segment_of segment.now)) }
 {
     match segment {
         Segment::Key(key) => key.clone(),

@@ -1,23 +1,23 @@
 //! Wrong shapes: which wrapper an object is not, though it has its key, and the message for it.
 ghost use Rattle.std.specs.Prelude.{◌≡◌, is_some};
-ghost use Rattle.bson_tree.specs.Shape.{alone_text, wrapper_in};
+ghost use Rattle.bson_tree.specs.Shape.{only_key_message, wrapper_in};
 ghost use Rattle.bson_scalar.specs.Table.{has_wrapper};
 ghost use Rattle.serde_json.specs.View.{members_view};
 
-pub use bson_scalar::doubles::NUMBER;
+pub use bson_scalar::doubles::NUMBER_MESSAGE;
 use bson_scalar::wrapper::{Wrapper, wrapper_named};
 use serde_json::{Map, Value};
 
 /// The message for code that is not a string, next to a scope.
-pub const CODE: &str = "`$code` must be a string";
+pub const CODE_MESSAGE: &str = "`$code` must be a string";
 
 /// The message for a scope that is not an object, next to code.
-pub const SCOPE: &str = "`$scope` must be an object";
+pub const SCOPE_MESSAGE: &str = "`$scope` must be an object";
 
 /// Returns the reason for an object that has the wrapper's key, and other keys than the wrapper's
 /// object.
 pub fn other_keys_reason(wrapper: Wrapper) -> &'static str
-    ensures names { result.now ≡ alone_text wrapper }
+    ensures names { result.now ≡ only_key_message wrapper }
 {
     match wrapper {
         Wrapper::Oid => "`$oid` must be the only key of its object",

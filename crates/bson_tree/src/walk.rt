@@ -5,22 +5,22 @@ ghost use Rattle.serde_json.specs.View.{view, number_view, items_view, members_v
 ghost use Rattle.serde_json.specs.Data.{number, string, array, object, member, no_members};
 ghost use Rattle.bson_scalar.specs.Table.{has_wrapper};
 ghost use Rattle.bson_scalar.specs.TreeParts.{object_of_two};
-ghost use Rattle.bson_scalar.specs.Faults.{Fault, Fails, wrong_shape};
+ghost use Rattle.bson_scalar.specs.Faults.{Fault, IsReadError, wrong_shape};
 ghost use Rattle.bson_scalar.specs.Scalar as kind;
 ghost use Rattle.bson_model.specs.Reading.{reads_in, reads_items_in, reads_members_in};
 ghost use Rattle.bson_tree.specs.Built.{Builds};
-ghost use Rattle.bson_tree.specs.Place.{FaultAtIn, FaultAmongIn, FaultWithinIn, HasValueIn};
+ghost use Rattle.bson_tree.specs.Place.{FaultAtIn, ItemFaultAtIn, MemberFaultAtIn, HasValueIn};
 ghost use Rattle.bson_tree.specs.Place.{IsFirstFaultIn, IsReason, key as key_segment};
 ghost use Rattle.bson_tree.specs.Place.{segment_of, path_of};
 
 use crate::builder::{Nothing, ValueBuilder};
 use crate::place::{Place, Reason, Segment};
-use crate::shape::{CODE, SCOPE, first_wrapper, other_keys_reason};
+use crate::shape::{CODE_MESSAGE, SCOPE_MESSAGE, first_wrapper, other_keys_reason};
 use bson_scalar::code::is_code_with_scope;
 use bson_scalar::doubles::read_number;
 use bson_scalar::error::Error;
 use bson_scalar::form::Doubles;
-use bson_scalar::read::read_single_in;
+use bson_scalar::read::read_single_key_in;
 use bson_scalar::scalar::Scalar;
 use bson_scalar::wrapper::Wrapper;
 use serde_json::{Map, Number, Value};
@@ -83,7 +83,7 @@ pub fn read_pairs<B: ValueBuilder>(
     members: Map<String, Value>,
 ) -> Result<Result<B::Pairs, Place>, AllocError>
     ensures { IfOk result (Builds B.paired (reads_members_in doubles (members_view members.entries))
-        (λ f. FaultWithinIn doubles f (members_view members.entries))) }
+        (λ f. MemberFaultAtIn doubles f (members_view members.entries))) }
 {
     read_members::<B>(alloc, doubles, members)
 }
@@ -100,7 +100,7 @@ fn read_value<B: ValueBuilder>(
     match tree {
         Value::Null => Ok(Ok(B::scalar(Scalar::Null))),
         Value::Bool(truth) => Ok(Ok(B::scalar(Scalar::Boolean(truth)))),
-        Value::Number(n) => of_number::<B>(alloc, doubles, &n),
+        Value::Number(n) => build_number::<B>(alloc, doubles, &n),
         Value::String(text) => Ok(Ok(B::scalar(Scalar::String(text)))),
         Value::Array(items) => read_array::<B>(alloc, doubles, items),
         Value::Object(members) => read_object::<B>(alloc, doubles, members),
@@ -127,7 +127,7 @@ fn place_here(alloc: Global, message: &'static str) -> Place
 
 // Why a scalar was not read.
 fn reason_of(error: Error) -> Result<Reason, AllocError>
-    ensures { IfOk result (λ reason. (read : Result kind.Scalar Fault) → Fails error read
+    ensures { IfOk result (λ reason. (read : Result kind.Scalar Fault) → IsReadError error read
         → (f : Fault) × (read ≡ Err f) × IsReason f reason) }
 {
     match error {
@@ -137,7 +137,7 @@ fn reason_of(error: Error) -> Result<Reason, AllocError>
     }
 }
 
-fn of_number<B: ValueBuilder>(
+fn build_number<B: ValueBuilder>(
     alloc: Global,
     doubles: Doubles,
     n: &Number,
@@ -186,7 +186,7 @@ fn read_items<B: ValueBuilder>(
     items: Vec<Value>,
 ) -> Result<Result<B::Items, Place>, AllocError>
     ensures { IfOk result (Builds B.listed (reads_items_in doubles (items_view items.items))
-        (λ f. FaultAmongIn doubles f 0 (items_view items.items))) }
+        (λ f. ItemFaultAtIn doubles f 0 (items_view items.items))) }
 {
     let mut read = B::items(alloc, items.len())?;
     let mut at = 0usize;
@@ -207,7 +207,7 @@ fn read_members<B: ValueBuilder>(
     members: Map<String, Value>,
 ) -> Result<Result<B::Pairs, Place>, AllocError>
     ensures { IfOk result (Builds B.paired (reads_members_in doubles (members_view members.entries))
-        (λ f. FaultWithinIn doubles f (members_view members.entries))) }
+        (λ f. MemberFaultAtIn doubles f (members_view members.entries))) }
 {
     let mut read = B::pairs(alloc, members.len())?;
     for (key, value) in members {
@@ -253,7 +253,7 @@ fn read_wrapped<B: ValueBuilder>(
         unreachable!();
     };
     let Some((other, scope)) = members.pop_first() else {
-        return of_single_key::<B>(alloc, doubles, key, value);
+        return build_single_key::<B>(alloc, doubles, key, value);
     };
     if !members.is_empty() {
         return Ok(Err(place_here(alloc, other_keys_reason(wrapper))));
@@ -265,7 +265,7 @@ fn read_wrapped<B: ValueBuilder>(
 }
 
 // An object of one wrapper key.
-fn of_single_key<B: ValueBuilder>(
+fn build_single_key<B: ValueBuilder>(
     alloc: Global,
     doubles: Doubles,
     key: String,
@@ -276,7 +276,7 @@ fn of_single_key<B: ValueBuilder>(
         (Builds B.built (reads_in doubles (object (member (string_bytes key) (view value) no_members)))
         (λ f. FaultAtIn doubles f (object (member (string_bytes key) (view value) no_members)))) }
 {
-    match read_single_in(alloc, doubles, key.as_str(), value) {
+    match read_single_key_in(alloc, doubles, key.as_str(), value) {
         Ok(scalar) => Ok(Ok(B::scalar(scalar))),
         Err(error) => Ok(Err(at_key(alloc, key, reason_of(error)?)?)),
     }
@@ -304,7 +304,7 @@ fn read_code<B: ValueBuilder>(
 {
     match code {
         Value::String(code) => read_scope::<B>(alloc, doubles, scope, code),
-        _ => Ok(Err(place_here(alloc, CODE))),
+        _ => Ok(Err(place_here(alloc, CODE_MESSAGE))),
     }
 }
 
@@ -324,7 +324,7 @@ fn read_scope<B: ValueBuilder>(
     match scope {
         Value::Null => Ok(Ok(B::scalar(Scalar::JavaScriptCode(code)))),
         Value::Object(members) => read_scope_map::<B>(alloc, doubles, members, code),
-        _ => Ok(Err(place_here(alloc, SCOPE))),
+        _ => Ok(Err(place_here(alloc, SCOPE_MESSAGE))),
     }
 }
 

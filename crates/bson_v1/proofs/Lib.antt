@@ -2,6 +2,6 @@ pub mod Beginnings
 pub mod Values
 pub mod Shapes
 pub mod Passing
-pub mod Whole
+pub mod Complete
 pub mod Objects
 pub mod Version1Laws

@@ -10,14 +10,14 @@ use Rattle.json.specs.declared.token.Token.TheVariants.{BeginObject, EndObject, 
 use Rattle.json.specs.declared.token.Token.TheVariants.{Bool, Null, Bad}
 use Rattle.json.proofs.Grammar.{value_is, value-begin_array, value-begin_object}
 use Rattle.bson_tokens.specs.Normalizing.{elements, inside}
-use Rattle.bson_v1.specs.Passed.{PassesTokens, of_items, of_object, of_value}
+use Rattle.bson_v1.specs.WrittenTokens.{WritesTokens, upgraded_items_tokens, upgraded_object_tokens, upgraded_value_tokens}
 
 module _ (depth : ℕ) (t : found.Token) (ts : List Token) where
   -- it is a value of its own
   pub plain_passes : (old new : List Token)
       → ((s : Bor (List ℕ)) × (t ≡ String s)) ⊎ ((s : Bor (List ℕ)) × (t ≡ Number s))
       ⊎ ((b : prelude.Bool) × (t ≡ Bool b)) ⊎ (t ≡ Null)
-      → new ≡ old ++ token_of t ∷ [] → PassesTokens of_value (value depth (token_of t ∷ ts)) ts old new
+      → new ≡ old ++ token_of t ∷ [] → WritesTokens upgraded_value_tokens (value depth (token_of t ∷ ts)) ts old new
   plain_passes old new (inl (s, e)) is = (
     string s.now,
     ap (λ k. value depth (token_of k ∷ ts)) e ∙ value_is depth (token.string s.now ∷ ts),
@@ -54,12 +54,12 @@ module _ (depth : ℕ) (t : found.Token) (ts : List Token) where
   array_opened e left = ap (λ k. value depth (token_of k ∷ ts)) e ∙ value-begin_array depth ts left
 
   pub array_passes : (rest old begun new : List Token) → t ≡ BeginArray → 0 < depth
-      → begun ≡ old ++ token.begin_array ∷ [] → PassesTokens of_items (elements (depth - 1) ts) rest begun new
-      → PassesTokens of_value (value depth (token_of t ∷ ts)) rest old new
+      → begun ≡ old ++ token.begin_array ∷ [] → WritesTokens upgraded_items_tokens (elements (depth - 1) ts) rest begun new
+      → WritesTokens upgraded_value_tokens (value depth (token_of t ∷ ts)) rest old new
   array_passes rest old begun new e left begin (js, read, is) = (
     array js,
     array_opened e left ∙ ap (parse_map array) read,
-    is ∙ ap (λ o. o ++ of_items js) begin ∙ append_assoc old (token.begin_array ∷ []) (of_items js),
+    is ∙ ap (λ o. o ++ upgraded_items_tokens js) begin ∙ append_assoc old (token.begin_array ∷ []) (upgraded_items_tokens js),
   )
 
   pub array_too_deep : t ≡ BeginArray → depth ≡ 0 → value depth (token_of t ∷ ts) ≡ None
@@ -73,8 +73,8 @@ module _ (depth : ℕ) (t : found.Token) (ts : List Token) where
   object_opened e left = ap (λ k. value depth (token_of k ∷ ts)) e ∙ value-begin_object depth ts left
 
   pub object_passes : (rest old new : List Token) → t ≡ BeginObject → 0 < depth
-      → PassesTokens of_object (inside (depth - 1) ts) rest old new
-      → PassesTokens of_value (value depth (token_of t ∷ ts)) rest old new
+      → WritesTokens upgraded_object_tokens (inside (depth - 1) ts) rest old new
+      → WritesTokens upgraded_value_tokens (value depth (token_of t ∷ ts)) rest old new
   object_passes rest old new e left (ms, read, is) =
       (object ms, object_opened e left ∙ ap (parse_map object) read, is)
 

@@ -13,7 +13,7 @@ use Rattle.bson_model.specs.OrderedTexts.{HasMeaningInOrder, MeansByDefault}
 use Rattle.bson_tokens.specs.Normalized.{normalized, IsNormalizedText}
 use Rattle.bson_tokens.specs.declared.arrangement.Arrangement.TheVariants.{FirstPlaces}
 use Rattle.bson_tokens.proofs.Offered.{meant, meant_in_order}
-use Rattle.bson_v1.specs.Upgraded.{binary, regex, date, other, older, strings, pair, lone, upgraded_wrapper, is_code, is_scope}
+use Rattle.bson_v1.specs.Upgraded.{binary, regex, date, other, v1_shape, shape_of_strings, shape_of_two, shape_of_one, upgraded_wrapper, is_code, is_scope}
 use Rattle.bson_v1.specs.Upgraded.{upgraded, upgraded_items, upgraded_members, upgraded_object, upgraded_scope, ends_in_offset}
 use Rattle.bson_v1.specs.Upgraded.{with_colon, binary_json, regex_json, date_json}
 use Rattle.bson_v1.specs.Text.{IsUpgradedText}
@@ -48,7 +48,7 @@ skip true true x y never = absurd (never refl refl)
 skip true false x y never = refl
 skip false b x y never = refl
 
-two_stay : (k s l t : List ℕ) → IsNotVersion1 (strings_at k s l t) → strings k s l t ≡ other
+two_stay : (k s l t : List ℕ) → IsNotVersion1 (strings_at k s l t) → shape_of_strings k s l t ≡ other
 two_stay k s l t none =
     skip (bytes_eq k (codes "$binary")) (bytes_eq l (codes "$type")) (binary s t) _
     (λ p q. no_pair k s l t (codes "$binary") (codes "$type") (binary_json s t) p q (v1.binary s t) none)
@@ -71,7 +71,7 @@ date_stays k s true is none =
     (subst (λ x. IsVersion1 (member x (json.string s) no_members) (date_json s)) (sym same) (v1.date s ends))))
     ∙ ap (λ x. json.object (member x (json.string s) no_members)) (sym same)
 
-pair_stays : (k l : List ℕ) (j i : Json) → IsNotVersion1 (member k j (member l i no_members)) → pair k j l i ≡ other
+pair_stays : (k l : List ℕ) (j i : Json) → IsNotVersion1 (member k j (member l i no_members)) → shape_of_two k j l i ≡ other
 pair_stays k l json.null i none = refl
 pair_stays k l (json.boolean b) i none = refl
 pair_stays k l (json.number n) i none = refl

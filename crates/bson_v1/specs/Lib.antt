@@ -1,6 +1,6 @@
-pub mod Held
+pub mod LeadingMembers
 pub mod Upgraded
-pub mod Passed
+pub mod WrittenTokens
 pub mod Text
 pub mod Version1
 -- what public clauses cite of the crates below, so that a caller names this crate alone

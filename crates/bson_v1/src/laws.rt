@@ -19,8 +19,8 @@ pub fn version_1_is_rewritten()
 /// Proves that a text of v2 means what the text in its place means, in the order of its keys and by
 /// default.
 pub fn version_2_keeps_its_value()
-    ensures in_order { (D : Doubles) (text written : List ℕ) (v : Value) → IsUpgradedText text written
-        → IsTextOfVersion2 text → (HasMeaningInOrder D written v ↔ HasMeaningInOrder D text v) }
-    ensures by_default { (D : Doubles) (text written : List ℕ) (v : Value) → IsUpgradedText text written
-        → IsTextOfVersion2 text → (MeansByDefault D written v ↔ MeansByDefault D text v) }
+    ensures in_order { (doubles : Doubles) (text written : List ℕ) (v : Value) → IsUpgradedText text written
+        → IsTextOfVersion2 text → (HasMeaningInOrder doubles written v ↔ HasMeaningInOrder doubles text v) }
+    ensures by_default { (doubles : Doubles) (text written : List ℕ) (v : Value) → IsUpgradedText text written
+        → IsTextOfVersion2 text → (MeansByDefault doubles written v ↔ MeansByDefault doubles text v) }
 {}

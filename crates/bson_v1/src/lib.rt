@@ -6,7 +6,7 @@
 #![tactic(auto)]
 
 mod date;
-mod held;
+mod object_start;
 pub mod laws;
-mod older;
+mod v1_shapes;
 pub mod upgraded;

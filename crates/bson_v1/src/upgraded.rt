@@ -9,13 +9,13 @@ ghost use Rattle.serde_json.specs.Read.{read};
 ghost use Rattle.bson_tokens.specs.Double.{json_of};
 ghost use Rattle.bson_tokens.specs.Parts.{InvalidMeansNone};
 ghost use Rattle.bson_tokens.specs.Normalizing.{elements, inside};
-ghost use Rattle.bson_v1.specs.Held.{HasNoOlderShape, RestPasses, ScopeEnds, ScopePasses, onto};
-ghost use Rattle.bson_v1.specs.Passed.{MemberPasses, PassesTokens};
-ghost use Rattle.bson_v1.specs.Passed.{of_items, of_members, of_object, of_value};
+ghost use Rattle.bson_v1.specs.LeadingMembers.{HasNoV1Shape, WritesRest, WritesScopeAndRest, WritesScope, with_leading_members};
+ghost use Rattle.bson_v1.specs.WrittenTokens.{WritesMembers, WritesTokens};
+ghost use Rattle.bson_v1.specs.WrittenTokens.{upgraded_items_tokens, upgraded_members_tokens, upgraded_object_tokens, upgraded_value_tokens};
 ghost use Rattle.bson_v1.specs.Text.{IsUpgradedText, IsRewritten};
 
-use crate::held::{Begun, Texts, hold, is_scope, next_member, scope_place};
-use crate::older::{write_held, write_older, write_scope_or_value};
+use crate::object_start::{ObjectStart, LeadingStrings, read_start, is_scope, next_member, scope_candidate};
+use crate::v1_shapes::{write_leading_strings, write_from_v1, write_scope_or_value};
 use bson_tokens::MAX_DEPTH;
 use bson_tokens::arrangement::Arrangement;
 use bson_tokens::normalize::normalize_text;
@@ -88,17 +88,17 @@ fn write_value<'a>(
     out: &mut Writer,
 ) -> Result<(), Error>
     ensures ok { OnOk result
-        (PassesTokens of_value (value depth reader.old) reader.new out.old.tokens out.new.tokens) }
+        (WritesTokens upgraded_value_tokens (value depth reader.old) reader.new out.old.tokens out.new.tokens) }
     ensures broken { IfErr result (InvalidMeansNone (value depth reader.old)) }
     ensures before { OnOk result (out.new.before ≡ out.old.before) }
 {
     let first = reader.next().ok_or(Error::Invalid)?;
-    write_begun(alloc, first, reader, depth, out)
+    write_started_value(alloc, first, reader, depth, out)
 }
 
 // The value whose first token was read.
 #[cycle(write)]
-fn write_begun<'a>(
+fn write_started_value<'a>(
     alloc: Global,
     first: Token<'a>,
     reader: &mut Reader<'a>,
@@ -106,7 +106,7 @@ fn write_begun<'a>(
     out: &mut Writer,
 ) -> Result<(), Error>
     requires { first ≢ Token.Bad → IsPrintable (token_of first) }
-    ensures ok { OnOk result (PassesTokens of_value (value depth (token_of first.entry ∷ reader.old)) reader.new
+    ensures ok { OnOk result (WritesTokens upgraded_value_tokens (value depth (token_of first.entry ∷ reader.old)) reader.new
         out.old.tokens out.new.tokens) }
     ensures broken { IfErr result (InvalidMeansNone (value depth (token_of first.entry ∷ reader.old))) }
     ensures before { OnOk result (out.new.before ≡ out.old.before) }
@@ -139,7 +139,7 @@ fn write_items<'a>(
     out: &mut Writer,
 ) -> Result<(), Error>
     ensures ok { OnOk result
-        (PassesTokens of_items (elements depth reader.old) reader.new out.old.tokens out.new.tokens) }
+        (WritesTokens upgraded_items_tokens (elements depth reader.old) reader.new out.old.tokens out.new.tokens) }
     ensures broken { IfErr result (InvalidMeansNone (elements depth reader.old)) }
     ensures before { OnOk result (out.new.before ≡ out.old.before) }
 {
@@ -159,16 +159,16 @@ fn write_object<'a>(
     out: &mut Writer,
 ) -> Result<(), Error>
     ensures ok { OnOk result
-        (PassesTokens of_object (inside depth reader.old) reader.new out.old.tokens out.new.tokens) }
+        (WritesTokens upgraded_object_tokens (inside depth reader.old) reader.new out.old.tokens out.new.tokens) }
     ensures broken { IfErr result (InvalidMeansNone (inside depth reader.old)) }
     ensures before { OnOk result (out.new.before ≡ out.old.before) }
 {
-    match hold(reader)? {
-        Begun::Whole(texts) => Ok(write_older(alloc, texts, out)?),
-        Begun::Open(texts, key, first) => {
+    match read_start(reader)? {
+        ObjectStart::Complete(leading) => Ok(write_from_v1(alloc, leading, out)?),
+        ObjectStart::Incomplete(leading, key, first) => {
             out.begin_object()?;
-            write_held(texts, out)?;
-            write_rest(alloc, texts, key, first, reader, depth, out)
+            write_leading_strings(leading, out)?;
+            write_rest(alloc, leading, key, first, reader, depth, out)
         }
     }
 }
@@ -178,7 +178,7 @@ fn write_object<'a>(
 #[cycle(write)]
 fn write_rest<'a>(
     alloc: Global,
-    texts: Texts<'a>,
+    leading: LeadingStrings<'a>,
     key: &'a str,
     first: Token<'a>,
     reader: &mut Reader<'a>,
@@ -186,14 +186,14 @@ fn write_rest<'a>(
     out: &mut Writer,
 ) -> Result<(), Error>
     requires printable { first ≢ Token.Bad → IsPrintable (token_of first) }
-    requires shape { HasNoOlderShape texts first }
-    ensures ok { OnOk result (RestPasses texts.entry depth key.now (token_of first.entry ∷ reader.old) reader.new
+    requires shape { HasNoV1Shape leading first }
+    ensures ok { OnOk result (WritesRest leading.entry depth key.now (token_of first.entry ∷ reader.old) reader.new
         out.old.tokens out.new.tokens) }
     ensures broken { IfErr result
         (InvalidMeansNone (inside depth (token.key key.now ∷ token_of first.entry ∷ reader.old))) }
     ensures before { OnOk result (out.new.before ≡ out.old.before) }
 {
-    match scope_place(texts, key, first) {
+    match scope_candidate(leading, key, first) {
         Some(after_code) => write_scope(alloc, after_code, key, reader, depth, out),
         None => write_member(alloc, key, first, reader, depth, out),
     }
@@ -210,7 +210,7 @@ fn write_scope<'a>(
     depth: usize,
     out: &mut Writer,
 ) -> Result<(), Error>
-    ensures ok { OnOk result (ScopePasses after_code depth key.now reader.old reader.new
+    ensures ok { OnOk result (WritesScope after_code depth key.now reader.old reader.new
         out.old.tokens out.new.tokens) }
     ensures broken { IfErr result
         (InvalidMeansNone (inside depth (token.key key.now ∷ token.begin_object ∷ reader.old))) }
@@ -220,12 +220,12 @@ fn write_scope<'a>(
         return Err(Error::Invalid);
     }
     out.key(key)?;
-    match hold(reader)? {
-        Begun::Whole(texts) => write_held_scope(alloc, after_code, texts, reader, depth, out),
-        Begun::Open(texts, inner, first) => {
+    match read_start(reader)? {
+        ObjectStart::Complete(leading) => write_complete_scope(alloc, after_code, leading, reader, depth, out),
+        ObjectStart::Incomplete(leading, inner, first) => {
             out.begin_object()?;
-            write_held(texts, out)?;
-            write_rest(alloc, texts, inner, first, reader, depth - 1, out)?;
+            write_leading_strings(leading, out)?;
+            write_rest(alloc, leading, inner, first, reader, depth - 1, out)?;
             write_members(alloc, reader, depth, out)
         }
     }
@@ -233,24 +233,24 @@ fn write_scope<'a>(
 
 // The object of these members at `$scope`, whose end was read, and the members after it.
 #[cycle(write)]
-fn write_held_scope<'a>(
+fn write_complete_scope<'a>(
     alloc: Global,
     after_code: bool,
-    texts: Texts<'a>,
+    leading: LeadingStrings<'a>,
     reader: &mut Reader<'a>,
     depth: usize,
     out: &mut Writer,
 ) -> Result<(), Error>
-    ensures ok { OnOk result (ScopeEnds after_code depth (onto texts.entry no_members) reader.old reader.new
+    ensures ok { OnOk result (WritesScopeAndRest after_code depth (with_leading_members leading.entry no_members) reader.old reader.new
         out.old.tokens out.new.tokens) }
     ensures broken { IfErr result (InvalidMeansNone (inside depth reader.old)) }
     ensures before { OnOk result (out.new.before ≡ out.old.before) }
 {
     let Some((key, first)) = next_member(reader)? else {
-        write_scope_or_value(alloc, after_code, texts, out)?;
+        write_scope_or_value(alloc, after_code, leading, out)?;
         return Ok(out.end_object()?);
     };
-    write_scope_or_value(alloc, is_scope(after_code, key, first), texts, out)?;
+    write_scope_or_value(alloc, is_scope(after_code, key, first), leading, out)?;
     write_member(alloc, key, first, reader, depth, out)
 }
 
@@ -265,14 +265,14 @@ fn write_member<'a>(
     out: &mut Writer,
 ) -> Result<(), Error>
     requires { first ≢ Token.Bad → IsPrintable (token_of first) }
-    ensures ok { OnOk result (MemberPasses depth key.now (token_of first.entry ∷ reader.old) reader.new
+    ensures ok { OnOk result (WritesMembers depth key.now (token_of first.entry ∷ reader.old) reader.new
         out.old.tokens out.new.tokens) }
     ensures broken { IfErr result
         (InvalidMeansNone (inside depth (token.key key.now ∷ token_of first.entry ∷ reader.old))) }
     ensures before { OnOk result (out.new.before ≡ out.old.before) }
 {
     out.key(key)?;
-    write_begun(alloc, first, reader, depth, out)?;
+    write_started_value(alloc, first, reader, depth, out)?;
     write_members(alloc, reader, depth, out)
 }
 
@@ -285,7 +285,7 @@ fn write_members<'a>(
     out: &mut Writer,
 ) -> Result<(), Error>
     ensures ok { OnOk result
-        (PassesTokens of_members (inside depth reader.old) reader.new out.old.tokens out.new.tokens) }
+        (WritesTokens upgraded_members_tokens (inside depth reader.old) reader.new out.old.tokens out.new.tokens) }
     ensures broken { IfErr result (InvalidMeansNone (inside depth reader.old)) }
     ensures before { OnOk result (out.new.before ≡ out.old.before) }
 {

@@ -16,7 +16,7 @@ use Rattle.bson.specs.declared.bson.Bson.{the_lemmas}
 use Rattle.bson.specs.declared.bson.Bson.TheVariants.{Document as held}
 use Rattle.bson.specs.declared.document.Document.{Document}
 use Rattle.bson.specs.declared.extjson.options.Options.{Options}
-use Rattle.bson.specs.Kept.{read_kept}
+use Rattle.bson.specs.OrderedTrees.{read_in_order}
 use Rattle.bson.specs.MeansInOrder.{MeansInOrder}
 use Rattle.bson_codec.specs.Laws.{IsRead}
 use Rattle.bson_codec.specs.Texts.{IsDocumentTextOf}
@@ -136,8 +136,8 @@ means_one D bytes tree ps qs text means it =
 pub means_one_in_order : (D : Doubles) (bytes : List ℕ) (ps qs : Pairs) → HasMeaningInOrder D bytes (document ps)
     → HasMeaningInOrder D bytes (document qs) → ps ≡ qs
 means_one_in_order D bytes ps qs it also =
-    let a : read_kept bytes ≡ Some it.tree = it.tree_read in
-    let b : read_kept bytes ≡ Some also.tree = also.tree_read in
+    let a : read_in_order bytes ≡ Some it.tree = it.tree_read in
+    let b : read_in_order bytes ≡ Some also.tree = also.tree_read in
     let same : it.tree ≡ also.tree = cc in
     let one : document ps ≡ document qs =
     also.one (document ps) (subst (λ t. MeansInOrder D t (document ps)) same it.means) in

@@ -5,7 +5,7 @@ use Rattle.std.specs.Prelude.{decimal}
 use Rattle.std.proofs.lemmas.List.{append-nil, take_at, drop_at, take-append-le, drop-append-le, length-drop}
 use Rattle.bson_bytes.specs.Grammar.{IsSize, framed, le}
 use Rattle.bson_bytes.specs.Writing.{name_bytes, type_of, value_bytes, list_bytes, items_bytes}
-use Rattle.bson_model.specs.Feed.{items_count}
+use Rattle.bson_model.specs.HashInput.{items_count}
 use Rattle.bson_model.specs.Value.{Value, Values, no_values, value, Pairs, no_pairs, pair}
 use Rattle.vbson.specs.Builder.{IsAppended, IsBuilt, IsFramed, IsOpenDocument, IsOpenArray, and_pair, and_value, built, no_length}
 use Rattle.vbson.specs.declared.builder.Builder.{Builder}

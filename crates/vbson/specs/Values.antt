@@ -2,7 +2,7 @@
 -- bytes of a document.
 use Rattle.std.specs.Prelude.{◌≡◌, ◌⊎◌, ℕ, List, Bool, true, false, fold}
 use Rattle.std.specs.Hash.DefaultHasher as sip
-use Rattle.bson_model.specs.Feed.{feed}
+use Rattle.bson_model.specs.HashInput.{feed}
 use Rattle.bson_model.specs.Same.{same}
 use Rattle.bson_model.specs.Value.{Value}
 

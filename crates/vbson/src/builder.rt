@@ -5,7 +5,7 @@ ghost use Rattle.std.specs.Int.{w32};
 ghost use Rattle.std.specs.Str.{is_utf8};
 ghost use Rattle.bson_bytes.specs.Grammar.{IsSize, le};
 ghost use Rattle.bson_bytes.specs.Writing.{document_bytes, list_bytes, name_bytes, type_of, value_bytes};
-ghost use Rattle.bson_model.specs.Feed.{items_count};
+ghost use Rattle.bson_model.specs.HashInput.{items_count};
 ghost use Rattle.bson_model.specs.Value.{Pairs, Value, Values, array, no_pairs, no_values};
 ghost use Rattle.vbson.specs.Builder.{Appends, IsAppended, IsBuilt, IsFramed, HasSameBytes, IsOpenDocument, IsOpenArray, IsTooSmall};
 ghost use Rattle.vbson.specs.Builder.{and_pair, and_value, built, no_length, value_in};

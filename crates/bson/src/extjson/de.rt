@@ -4,10 +4,10 @@ ghost use Rattle.serde_json.specs.View.{view, members_view};
 ghost use Rattle.serde_json.specs.Data.{object};
 ghost use Rattle.bson_model.specs.Value as model;
 ghost use Rattle.bson_model.specs.Value.{Pairs};
-ghost use Rattle.bson_scalar.specs.Faults.{Gives};
+ghost use Rattle.bson_scalar.specs.Faults.{IsReadResult};
 ghost use Rattle.bson_model.specs.Means.{Means, MeansIn, MeansDocument, MeansDocumentIn};
 ghost use Rattle.bson_model.specs.Sorted.{KeysAscend};
-ghost use Rattle.bson_model.specs.Texts.{Ascends, ComesBack, ComesBackIn};
+ghost use Rattle.bson_model.specs.Texts.{Ascends, ValueRoundTrips, ValueRoundTripsIn};
 ghost use Rattle.bson_model.specs.Normal.{InRange, PairsInRange};
 ghost use Rattle.bson_model.specs.Laws.{HasMeaning, HasMeaningIn, HasDocumentMeaning, HasDocumentMeaningIn};
 ghost use Rattle.bson_model.specs.Fault.{IsFaultOf, IsFaultOfIn, IsDocumentFault, IsDocumentFaultIn};
@@ -42,10 +42,10 @@ impl Bson {
     /// - `OutOfMemory`: a request for memory was refused.
     pub fn try_from_value(alloc: Global, value: Value) -> Result<Bson>
         ensures ok { IfOk result (λ v. HasMeaning (view value) (bson_view v)) }
-        ensures accepts { (v : model.Value) → Means (view value) v → Gives bson_view result (Ok v) }
+        ensures accepts { (v : model.Value) → Means (view value) v → IsReadResult bson_view result (Ok v) }
         ensures fault { IfErr result (λ e. IsFaultOf (view value) e) }
         ensures ranged { IfOk result (λ v. InRange (bson_view v)) }
-        ensures comes_back { IfOk result (λ v. ComesBack (bson_view v)) }
+        ensures comes_back { IfOk result (λ v. ValueRoundTrips (bson_view v)) }
     {
         read(alloc, Doubles::Special, value)
     }
@@ -60,10 +60,10 @@ impl Bson {
     /// The errors of `try_from_value`.
     pub fn from_tree(alloc: Global, doubles: Doubles, value: Value) -> Result<Bson>
         ensures ok { IfOk result (λ v. HasMeaningIn doubles (view value) (bson_view v)) }
-        ensures accepts { (v : model.Value) → MeansIn doubles (view value) v → Gives bson_view result (Ok v) }
+        ensures accepts { (v : model.Value) → MeansIn doubles (view value) v → IsReadResult bson_view result (Ok v) }
         ensures fault { IfErr result (λ e. IsFaultOfIn doubles (view value) e) }
         ensures ranged { IfOk result (λ v. InRange (bson_view v)) }
-        ensures comes_back { IfOk result (λ v. ComesBackIn doubles (bson_view v)) }
+        ensures comes_back { IfOk result (λ v. ValueRoundTripsIn doubles (bson_view v)) }
     {
         read(alloc, doubles, value)
     }
@@ -76,10 +76,10 @@ impl Bson {
     pub fn try_from_map(alloc: Global, map: Map<String, Value>) -> Result<Bson>
         ensures ok { IfOk result (λ v. HasMeaning (object (members_view map.entries)) (bson_view v)) }
         ensures accepts { (v : model.Value) → Means (object (members_view map.entries)) v
-            → Gives bson_view result (Ok v) }
+            → IsReadResult bson_view result (Ok v) }
         ensures fault { IfErr result (λ e. IsFaultOf (object (members_view map.entries)) e) }
         ensures ranged { IfOk result (λ v. InRange (bson_view v)) }
-        ensures comes_back { IfOk result (λ v. ComesBack (bson_view v)) }
+        ensures comes_back { IfOk result (λ v. ValueRoundTrips (bson_view v)) }
     {
         Bson::try_from_value(alloc, Value::Object(map))
     }
@@ -100,7 +100,7 @@ impl Document {
     pub fn try_from_map(alloc: Global, map: Map<String, Value>) -> Result<Document>
         ensures ok { IfOk result (λ v. HasDocumentMeaning (members_view map.entries) (document_view v)) }
         ensures accepts { (ps : Pairs) → MeansDocument (members_view map.entries) ps
-            → Gives document_view result (Ok ps) }
+            → IsReadResult document_view result (Ok ps) }
         ensures ascends { IfOk result (λ v. KeysAscend (document_view v)) }
         ensures fault { IfErr result (λ e. IsDocumentFault (members_view map.entries) e) }
         ensures ranged { IfOk result (λ v. PairsInRange (document_view v)) }
@@ -122,7 +122,7 @@ impl Document {
         ensures ok { IfOk result
             (λ v. HasDocumentMeaningIn doubles (members_view map.entries) (document_view v)) }
         ensures accepts { (ps : Pairs) → MeansDocumentIn doubles (members_view map.entries) ps
-            → Gives document_view result (Ok ps) }
+            → IsReadResult document_view result (Ok ps) }
         ensures ascends { IfOk result (λ v. KeysAscend (document_view v)) }
         ensures fault { IfErr result (λ e. IsDocumentFaultIn doubles (members_view map.entries) e) }
         ensures ranged { IfOk result (λ v. PairsInRange (document_view v)) }

@@ -1,8 +1,8 @@
 //! Values of trees, by the walk that finds their faults.
 ghost use Rattle.std.specs.Prelude.{◌≡◌, IfOk};
 ghost use Rattle.serde_json.specs.View.{view, number_view, members_view};
-ghost use Rattle.bson_scalar.specs.Faults.{Gives};
-ghost use Rattle.bson_scalar.specs.Reading.{number_read_in, single_at_in};
+ghost use Rattle.bson_scalar.specs.Faults.{IsReadResult};
+ghost use Rattle.bson_scalar.specs.Reading.{number_read_in, optional_wrapper_read_in};
 ghost use Rattle.bson_scalar.specs.Table.{wrapper_of};
 ghost use Rattle.bson_model.specs.Normal.{InRange, PairsInRange};
 ghost use Rattle.bson_model.specs.Reading.{scalar_value, reads_in, reads_members_in};
@@ -16,7 +16,7 @@ use crate::extjson::scalars::of_scalar;
 use bson_scalar::doubles::read_number;
 use bson_scalar::error::Error;
 use bson_scalar::form::Doubles;
-use bson_scalar::read::read_single_in;
+use bson_scalar::read::read_single_key_in;
 use bson_tree::place::Reason;
 use bson_tree::walk::{read_pairs, read_tree};
 use serde_json::{Map, Number, Value};
@@ -29,15 +29,15 @@ pub(crate) fn single_value(
     key: &str,
     value: Value,
 ) -> Result<Bson, Error>
-    ensures given { Gives bson_view result (scalar_value (single_at_in doubles (wrapper_of key.now) (view value))) }
+    ensures given { IsReadResult bson_view result (scalar_value (optional_wrapper_read_in doubles (wrapper_of key.now) (view value))) }
     ensures ranged { IfOk result (λ v. InRange (bson_view v)) }
 {
-    Ok(of_scalar(read_single_in(alloc, doubles, key, value)?))
+    Ok(of_scalar(read_single_key_in(alloc, doubles, key, value)?))
 }
 
 // What a number of JSON means.
 pub(crate) fn number_value(doubles: Doubles, n: &Number) -> Result<Bson, Error>
-    ensures given { Gives bson_view result (scalar_value (number_read_in doubles (number_view n.now))) }
+    ensures given { IsReadResult bson_view result (scalar_value (number_read_in doubles (number_view n.now))) }
     ensures ranged { IfOk result (λ v. InRange (bson_view v)) }
 {
     Ok(of_scalar(read_number(doubles, n)?))
@@ -45,7 +45,7 @@ pub(crate) fn number_value(doubles: Doubles, n: &Number) -> Result<Bson, Error>
 
 // What a tree means.
 pub(crate) fn read(alloc: Global, doubles: Doubles, value: Value) -> Result<Bson, Error>
-    ensures given { Gives bson_view result (reads_in doubles (view value)) }
+    ensures given { IsReadResult bson_view result (reads_in doubles (view value)) }
     ensures ranged { IfOk result (λ v. InRange (bson_view v)) }
 {
     match read_tree::<BsonBuilder>(alloc, doubles, value)? {
@@ -60,7 +60,7 @@ pub(crate) fn read_members(
     doubles: Doubles,
     members: Map<String, Value>,
 ) -> Result<Document, Error>
-    ensures given { Gives document_view result (reads_members_in doubles (members_view members.entries)) }
+    ensures given { IsReadResult document_view result (reads_members_in doubles (members_view members.entries)) }
     ensures ranged { IfOk result (λ d. PairsInRange (document_view d)) }
 {
     match read_pairs::<BsonBuilder>(alloc, doubles, members)? {

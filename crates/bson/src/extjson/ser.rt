@@ -7,7 +7,7 @@ ghost use Rattle.bson_scalar.specs.declared.write_error.WriteError.{WriteError};
 ghost use Rattle.bson_model.specs.Texts.{ReadsAgain, ReadsAgainIn};
 ghost use Rattle.bson_model.specs.Normal.{InRange, writable, writable_in};
 ghost use Rattle.bson_model.specs.Laws.{IsTreeOf, IsTreeOfIn, FormsAreIdempotent, FormsAreIdempotentIn};
-ghost use Rattle.bson_model.specs.Distinct.{AllDistinct};
+ghost use Rattle.bson_model.specs.DistinctKeys.{AllKeysDistinct};
 ghost use Rattle.bson.specs.Room.{IsDirect, value_room};
 ghost use Rattle.bson.specs.Texts.{IsTextBy, IsTextIn, IsTextInOrder, IsWriteErrorIn};
 ghost use Rattle.bson.specs.View.{bson_view};
@@ -181,7 +181,7 @@ impl Bson {
         ensures text { IfOk result
             (λ s. IsTextBy options.key_order options.doubles form (bson_view self.now) (string_bytes s)) }
         ensures ranged { OnOk result (InRange (bson_view self.now)) }
-        ensures distinct { OnOk result (AllDistinct (bson_view self.now)) }
+        ensures distinct { OnOk result (AllKeysDistinct (bson_view self.now)) }
         ensures writable { OnOk result (writable_in options.doubles (bson_view self.now) ≡ true) }
         ensures finite { result ≡ Err WriteError.FiniteDouble
             → writable_in options.doubles (bson_view self.now) ≡ false }
@@ -204,7 +204,7 @@ impl Bson {
         ensures text { IfOk result
             (λ s. IsTextBy options.key_order options.doubles form (bson_view self) (string_bytes s)) }
         ensures ranged { OnOk result (InRange (bson_view self)) }
-        ensures distinct { OnOk result (AllDistinct (bson_view self)) }
+        ensures distinct { OnOk result (AllKeysDistinct (bson_view self)) }
         ensures writable { OnOk result (writable_in options.doubles (bson_view self) ≡ true) }
         ensures finite { result ≡ Err WriteError.FiniteDouble → writable_in options.doubles (bson_view self) ≡ false }
         ensures every { IfErr result (IsWriteErrorIn options.doubles) }
@@ -254,7 +254,7 @@ impl Bson {
         ensures twice { (s : List ℕ) → IsTextInOrder options.doubles form (bson_view self.now) s
             → InRange (bson_view self.now) → value_room options.doubles form (bson_view self.now) ≤ 2 * length s }
         ensures ranged { OnOk result (InRange (bson_view self.now)) }
-        ensures distinct { OnOk result (AllDistinct (bson_view self.now)) }
+        ensures distinct { OnOk result (AllKeysDistinct (bson_view self.now)) }
         ensures writable { OnOk result (writable_in options.doubles (bson_view self.now) ≡ true) }
         ensures finite { result ≡ Err WriteError.FiniteDouble
             → writable_in options.doubles (bson_view self.now) ≡ false }

@@ -8,7 +8,7 @@ ghost use Rattle.bson_scalar.specs.Tokens.{Puts};
 ghost use Rattle.bson_scalar.specs.View.{scalar_of};
 ghost use Rattle.bson_scalar.specs.Written.{writes_scalar_in};
 ghost use Rattle.bson_model.specs.Normal.{InRange, ItemsInRange, PairsInRange};
-ghost use Rattle.bson_model.specs.Distinct.{AllDistinct, ItemsDistinct, PairsDistinct};
+ghost use Rattle.bson_model.specs.DistinctKeys.{AllKeysDistinct, ItemKeysDistinct, PairKeysDistinct};
 ghost use Rattle.bson_store.specs.Pairs.{HasDistinctKeys};
 ghost use Rattle.bson.specs.KeyOrders.{ordered, writes_by, writes_items_by, writes_pairs_by};
 ghost use Rattle.bson.specs.Texts.{Prints, GivesText, AppendsText, IsWriteErrorIn};
@@ -47,7 +47,7 @@ pub(crate) fn text_of(
 ) -> Result<String, WriteError>
     ensures written { GivesText result (writes_by options.key_order options.doubles form (bson_view value.now)) }
     ensures ranged { OnOk result (InRange (bson_view value.now)) }
-    ensures distinct { OnOk result (AllDistinct (bson_view value.now)) }
+    ensures distinct { OnOk result (AllKeysDistinct (bson_view value.now)) }
     ensures every { IfErr result (IsWriteErrorIn options.doubles) }
 {
     let mut out = Writer::new(Vec::with_capacity(alloc, 128)?);
@@ -84,7 +84,7 @@ pub(crate) fn append_text(
 ) -> Result<(), WriteError>
     ensures written { AppendsText result (writes_by AsGiven doubles form (bson_view value.now)) out.old.items out.new.items }
     ensures ranged { OnOk result (InRange (bson_view value.now)) }
-    ensures distinct { OnOk result (AllDistinct (bson_view value.now)) }
+    ensures distinct { OnOk result (AllKeysDistinct (bson_view value.now)) }
     ensures every { IfErr result (IsWriteErrorIn doubles) }
     ensures room { IsDirect form (bson_view value.now) → result ≡ Err OutOfMemory
         → vec_capacity out.old - vec_len out.old < value_room doubles form (bson_view value.now) }
@@ -117,7 +117,7 @@ fn print(
         out.new.tokens }
     ensures before { out.new.before ≡ out.old.before }
     ensures ranged { OnOk result (InRange (bson_view value.now)) }
-    ensures distinct { OnOk result (AllDistinct (bson_view value.now)) }
+    ensures distinct { OnOk result (AllKeysDistinct (bson_view value.now)) }
     ensures every { IfErr result (IsWriteErrorIn doubles) }
     ensures room { IsDirect form (bson_view value.now) → SpendsOrStops result out.old.spare out.new.spare
         (value_room doubles form (bson_view value.now)) }
@@ -148,7 +148,7 @@ fn print_scalar(
         out.old.tokens out.new.tokens }
     ensures before { out.new.before ≡ out.old.before }
     ensures ranged { OnOk result (InRange (bson_view value.now)) }
-    ensures distinct { OnOk result (AllDistinct (bson_view value.now)) }
+    ensures distinct { OnOk result (AllKeysDistinct (bson_view value.now)) }
     ensures every { IfErr result (IsWriteErrorIn doubles) }
     ensures room { IsDirect form (bson_view value.now) → SpendsOrStops result out.old.spare out.new.spare
         (value_room doubles form (bson_view value.now)) }
@@ -194,7 +194,7 @@ fn print_items(
         out.old.tokens out.new.tokens }
     ensures before { out.new.before ≡ out.old.before }
     ensures ranged { OnOk result (ItemsInRange (values_view values.now.items)) }
-    ensures distinct { OnOk result (ItemsDistinct (values_view values.now.items)) }
+    ensures distinct { OnOk result (ItemKeysDistinct (values_view values.now.items)) }
     ensures every { IfErr result (IsWriteErrorIn doubles) }
     ensures room { ValuesDirect form (values_view values.now.items) → SpendsOrStops result out.old.spare
         out.new.spare (2 + values_room doubles form (values_view values.now.items)) }
@@ -219,7 +219,7 @@ fn print_scoped(
         out.new.tokens }
     ensures before { out.new.before ≡ out.old.before }
     ensures ranged { OnOk result (InRange (scoped_view scoped.now)) }
-    ensures distinct { OnOk result (AllDistinct (scoped_view scoped.now)) }
+    ensures distinct { OnOk result (AllKeysDistinct (scoped_view scoped.now)) }
     ensures every { IfErr result (IsWriteErrorIn doubles) }
     ensures room { IsDirect form (scoped_view scoped.now) → SpendsOrStops result out.old.spare out.new.spare
         (value_room doubles form (scoped_view scoped.now)) }
@@ -242,7 +242,7 @@ fn print_document(
         out.old.tokens out.new.tokens }
     ensures before { out.new.before ≡ out.old.before }
     ensures ranged { OnOk result (PairsInRange (pairs_view document.now.pairs)) }
-    ensures distinct { OnOk result (PairsDistinct (pairs_view document.now.pairs)) }
+    ensures distinct { OnOk result (PairKeysDistinct (pairs_view document.now.pairs)) }
     ensures every { IfErr result (IsWriteErrorIn doubles) }
     ensures room { PairsDirect form (pairs_view document.now.pairs) → SpendsOrStops result out.old.spare
         out.new.spare (2 + pairs_room doubles form (pairs_view document.now.pairs)) }

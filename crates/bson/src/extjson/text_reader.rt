@@ -6,7 +6,7 @@ ghost use Rattle.std.specs.Prelude.{◌≡◌, IfOk, IfErr};
 ghost use Rattle.serde_json.specs.Data.{Data};
 ghost use Rattle.bson_model.specs.Means.{Means, MeansIn};
 ghost use Rattle.bson_model.specs.Normal.{InRange};
-ghost use Rattle.bson_model.specs.Texts.{ComesBack};
+ghost use Rattle.bson_model.specs.Texts.{ValueRoundTrips};
 ghost use Rattle.bson_model.specs.Value as model;
 ghost use Rattle.bson.specs.View.{bson_view};
 ghost use Rattle.bson.specs.TextMeaning.{IsTextOf, HasTextMeaning, IsTextFault};
@@ -57,7 +57,7 @@ impl Bson {
             → IfErr result (λ e. e ≡ OutOfMemory) }
         ensures fault { IfErr result (λ e. IsTextFault bytes.now e) }
         ensures ranged { IfOk result (λ v. InRange (bson_view v)) }
-        ensures comes_back { IfOk result (λ v. ComesBack (bson_view v)) }
+        ensures comes_back { IfOk result (λ v. ValueRoundTrips (bson_view v)) }
     {
         read_by(alloc, Doubles::Special, KeyOrder::Ascending, bytes)
     }

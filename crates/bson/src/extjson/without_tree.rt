@@ -20,7 +20,7 @@ ghost use Rattle.bson_scalar.specs.Timestamps.{timestamp_tree};
 ghost use Rattle.bson_scalar.specs.Tokens.{code_tokens, tokens_of, Puts};
 ghost use Rattle.bson_scalar.specs.View.{scalar_of};
 ghost use Rattle.bson_scalar.specs.Written.{double_writes_in, int32_form, int64_form, number_tree};
-ghost use Rattle.bson_scalar.specs.Written.{wrapped_double, writes_scalar_in};
+ghost use Rattle.bson_scalar.specs.Written.{special_double_tree, writes_scalar_in};
 ghost use Rattle.bson_scalar.specs.declared.form.Doubles.TheVariants.{Finite};
 ghost use Rattle.bson_scalar.specs.declared.form.Form.TheVariants.{Canonical, Relaxed};
 ghost use Rattle.bson.specs.Room.{is_without_tree as is_scalar_without_tree, tree_room, written_room, Spends, SpendsOrStops};
@@ -276,10 +276,10 @@ fn special_text(pattern: u64) -> Option<&'static str>
 }
 
 fn put_special(pattern: u64, out: &mut Writer) -> Result<(), WriteError>
-    ensures printed { Puts result (wrapped_double (spec.double_text pattern)) out.old.tokens out.new.tokens }
+    ensures printed { Puts result (special_double_tree (spec.double_text pattern)) out.old.tokens out.new.tokens }
     ensures before { out.new.before ≡ out.old.before }
     ensures room { SpendsOrStops result out.old.spare out.new.spare
-        (written_room (wrapped_double (spec.double_text pattern))) }
+        (written_room (special_double_tree (spec.double_text pattern))) }
 {
     match special_text(pattern) {
         Some(text) => Ok(put_text("$numberDouble", text, out)?),

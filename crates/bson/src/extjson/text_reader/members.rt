@@ -1,6 +1,6 @@
 //! The members of an object by ascending key, and the document of them.
 ghost use Rattle.std.specs.Prelude.{◌≡◌, IfOk, OnOk, MatchResult, string_bytes};
-ghost use Rattle.bson_model.specs.Sorted.{put_pair, KeysAscend};
+ghost use Rattle.bson_model.specs.Sorted.{insert_sorted_pair, KeysAscend};
 ghost use Rattle.bson_model.specs.Value.{no_pairs};
 ghost use Rattle.bson.specs.View.{bson_view, document_view};
 ghost use Rattle.bson.specs.Collected.{collected_pairs, put_members, StandsAt, FitsAt, SortsStably};
@@ -39,7 +39,7 @@ fn enter(
     requires { MatchResult place (λ at. StandsAt (string_bytes key) members.old.items at)
         (λ at. FitsAt (string_bytes key) members.old.items at) }
     ensures { OnOk result (collected_pairs members.new.items
-        ≡ put_pair (string_bytes key) (bson_view value) (collected_pairs members.old.items)) }
+        ≡ insert_sorted_pair (string_bytes key) (bson_view value) (collected_pairs members.old.items)) }
 {
     match place {
         Ok(at) => members[at] = Pair { key, value },

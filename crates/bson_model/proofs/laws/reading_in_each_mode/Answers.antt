@@ -1,5 +1,5 @@
 use Rattle.bson_model.proofs.Ascending.{is_sorted}
-use Rattle.bson_model.proofs.ComesBack.{read_comes_back}
+use Rattle.bson_model.proofs.ValueRoundTrips.{read_comes_back}
 use Rattle.bson_model.proofs.MeansLaws.{means_from, means_to, means_one}
 use Rattle.bson_model.proofs.RangeLaws.{in_range}
 use Rattle.bson_model.proofs.ReadForm.{form}

@@ -1,4 +1,4 @@
-use Rattle.bson_model.proofs.ComesBack.{has_tree, comes_back}
+use Rattle.bson_model.proofs.ValueRoundTrips.{has_tree, comes_back}
 use Rattle.bson_model.proofs.Modes.{grammar_tree}
 use Rattle.bson_model.proofs.laws.writing_in_each_mode.Goals as goal
 

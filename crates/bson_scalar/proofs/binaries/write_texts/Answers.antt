@@ -7,8 +7,8 @@ use Rattle.bson_scalar.proofs.binaries.write_texts.Goals as goal
 pub returns-clause-written : goal.returns-clause-written
 returns-clause-written g c =
     let it = c.args.texts in
-    let held = object_of_two (codes "base64") (string (string_bytes it.base64)) (codes "subType")
+    let content = object_of_two (codes "base64") (string (string_bytes it.base64)) (codes "subType")
     (string (string_bytes it.subtype)) in
-    if_ok c.end_one.result c.end_one.ensures.written
-    (λ t ends. ends c.args.out.now c.begin.new.out (codes "$binary") held c.in_ok-key.ensures.written
+    if_ok c.end_object_of_one.result c.end_object_of_one.ensures.written
+    (λ t ends. ends c.args.out.now c.begin_object.new.out (codes "$binary") content c.in_ok-key.ensures.written
     c.in_ok-texts.ensures.written)

@@ -6,6 +6,6 @@ use Rattle.bson_scalar.proofs.dates.write_millis.Goals as goal
 pub returns-clause-written : goal.returns-clause-written
 returns-clause-written g c =
     let same : to_z w64 (of_z w64 c.timestamp_millis.result) ≡ c.args.date = search rules in
-    if_ok c.end_one.result c.end_one.ensures.written
-    (λ t ends. ends c.args.out.now c.begin.new.out (codes "$date")
+    if_ok c.end_object_of_one.result c.end_object_of_one.ensures.written
+    (λ t ends. ends c.args.out.now c.begin_object.new.out (codes "$date")
     (int64_tree c.args.date) c.in_ok-key.ensures.written (rw same at c.in_ok-millis.ensures.written))

@@ -1,11 +1,11 @@
 use Rattle.std.proofs.Common.{Ok, subst}
 use Rattle.bson_scalar.specs.Doubles.{double_tree, or_finite_text}
-use Rattle.bson_scalar.specs.Tokens.{Sends}
+use Rattle.bson_scalar.specs.Tokens.{IsSinkResult}
 use Rattle.bson_scalar.specs.Written.{or_finite, ◌>>=◌}
 use Rattle.bson_scalar.proofs.doubles.write_canonical.Goals as goal
 
-pub returns-in_ok-wrapped_text-in-Some-clause-written : goal.returns-in_ok-wrapped_text-in-Some-clause-written
-returns-in_ok-wrapped_text-in-Some-clause-written g c =
-    subst (λ o. Sends (λ d t. g.S.Sink.wrote c.args.out.now d t c.wrapped_text.new.out)
-    (Ok c.in_ok-wrapped_text-in-Some.field-0) (or_finite (or_finite_text o c.args.pattern) >>= λ s. Ok (double_tree s)))
-    c.in-Some.ensures c.in_ok-wrapped_text-in-Some.ensures.written
+pub returns-in_ok-write_text_object-in-Some-clause-written : goal.returns-in_ok-write_text_object-in-Some-clause-written
+returns-in_ok-write_text_object-in-Some-clause-written g c =
+    subst (λ o. IsSinkResult (λ d t. g.S.Sink.wrote c.args.out.now d t c.write_text_object.new.out)
+    (Ok c.in_ok-write_text_object-in-Some.field-0) (or_finite (or_finite_text o c.args.pattern) >>= λ s. Ok (double_tree s)))
+    c.in-Some.ensures c.in_ok-write_text_object-in-Some.ensures.written

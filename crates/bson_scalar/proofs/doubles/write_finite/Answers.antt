@@ -9,11 +9,11 @@ with_text (Err e) P Q k h = tt
 
 pub returns-clause-written : goal.returns-clause-written
 returns-clause-written g c =
-    with_text c.wrapped_text.result _ _
+    with_text c.write_text_object.result _ _
     (λ t wrote. (
       c.as_str.result.now,
       finite_text_to c.args.pattern c.double_text.result.bytes c.requires c.double_text.ensures
           ∙ ap Some (sym c.as_str.ensures.value),
       wrote,
     ))
-    c.wrapped_text.ensures.written
+    c.write_text_object.ensures.written

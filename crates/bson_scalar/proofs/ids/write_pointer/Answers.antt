@@ -10,7 +10,7 @@ pub returns-clause-written : goal.returns-clause-written
 returns-clause-written g c =
     let it = c.args.pointer in
     let parts = c.into_parts-namespace.ensures in
-    let held = object_of_two (codes "$id") (oid_tree (id_of it)) (codes "$ref") (string (namespace_of it)) in
-    if_ok c.end_one.result c.end_one.ensures.written
-    (λ t ends. ends c.args.out.now c.begin.new.out (codes "$dbPointer") held c.in_ok-key.ensures.written
+    let content = object_of_two (codes "$id") (oid_tree (id_of it)) (codes "$ref") (string (namespace_of it)) in
+    if_ok c.end_object_of_one.result c.end_object_of_one.ensures.written
+    (λ t ends. ends c.args.out.now c.begin_object.new.out (codes "$dbPointer") content c.in_ok-key.ensures.written
     (rw (parts.namespace, parts.id) at c.in_ok-reference.ensures.written))

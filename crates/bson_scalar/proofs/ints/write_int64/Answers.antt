@@ -5,6 +5,6 @@ use Rattle.bson_scalar.proofs.ints.write_int64.Goals as goal
 pub returns-in-Canonical-clause-written : goal.returns-in-Canonical-clause-written
 returns-in-Canonical-clause-written g c =
     rw c.in-Canonical.is (subst
-    (λ z. IfOk c.wrapped_numeral.result
-    (λ t. g.S.Sink.wrote c.args.out.now (int64_tree z) t c.wrapped_numeral.new.out))
-    (to_z-of_z {w = w64} {z = c.args.number} c.ranges.number) c.wrapped_numeral.ensures.written)
+    (λ z. IfOk c.write_numeral_object.result
+    (λ t. g.S.Sink.wrote c.args.out.now (int64_tree z) t c.write_numeral_object.new.out))
+    (to_z-of_z {w = w64} {z = c.args.number} c.ranges.number) c.write_numeral_object.ensures.written)

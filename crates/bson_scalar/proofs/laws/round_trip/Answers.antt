@@ -6,5 +6,5 @@ pub returns : goal.returns
 returns c = record {
   back = reads_back Special;
   normal = nf_again;
-  as_read = as_read_again;
+  as_read_back = as_read_again;
 }

@@ -2,7 +2,7 @@ use Rattle.std.proofs.Common.{◌≡◌, [], Some, ap, ◌∙◌, subst, arith}
 use Rattle.json.specs.Json.{value}
 use Rattle.json.specs.Lex.{tokens}
 use Rattle.serde_json.specs.Read.{converted}
-use Rattle.bson_model.specs.Kept.{kept}
+use Rattle.bson_model.specs.OrderedTrees.{kept}
 use Rattle.bson_model.proofs.OfferedInOrder.{means_from, text_means}
 use Rattle.bson_text.specs.Walked.{TreeMeans}
 use Rattle.bson_text.proofs.Objects.{last_read}

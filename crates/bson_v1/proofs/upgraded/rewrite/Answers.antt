@@ -3,7 +3,7 @@ use Rattle.json.specs.Json.{value}
 use Rattle.json.specs.Lex.{tokens}
 use Rattle.json.specs.Tree.{json_tokens}
 use Rattle.bson_v1.specs.Upgraded.{upgraded}
-use Rattle.bson_v1.proofs.Whole.{written}
+use Rattle.bson_v1.proofs.Complete.{written}
 use Rattle.bson_v1.proofs.upgraded.rewrite.Goals as goal
 
 pub returns-clause-ok : goal.returns-clause-ok

@@ -1,7 +1,7 @@
 use Rattle.std.proofs.Common.{◌≡◌, arith, string_bytes}
 use Rattle.std.proofs.lemmas.Result.{IfOk-weaker}
 use Rattle.bson_v1.specs.Text.{IsUpgradedText, IsRewritten}
-use Rattle.bson_v1.proofs.Whole.{upgraded_of, never_breaks}
+use Rattle.bson_v1.proofs.Complete.{upgraded_of, never_breaks}
 use Rattle.bson_v1.proofs.upgraded.upgraded_text.Goals as goal
 
 pub returns : goal.returns

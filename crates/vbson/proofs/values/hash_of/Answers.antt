@@ -1,7 +1,7 @@
 use Rattle.std.proofs.Common.{ap, sym, ◌∙◌, fold}
 use Rattle.std.specs.Hash.DefaultHasher as sip
 use Rattle.bson_model.proofs.Offered.{same_feeds}
-use Rattle.bson_model.specs.Feed.{feed}
+use Rattle.bson_model.specs.HashInput.{feed}
 use Rattle.bson.specs.View.{bson_view}
 use Rattle.vbson.proofs.values.hash_of.Goals as goal
 

@@ -2,7 +2,7 @@ use Rattle.std.proofs.Common.{◌∙◌, ap, sym, subst, Ok}
 use Rattle.serde_json.specs.View.{members_view}
 use Rattle.bson_model.specs.Normal.{PairsInRange}
 use Rattle.bson_model.specs.Reading.{reads_members_in}
-use Rattle.bson_tree.specs.Place.{FaultWithinIn}
+use Rattle.bson_tree.specs.Place.{MemberFaultAtIn}
 use Rattle.bson_tree.proofs.Offered.{in_to}
 use Rattle.bson.specs.View.{holding, pairs_view}
 use Rattle.bson.proofs.Answered.{value_given, fault_given}
@@ -13,7 +13,7 @@ pub returns-in-Ok : goal.returns-in-Ok
 returns-in-Ok c =
     let ms = members_view c.args.members.entries in
     let given = value_given pairs_view (λ ps. PairsInRange (pairs_view ps)) (reads_members_in c.args.doubles ms)
-    (λ f. FaultWithinIn c.args.doubles f ms) c.in_ok-pairs.field-0 c.in_ok-pairs.ensures c.in-Ok.pairs
+    (λ f. MemberFaultAtIn c.args.doubles f ms) c.in_ok-pairs.field-0 c.in_ok-pairs.ensures c.in-Ok.pairs
     c.in-Ok.is in
     let seen = sym (document_view-pairs (holding c.in-Ok.pairs)) in
     record { given = given.0 ∙ ap Ok seen; ranged = subst PairsInRange seen given.1 }
@@ -24,7 +24,7 @@ returns-in-Err c =
     record {
       given =
           fault_given pairs_view (λ ps. PairsInRange (pairs_view ps)) (reads_members_in c.args.doubles ms)
-          (λ f. FaultWithinIn c.args.doubles f ms) c.in_ok-pairs.field-0 c.in_ok-pairs.ensures c.in-Err.place
+          (λ f. MemberFaultAtIn c.args.doubles f ms) c.in_ok-pairs.field-0 c.in_ok-pairs.ensures c.in-Err.place
           c.error_of.result c.in-Err.is c.error_of.ensures (λ f path. in_to c.args.doubles);
       ranged = tt;
     }

@@ -7,14 +7,14 @@ use Rattle.std.proofs.lemmas.Result.{err_from_is_err_and}
 use Rattle.json.specs.Token.{begin_array, begin_object, key}
 use Rattle.json.specs.Tree.{items_tokens, members_tokens}
 use Rattle.serde_json.specs.Data.{string, no_items, no_members}
-use Rattle.bson_scalar.specs.TreeText.{items_outline, members_outline}
+use Rattle.bson_scalar.specs.TreeText.{json_of_items, json_of_members}
 use Rattle.bson_scalar.specs.Written.{Stops}
 use Rattle.bson_scalar.proofs.Offered.{in_turn}
 use Rattle.bson_scalar.specs.Binaries.{binary_tree}
 use Rattle.bson_scalar.specs.Scalar.{text, binary}
 use Rattle.bson_model.specs.Value.{scalar, code_scope}
 use Rattle.bson_model.specs.Normal.{PairsInRange}
-use Rattle.bson_model.specs.Distinct.{AllDistinct}
+use Rattle.bson_model.specs.DistinctKeys.{AllKeysDistinct}
 use Rattle.bson.specs.KeyOrders.{writes_by, writes_items_by, EachValue}
 use Rattle.bson.specs.Room.{key_room, values_room, pairs_room}
 use Rattle.bson.specs.Texts.{code_tokens, writes_in_turn}
@@ -74,7 +74,7 @@ print_items-returns-clause-printed t c =
       ap (λ (xs : List Bson). writes_items_by o D f (values_view xs)) (sym value)
           ∙ done.1,
       in_turn c.args.out.now.tokens (begin_array ∷ []) c.begin_array.new.self.tokens
-          (items_tokens (items_outline done.0)) end c.in_ok-begin_array.ensures.ok done.2,
+          (items_tokens (json_of_items done.0)) end c.in_ok-begin_array.ensures.ok done.2,
     )
 
 pub print_scoped-returns-clause-printed : goal.print_scoped-returns-clause-printed
@@ -160,7 +160,7 @@ print_document-pairs-init t c =
       ends = λ end h. subst (λ r. EndsMembers r c.begin_object.new.self.tokens end) same h;
       stops = λ e h. subst (Stops e) same h;
       ranged = λ h. ranged_in o d.pairs distinct (subst (λ (xs : List Entry). PairsInRange (pairs_view xs)) all h);
-      distinct = λ h. distinct_in o d.pairs distinct (subst (λ (xs : List Entry). EachValue AllDistinct (pairs_view xs)) all h);
+      distinct = λ h. distinct_in o d.pairs distinct (subst (λ (xs : List Entry). EachValue AllKeysDistinct (pairs_view xs)) all h);
       room = λ r end h. ordered_cost c.args.doubles c.args.form o d.pairs distinct r c.begin_object.new.self.spare end
           (subst (λ (xs : List Entry). PairsCost c.args.doubles c.args.form (pairs_view xs) r c.begin_object.new.self.spare end)
           all h);
@@ -225,7 +225,7 @@ print_document-returns-clause-printed t c =
       done.0,
       done.1,
       in_turn c.args.out.now.tokens (begin_object ∷ []) c.begin_object.new.self.tokens
-          (members_tokens (members_outline done.0)) end c.in_ok-begin_object.ensures.ok done.2,
+          (members_tokens (json_of_members done.0)) end c.in_ok-begin_object.ensures.ok done.2,
     )
 
 pub print_document-returns-clause-ranged : goal.print_document-returns-clause-ranged
@@ -236,7 +236,7 @@ print_document-returns-clause-ranged t c =
 pub print_document-returns-clause-distinct : goal.print_document-returns-clause-distinct
 print_document-returns-clause-distinct t c =
     c.pairs.invariant.distinct
-    (subst (λ (xs : List Entry). EachValue AllDistinct (pairs_view xs)) (sym c.in-None.ensures.steps.0) tt)
+    (subst (λ (xs : List Entry). EachValue AllKeysDistinct (pairs_view xs)) (sym c.in-None.ensures.steps.0) tt)
 
 -- ---- documents, the room
 

@@ -3,7 +3,7 @@ use Rattle.json.specs.Token.{Token}
 use Rattle.bson_scalar.specs.Written.{Stops}
 use Rattle.bson_scalar.specs.declared.write_error.WriteError.{WriteError}
 use Rattle.bson_model.specs.Normal.{ItemsInRange, PairsInRange}
-use Rattle.bson_model.specs.Distinct.{AllDistinct, ItemsDistinct, PairsDistinct}
+use Rattle.bson_model.specs.DistinctKeys.{AllKeysDistinct, ItemKeysDistinct, PairKeysDistinct}
 use Rattle.bson.specs.KeyOrders.{writes_by, writes_items_by, writes_pairs_by, EachValue}
 use Rattle.bson.specs.Texts.{writes_in_turn}
 use Rattle.bson.specs.View.{values_view, pairs_view}
@@ -26,7 +26,7 @@ invariant-print_items-loop-item l =
       room : (r : Result (Unit {0}) WriteError) (end : ℕ) → ValuesCost l.fn.doubles l.fn.form left r l.out.spare end
           → ValuesCost l.fn.doubles l.fn.form all r l.initial.out.spare end;
       ranged : ItemsInRange left → ItemsInRange all;
-      distinct : ItemsDistinct left → ItemsDistinct all;
+      distinct : ItemKeysDistinct left → ItemKeysDistinct all;
     }
 
 abbrev pub invariant-print_document-pairs : goal.invariant-print_document-pairs
@@ -42,6 +42,6 @@ invariant-print_document-pairs l =
       room : (r : Result (Unit {0}) WriteError) (end : ℕ) → PairsCost l.fn.doubles l.fn.form left r l.out.spare end
           → PairsCost l.fn.doubles l.fn.form (pairs_view l.document.pairs) r l.initial.out.spare end;
       ranged : PairsInRange left → PairsInRange (pairs_view l.document.pairs);
-      distinct : EachValue AllDistinct left → PairsDistinct (pairs_view l.document.pairs);
+      distinct : EachValue AllKeysDistinct left → PairKeysDistinct (pairs_view l.document.pairs);
       larger : NoLarger l.key-iterator l.document;
     }

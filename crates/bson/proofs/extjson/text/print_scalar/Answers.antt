@@ -3,7 +3,7 @@ use Rattle.std.specs.Prelude.{OnOk}
 use Rattle.bson_scalar.specs.View.{scalar_of}
 use Rattle.bson_scalar.specs.Written.{writes_scalar_in}
 use Rattle.bson_model.specs.Normal.{InRange}
-use Rattle.bson_model.specs.Distinct.{AllDistinct}
+use Rattle.bson_model.specs.DistinctKeys.{AllKeysDistinct}
 use Rattle.bson.specs.KeyOrders.{writes_by}
 use Rattle.bson.specs.Room.{IsDirect, SpendsOrStops, value_room}
 use Rattle.bson.specs.Texts.{Prints}
@@ -23,7 +23,7 @@ returns-clause-ranged c =
 
 pub returns-clause-distinct : goal.returns-clause-distinct
 returns-clause-distinct c =
-    subst (λ v. OnOk c.print_ref.result (AllDistinct v)) c.scalar_ref.ensures (holds_on_ok c.print_ref.result tt)
+    subst (λ v. OnOk c.print_ref.result (AllKeysDistinct v)) c.scalar_ref.ensures (holds_on_ok c.print_ref.result tt)
 
 pub returns-clause-room : goal.returns-clause-room
 returns-clause-room c =

@@ -11,7 +11,7 @@ use Rattle.serde_json.specs.Read.{converted}
 use Rattle.bson_scalar.specs.Table.{wrapper_of}
 use Rattle.bson_scalar.specs.Scalar.{code}
 use Rattle.bson_model.specs.Value.{Value, scalar}
-use Rattle.bson_model.specs.Kept.{kept}
+use Rattle.bson_model.specs.OrderedTrees.{kept}
 use Rattle.bson_text.specs.Walked.{TreeMeans, ItemsWritten}
 use Rattle.bson_text.proofs.Walking.{items_begun, item_passed, items_passed, members_begun, member_passed}
 use Rattle.bson_text.proofs.Walking.{members_written, members_passed, array_means, object_means, document_means}

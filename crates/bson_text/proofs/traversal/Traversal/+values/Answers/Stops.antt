@@ -9,7 +9,7 @@ use Rattle.json.proofs.Grammar.{value_is, members_no_key}
 use Rattle.json.specs.Reads.{token_of}
 use Rattle.bson_scalar.specs.Table.{wrapper_of}
 use Rattle.bson_scalar.specs.Scalar.{code}
-use Rattle.bson_model.specs.Kept.{kept}
+use Rattle.bson_model.specs.OrderedTrees.{kept}
 use Rattle.bson_text.proofs.Objects.{placed, begins}
 use Rattle.bson_tokens.proofs.Offered.{was_read as from_tree, if_err}
 use Rattle.bson_text.proofs.Denials.{items_stopped}

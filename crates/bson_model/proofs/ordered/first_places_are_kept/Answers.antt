@@ -1,5 +1,0 @@
-use Rattle.bson_model.proofs.FirstPlaces.{first_places_kept}
-use Rattle.bson_model.proofs.ordered.first_places_are_kept.Goals as goal
-
-pub returns : goal.returns
-returns c = first_places_kept

@@ -1,5 +1,0 @@
-use Rattle.bson_model.proofs.OrderedTexts.{comes_back}
-use Rattle.bson_model.proofs.ordered.read_values_come_back_in_order.Goals as goal
-
-pub returns : goal.returns
-returns c = λ D text v m. comes_back D v text m

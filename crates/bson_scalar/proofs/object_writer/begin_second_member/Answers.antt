@@ -1,0 +1,10 @@
+use Rattle.std.proofs.Common.{refl}
+use Rattle.serde_json.specs.Data.{no_members}
+use Rattle.bson_scalar.proofs.Appending.{if_ok}
+use Rattle.bson_scalar.proofs.object_writer.begin_second_member.Goals as goal
+
+pub returns-clause-written : goal.returns-clause-written
+returns-clause-written g c =
+    if_ok c.key.result c.key.ensures.written
+    (λ next named start mid k d begun content. named start _
+    (c.in_ok-map.ensures.written start mid no_members k d begun content refl))
