@@ -31,7 +31,7 @@ module _ (D : Doubles) (text : List ℕ) (utf8 : IsUtf8 text) where
     meaning = means.meaning;
   }
 
-  pub meant_by_first_places : (written : List ℕ) (v : Value) → IsNormalizedText normalized.FirstPlaces text written
+  pub meant_by_first_places : (written : List ℕ) (v : Value) → IsNormalizedText normalized.FirstPositions text written
       → HasTextMeaningBy AsGiven D written v → HasTextMeaningBy AsGiven D text v
   meant_by_first_places written v is means = (utf8, (meant_in_order D text written v is).0 means.1)
 

@@ -5,53 +5,53 @@ use Rattle.std.specs.Prelude.{option_map, option_and_then, IsSomeAnd}
 use Rattle.std.specs.Borrow.{Bor}
 use Rattle.std.specs.Result.{is_ok}
 use Rattle.std.specs.Str.{bytes_eq}
-use Rattle.std.proofs.lemmas.Bool.{le-ltb}
+use Rattle.std.proofs.lemmas.Bool.{little_endian-ltb}
 use Rattle.std.proofs.lemmas.List.{drop-drop}
 use Rattle.bson_types.specs.ElementTags.{tag_of}
 use Rattle.bson_types.specs.declared.spec.ElementType.{ElementType}
 use Rattle.bson_model.specs.Value.{Value, Pairs, no_pairs, pair, value_at_key}
 use Rattle.bson_bytes.specs.declared.fault.Fault.{Fault}
-use Rattle.bson_bytes.specs.Grammar.{one_each}
-use Rattle.bson_bytes.specs.declared.keys.DuplicateKeys.TheVariants.{Replace}
+use Rattle.bson_bytes.specs.Grammar.{deduplicated}
+use Rattle.bson_bytes.specs.declared.duplicate_keys.DuplicateKeys.TheVariants.{Replace}
 use Rattle.bson_bytes.specs.Fault.{at, ◌>>=◌}
 use Rattle.bson_bytes.specs.declared.fault.FaultKind.TheVariants.{Trailing}
-use Rattle.bson_bytes.specs.Reading.{split_zero, document_at, document_in, value_with, settled, reads_bytes, reads_bytes_in}
-use Rattle.bson_bytes.specs.Tags.{kind_of}
-use Rattle.bson_bytes.specs.Elements.{HasValue, IsElement, IsFirstElement, IsFound, IsKeptElement}
-use Rattle.bson_bytes.specs.Raw.{pairs_read, value_read, last_value, BeginsWithDocument, BeginsWithElements, elements_at}
-use Rattle.bson_bytes.specs.Skip.{element_at, skip, skip_value, IsPassed}
-use Rattle.bson_bytes.specs.declared.element.RawElement.{RawElement}
+use Rattle.bson_bytes.specs.Reading.{split_at_nul, read_first_document, read_document_in, read_value_in, insert_pairs_read, reads_bytes, reads_bytes_in}
+use Rattle.bson_bytes.specs.TypeTags.{type_of_tag}
+use Rattle.bson_bytes.specs.RawElements.{HasValue, IsElement, IsFirstElement, IsValueOfElement, IsValueOfFirstElement}
+use Rattle.bson_bytes.specs.ReadElements.{pairs_or_none, without_rest, last_value, BeginsWithDocument, BeginsWithElements, elements_from_bytes}
+use Rattle.bson_bytes.specs.Skip.{first_element_of, skip, skip_value, IsNameAndRest}
+use Rattle.bson_bytes.specs.declared.raw_element.RawElement.{RawElement}
 use Rattle.bson_bytes.proofs.Found.{value_is}
 use Rattle.bson_bytes.proofs.Passing.{kind_tag, sliced}
 use Rattle.bson_bytes.proofs.Skips.{ok_is, if_ok, split_follows, Lookahead}
 use Rattle.bson_bytes.proofs.Steps.{opened, Took, took, some_is, is_last}
 
 -- what was read
-read_from : (r : Result (Pairs × List ℕ) Fault) → is_ok r ≡ true → (rest : List ℕ) × (r ≡ Ok (pairs_read r, rest))
+read_from : (r : Result (Pairs × List ℕ) Fault) → is_ok r ≡ true → (rest : List ℕ) × (r ≡ Ok (pairs_or_none r, rest))
 read_from (Ok x) e = (x.1, refl)
 read_from (Err f) e = absurd cc
 
-pub document_there : (d : ℕ) (bytes : List ℕ) → is_ok (document_at d bytes) ≡ true
-    → BeginsWithDocument d bytes (pairs_read (document_at d bytes))
-document_there d bytes e = read_from (document_at d bytes) e
+pub document_there : (d : ℕ) (bytes : List ℕ) → is_ok (read_first_document d bytes) ≡ true
+    → BeginsWithDocument d bytes (pairs_or_none (read_first_document d bytes))
+document_there d bytes e = read_from (read_first_document d bytes) e
 
-pub elements_there : (d : ℕ) (bytes : List ℕ) → is_ok (elements_at d bytes) ≡ true
-    → BeginsWithElements d bytes (pairs_read (elements_at d bytes))
-elements_there d bytes e = read_from (elements_at d bytes) e
+pub elements_there : (d : ℕ) (bytes : List ℕ) → is_ok (elements_from_bytes d bytes) ≡ true
+    → BeginsWithElements d bytes (pairs_or_none (elements_from_bytes d bytes))
+elements_there d bytes e = read_from (elements_from_bytes d bytes) e
 
-ok_from : (r : Result (Pairs × List ℕ) Fault) (x : Pairs × List ℕ) → r ≡ Ok x → (is_ok r ≡ true) × (pairs_read r ≡ x.0)
-ok_from r x e = (ap is_ok e, ap pairs_read e)
+ok_from : (r : Result (Pairs × List ℕ) Fault) (x : Pairs × List ℕ) → r ≡ Ok x → (is_ok r ≡ true) × (pairs_or_none r ≡ x.0)
+ok_from r x e = (ap is_ok e, ap pairs_or_none e)
 
 pub elements_are : (d : ℕ) (bytes : List ℕ) (ps : Pairs) → BeginsWithElements d bytes ps
-    → (is_ok (elements_at d bytes) ≡ true) × (pairs_read (elements_at d bytes) ≡ ps)
-elements_are d bytes ps h = ok_from (elements_at d bytes) (ps, h.0) h.1
+    → (is_ok (elements_from_bytes d bytes) ≡ true) × (pairs_or_none (elements_from_bytes d bytes) ≡ ps)
+elements_are d bytes ps h = ok_from (elements_from_bytes d bytes) (ps, h.0) h.1
 
 -- the elements follow the length
 pub elements_after : (d : ℕ) (bytes : List ℕ) (ps : Pairs) → BeginsWithDocument d bytes ps
     → (1 ≤ d) × (skip 4 bytes ≡ Some (drop 4 bytes)) × BeginsWithElements (d - 1) (drop 4 bytes) ps
 elements_after d bytes ps h =
     let o = opened d bytes ps h.0 h.1 in
-    (o.deep, rw (le-ltb (length bytes) 4 o.first.1) refl, subst (λ (list : List ℕ). BeginsWithElements (d - 1) list ps) o.first.0 (h.0, o.read))
+    (o.deep, rw (little_endian-ltb (length bytes) 4 o.first.1) refl, subst (λ (list : List ℕ). BeginsWithElements (d - 1) list ps) o.first.0 (h.0, o.read))
 
 pub elements_found : (o : Option (Bor (List ℕ))) (d : ℕ) (bytes : List ℕ) (ps : Pairs) → option_map (λ x. x.now) o ≡ skip 4 bytes
     → BeginsWithDocument d bytes ps → (1 ≤ d) × IsSomeAnd o (λ list. BeginsWithElements (d - 1) list.now ps)
@@ -100,15 +100,15 @@ found_by (Some j) (Some (n, r)) k s b e =
     )
 
 -- the type that the tag says, and the bytes after the name
-found_parts : (bytes : List ℕ) (k : ElementType) (s b : List ℕ) → element_at bytes ≡ Some (k, s, b)
-    → (kind_of (get_or bytes 0 0) ≡ Some k) × (b ≡ drop (length s + 2) bytes)
+found_parts : (bytes : List ℕ) (k : ElementType) (s b : List ℕ) → first_element_of bytes ≡ Some (k, s, b)
+    → (type_of_tag (get_or bytes 0 0) ≡ Some k) × (b ≡ drop (length s + 2) bytes)
 found_parts [] k s b e = absurd cc
 found_parts (t ∷ r) k s b e =
-    let f = found_by (kind_of t) (split_zero r) k s b e in
+    let f = found_by (type_of_tag t) (split_at_nul r) k s b e in
     (f.0, (split_follows r s b f.1).0 ∙ drop-drop (length s + 1) 1 (t ∷ r) ∙ ap (λ (n : ℕ). drop n (t ∷ r)) (omega arith))
 
 pub first_is_element : (d : ℕ) (bytes : List ℕ) (ps : Pairs) (kind : ElementType) (s b c : Bor (List ℕ)) (next : List ℕ)
-    → BeginsWithElements d bytes ps → ((k : ElementType) → tag_of k ≡ get_or bytes 0 0 → kind ≡ k) → IsPassed ps bytes (Some (s.now, next))
+    → BeginsWithElements d bytes ps → ((k : ElementType) → tag_of k ≡ get_or bytes 0 0 → kind ≡ k) → IsNameAndRest ps bytes (Some (s.now, next))
     → b.now ≡ drop (length s.now + 2) bytes → next ≡ c.now → IsElement d (record { kind = kind; key = s; value = b; rest = c }) ps
 first_is_element d bytes ps kind s b c next h typed p after same =
     let parts = found_parts bytes p.0 s.now p.1 p.2 in
@@ -125,13 +125,13 @@ pub record Finds (d : ℕ) (key : List ℕ) (found : Option (List ℕ)) (rest : 
   pub left : Pairs
   pub read : BeginsWithElements d rest left
   pub value : Option Value
-  pub here : IsKeptElement d found value
+  pub here : IsValueOfFirstElement d found value
   pub last : last_value key value left ≡ total
 
 -- the same of each document with which the bytes begin
 abbrev pub FindsIn : (bytes key : List ℕ) (found : Option (List ℕ)) (rest : List ℕ) → Type 0
 FindsIn bytes key found rest = (d : ℕ) (ps : Pairs) → BeginsWithDocument d bytes ps
-    → (1 ≤ d) × Finds (d - 1) key found rest (value_at_key key (one_each ps))
+    → (1 ≤ d) × Finds (d - 1) key found rest (value_at_key key (deduplicated ps))
 
 pub finds_first : (key bytes : List ℕ) → FindsIn bytes key None (drop 4 bytes)
 finds_first key bytes d ps h =
@@ -139,12 +139,12 @@ finds_first key bytes d ps h =
     (a.0, record { left = ps; read = a.2; value = None; here = refl; last = sym (value_is key ps) })
 
 pub finds_last : (d : ℕ) (key : List ℕ) (found : Option (List ℕ)) (rest : List ℕ) (total : Option Value)
-    → Finds d key found rest total → ((ps : Pairs) → BeginsWithElements d rest ps → ps ≡ no_pairs) → IsKeptElement d found total
+    → Finds d key found rest total → ((ps : Pairs) → BeginsWithElements d rest ps → ps ≡ no_pairs) → IsValueOfFirstElement d found total
 finds_last d key found rest total h none =
-    subst (IsKeptElement d found) (ap (last_value key h.value) (sym (none h.left h.read)) ∙ h.last) h.here
+    subst (IsValueOfFirstElement d found) (ap (last_value key h.value) (sym (none h.left h.read)) ∙ h.last) h.here
 
 kept_by : (d : ℕ) (has : Bool) (x : Option (List ℕ)) (bytes : List ℕ) (o : Option Value) (k : List ℕ) (v : Value) (ps : Pairs)
-    → IsKeptElement d x o → BeginsWithElements d bytes (pair k v ps) → IsKeptElement d (cond has (Some bytes) x) (cond has (Some v) o)
+    → IsValueOfFirstElement d x o → BeginsWithElements d bytes (pair k v ps) → IsValueOfFirstElement d (cond has (Some bytes) x) (cond has (Some v) o)
 kept_by d true x bytes o k v ps here read = (k, v, ps, refl, read)
 kept_by d false x bytes o k v ps here read = here
 
@@ -155,23 +155,23 @@ later_kept false at found bytes = refl
 
 pub finds_next : (d : ℕ) (key bytes : List ℕ) (found : Option ℕ) (at : ℕ) (total : Option Value)
     → Finds d key (option_map (λ i. drop i bytes) found) (drop at bytes) total → (name next : List ℕ)
-    → ((ps : Pairs) → BeginsWithElements d (drop at bytes) ps → IsPassed ps (drop at bytes) (Some (name, next)))
-    → (has : Bool) (later : Option ℕ) → has ≡ bytes_eq key name → later ≡ cond has (Some at) found
-    → Finds d key (option_map (λ i. drop i bytes) later) next total
-finds_next d key bytes found at total h name next is has later same chosen =
+    → ((ps : Pairs) → BeginsWithElements d (drop at bytes) ps → IsNameAndRest ps (drop at bytes) (Some (name, next)))
+    → (has : Bool) (later_position : Option ℕ) → has ≡ bytes_eq key name → later_position ≡ cond has (Some at) found
+    → Finds d key (option_map (λ i. drop i bytes) later_position) next total
+finds_next d key bytes found at total h name next is has later_position same chosen =
     let rest = drop at bytes in
     let p = is h.left h.read in
     let t = took d rest h.left p.0 name p.1 h.read p.2 in
     let more : t.next ≡ next = some_is t.next next (sym t.skips ∙ p.3) in
     let here = kept_by d has (option_map (λ i. drop i bytes) found) rest h.value name t.value t.others h.here
     (subst (BeginsWithElements d rest) t.pairs h.read) in
-    let kept : cond has (Some rest) (option_map (λ i. drop i bytes) found) ≡ option_map (λ i. drop i bytes) later =
+    let kept : cond has (Some rest) (option_map (λ i. drop i bytes) found) ≡ option_map (λ i. drop i bytes) later_position =
     sym (later_kept has at found bytes) ∙ ap (option_map (λ i. drop i bytes)) (sym chosen) in
     record {
       left = t.others;
       read = subst (λ (list : List ℕ). BeginsWithElements d list t.others) more t.more;
       value = cond has (Some t.value) h.value;
-      here = subst (λ (o : Option (List ℕ)). IsKeptElement d o (cond has (Some t.value) h.value)) kept here;
+      here = subst (λ (o : Option (List ℕ)). IsValueOfFirstElement d o (cond has (Some t.value) h.value)) kept here;
       last = ap (λ (x : Bool). last_value key (cond x (Some t.value) h.value) t.others) same ∙ ap (last_value key h.value) (sym t.pairs) ∙ h.last;
     }
 
@@ -179,30 +179,30 @@ pair_value : (k l : List ℕ) (v w : Value) (ps qs : Pairs) → pair k v ps ≡ 
 pair_value k l v w ps qs e = cc
 
 first_found : (d : ℕ) (o : Option Value) (r : Option RawElement) (k : List ℕ) (v : Value) (ps : Pairs) → o ≡ Some v
-    → IsFirstElement d r (pair k v ps) → IsFound d r o
+    → IsFirstElement d r (pair k v ps) → IsValueOfElement d r o
 first_found d o None k v ps is h = absurd cc
 first_found d o (Some e) k v ps is h =
     let same : v ≡ h.value = pair_value k e.key.now v h.value ps h.others h.pairs in (h.value, is ∙ ap Some same, h.read)
 
-kept_first : (d : ℕ) (o : Option Value) (bytes : List ℕ) (r : Option RawElement) → IsKeptElement d (Some bytes) o
-    → ((ps : Pairs) → BeginsWithElements d bytes ps → IsFirstElement d r ps) → IsFound d r o
+kept_first : (d : ℕ) (o : Option Value) (bytes : List ℕ) (r : Option RawElement) → IsValueOfFirstElement d (Some bytes) o
+    → ((ps : Pairs) → BeginsWithElements d bytes ps → IsFirstElement d r ps) → IsValueOfElement d r o
 kept_first d o bytes r h first = first_found d o r h.0 h.1 h.2 h.3 (first (pair h.0 h.1 h.2) h.4)
 
 pub kept_found : (d : ℕ) (o : Option Value) (bytes : List ℕ) (found : Option ℕ) (at : ℕ) (r : Option RawElement) → found ≡ Some at
-    → at ≤ length bytes → IsKeptElement d (option_map (λ i. drop i bytes) found) o
-    → ((ps : Pairs) → BeginsWithElements d (take (length bytes - at) (drop at bytes)) ps → IsFirstElement d r ps) → IsFound d r o
-kept_found d o bytes found at r is le kept first =
-    kept_first d o (drop at bytes) r (subst (λ (x : Option ℕ). IsKeptElement d (option_map (λ i. drop i bytes) x) o) is kept)
-    (subst (λ (list : List ℕ). (ps : Pairs) → BeginsWithElements d list ps → IsFirstElement d r ps) (sliced bytes at le) first)
+    → at ≤ length bytes → IsValueOfFirstElement d (option_map (λ i. drop i bytes) found) o
+    → ((ps : Pairs) → BeginsWithElements d (take (length bytes - at) (drop at bytes)) ps → IsFirstElement d r ps) → IsValueOfElement d r o
+kept_found d o bytes found at r is little_endian kept first =
+    kept_first d o (drop at bytes) r (subst (λ (x : Option ℕ). IsValueOfFirstElement d (option_map (λ i. drop i bytes) x) o) is kept)
+    (subst (λ (list : List ℕ). (ps : Pairs) → BeginsWithElements d list ps → IsFirstElement d r ps) (sliced bytes at little_endian) first)
 
 -- ---- a validated document
 
-pub got_none : (d : ℕ) (bytes name key : List ℕ) → is_ok (document_at d bytes) ≡ true → name ≡ key
-    → ((e : ℕ) (ps : Pairs) → BeginsWithDocument e bytes ps → (1 ≤ e) × (value_at_key name (one_each ps) ≡ None))
-    → value_at_key key (one_each (pairs_read (document_at d bytes))) ≡ None
+pub got_none : (d : ℕ) (bytes name key : List ℕ) → is_ok (read_first_document d bytes) ≡ true → name ≡ key
+    → ((e : ℕ) (ps : Pairs) → BeginsWithDocument e bytes ps → (1 ≤ e) × (value_at_key name (deduplicated ps) ≡ None))
+    → value_at_key key (deduplicated (pairs_or_none (read_first_document d bytes))) ≡ None
 got_none d bytes name key read same h =
-    ap (λ (k : List ℕ). value_at_key k (one_each (pairs_read (document_at d bytes)))) (sym same)
-    ∙ (h d (pairs_read (document_at d bytes)) (document_there d bytes read)).1
+    ap (λ (k : List ℕ). value_at_key k (deduplicated (pairs_or_none (read_first_document d bytes)))) (sym same)
+    ∙ (h d (pairs_or_none (read_first_document d bytes)) (document_there d bytes read)).1
 
 -- the value of the key, at its bytes
 pub record Got (d : ℕ) (e : RawElement) (total : Option Value) : Type 0 where
@@ -211,39 +211,39 @@ pub record Got (d : ℕ) (e : RawElement) (total : Option Value) : Type 0 where
   pub is : total ≡ Some value
   pub read : HasValue (d - 1) e value
 
-pub got : (d : ℕ) (bytes name key : List ℕ) → is_ok (document_at d bytes) ≡ true → name ≡ key → (x : RawElement)
-    → ((e : ℕ) (ps : Pairs) → BeginsWithDocument e bytes ps → (1 ≤ e) × IsFound (e - 1) (Some x) (value_at_key name (one_each ps)))
-    → Got d x (value_at_key key (one_each (pairs_read (document_at d bytes))))
+pub got : (d : ℕ) (bytes name key : List ℕ) → is_ok (read_first_document d bytes) ≡ true → name ≡ key → (x : RawElement)
+    → ((e : ℕ) (ps : Pairs) → BeginsWithDocument e bytes ps → (1 ≤ e) × IsValueOfElement (e - 1) (Some x) (value_at_key name (deduplicated ps)))
+    → Got d x (value_at_key key (deduplicated (pairs_or_none (read_first_document d bytes))))
 got d bytes name key read same x h =
-    let ps = pairs_read (document_at d bytes) in
+    let ps = pairs_or_none (read_first_document d bytes) in
     let f = h d ps (document_there d bytes read) in
     record {
       deep = f.0;
       value = f.1.0;
-      is = ap (λ (k : List ℕ). value_at_key k (one_each ps)) (sym same) ∙ f.1.1;
+      is = ap (λ (k : List ℕ). value_at_key k (deduplicated ps)) (sym same) ∙ f.1.1;
       read = f.1.2;
     }
 
 -- what is read again is the same value
 pub read_same : (d : ℕ) (e : RawElement) (v w : Value) → HasValue d e v
-    → value_read (value_with Replace (document_in Replace d) e.kind e.value.now) ≡ Ok w → v ≡ w
-read_same d e v w h g = ok_is v w (sym (ap value_read h) ∙ g)
+    → without_rest (read_value_in Replace (read_document_in Replace d) e.kind e.value.now) ≡ Ok w → v ≡ w
+read_same d e v w h g = ok_is v w (sym (ap without_rest h) ∙ g)
 
 pub same_value : {d : ℕ} {e : RawElement} {total : Option Value} → Got d e total → (w : Value)
-    → value_read (value_with Replace (document_in Replace (d - 1)) e.kind e.value.now) ≡ Ok w → Some w ≡ total
+    → without_rest (read_value_in Replace (read_document_in Replace (d - 1)) e.kind e.value.now) ≡ Ok w → Some w ≡ total
 same_value {d} {e} g w h = ap Some (sym (read_same (d - 1) e g.value w g.read h)) ∙ sym g.is
 
 -- ---- a whole document
 
 whole_by : (r : Result (Pairs × List ℕ) Fault) (ps : Pairs)
-    → (settled no_pairs r >>= λ x. if length x.1 == 0 then Ok x.0 else Err (at Trailing x.1)) ≡ Ok ps
-    → (is_ok r ≡ true) × (ps ≡ one_each (pairs_read r))
+    → (insert_pairs_read no_pairs r >>= λ x. if length x.1 == 0 then Ok x.0 else Err (at Trailing x.1)) ≡ Ok ps
+    → (is_ok r ≡ true) × (ps ≡ deduplicated (pairs_or_none r))
 whole_by (Ok x) ps e =
-    let g = if_ok (length x.1 == 0) (Ok (one_each x.0)) (at Trailing x.1) ps e in
-    (refl, sym (ok_is (one_each x.0) ps g.1))
+    let g = if_ok (length x.1 == 0) (Ok (deduplicated x.0)) (at Trailing x.1) ps e in
+    (refl, sym (ok_is (deduplicated x.0) ps g.1))
 whole_by (Err f) ps e = absurd cc
 
 pub whole_from : (d : ℕ) (bytes : List ℕ) (ps : Pairs) → reads_bytes d bytes ≡ Ok ps
-    → (is_ok (document_at d bytes) ≡ true) × (ps ≡ one_each (pairs_read (document_at d bytes)))
+    → (is_ok (read_first_document d bytes) ≡ true) × (ps ≡ deduplicated (pairs_or_none (read_first_document d bytes)))
 unfolding reads_bytes_in
-whole_from d bytes ps e = whole_by (document_at d bytes) ps e
+whole_from d bytes ps e = whole_by (read_first_document d bytes) ps e

@@ -2,13 +2,13 @@
 use Rattle.std.proofs.Common.{ℕ, List}
 use Rattle.bson_model.specs.Value.{Value, Pairs}
 use Rattle.bson_types.specs.declared.spec.ElementType.{ElementType}
-use Rattle.bson_bytes.specs.declared.keys.DuplicateKeys.{DuplicateKeys}
-use Rattle.bson_bytes.specs.declared.keys.DuplicateKeys.TheVariants.{Replace}
-use Rattle.bson_bytes.specs.Grammar.{IsDocument, is_document, IsList, is_empty, is_element, IsValue, is_double, is_text}
+use Rattle.bson_bytes.specs.declared.duplicate_keys.DuplicateKeys.{DuplicateKeys}
+use Rattle.bson_bytes.specs.declared.duplicate_keys.DuplicateKeys.TheVariants.{Replace}
+use Rattle.bson_bytes.specs.Grammar.{IsDocument, is_document, IsElementList, is_empty, is_element, IsValue, is_double, is_text}
 use Rattle.bson_bytes.specs.Grammar.{is_embedded, is_array, is_binary, is_old_binary, is_undefined, is_object_id}
 use Rattle.bson_bytes.specs.Grammar.{is_false, is_true, is_date, is_null, is_regex, is_pointer, is_code, is_symbol}
 use Rattle.bson_bytes.specs.Grammar.{is_scope, is_int32, is_timestamp, is_int64, is_decimal, is_min, is_max}
-use Rattle.bson_bytes.specs.Laws.{IsReadIn, IsRead}
+use Rattle.bson_bytes.specs.ReadDocuments.{IsReadIn, IsRead}
 
 mutual
   value_kept : {keys : DuplicateKeys} {d : ℕ} {t : ElementType} {bytes : List ℕ} {v : Value} → IsValue keys d t bytes v
@@ -37,7 +37,7 @@ mutual
   value_kept (is_min d) = is_min d
   value_kept (is_max d) = is_max d
 
-  list_kept : {keys : DuplicateKeys} {d : ℕ} {list : List ℕ} {ps : Pairs} → IsList keys d list ps → IsList Replace d list ps
+  list_kept : {keys : DuplicateKeys} {d : ℕ} {list : List ℕ} {ps : Pairs} → IsElementList keys d list ps → IsElementList Replace d list ps
   list_kept (is_empty d) = is_empty d
   list_kept (is_element d t k bytes list v ps name w ws) =
       is_element d t k bytes list v ps name (value_kept w) (list_kept ws)

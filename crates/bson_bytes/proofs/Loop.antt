@@ -7,15 +7,15 @@ use Rattle.bson_types.specs.declared.spec.ElementType.TheVariants as tag
 use Rattle.bson_model.specs.Value.{Value, Pairs, no_pairs, pair, array, document}
 use Rattle.bson_bytes.specs.declared.fault.Fault.{Fault}
 use Rattle.bson_bytes.specs.declared.fault.FaultKind.TheVariants.{Length}
-use Rattle.bson_bytes.specs.declared.keys.DuplicateKeys.{DuplicateKeys}
-use Rattle.bson_bytes.specs.declared.keys.DuplicateKeys.TheVariants.{Replace, Refuse}
+use Rattle.bson_bytes.specs.declared.duplicate_keys.DuplicateKeys.{DuplicateKeys}
+use Rattle.bson_bytes.specs.declared.duplicate_keys.DuplicateKeys.TheVariants.{Replace, Refuse}
 use Rattle.bson_bytes.specs.Fault.{at, ◌>>=◌}
 use Rattle.bson_bytes.specs.Grammar.{pair_values}
-use Rattle.bson_bytes.specs.Reading.{byte_at, key_at, size_at, text_at, scope_at, settled, value_with, document_in}
-use Rattle.bson_bytes.specs.Reading.{Before, none_before, noted}
-use Rattle.bson_bytes.specs.Tags.{kind_of}
+use Rattle.bson_bytes.specs.Reading.{read_byte, read_key, read_length, read_string, read_code_with_scope, insert_pairs_read, read_value_in, read_document_in}
+use Rattle.bson_bytes.specs.Reading.{EarlierKeys, no_earlier_keys, add_earlier_key}
+use Rattle.bson_bytes.specs.TypeTags.{type_of_tag}
 use Rattle.bson_bytes.proofs.Offered.{Read, elements, then_pairs, no_more, one_more}
-use Rattle.bson_bytes.specs.Source.{StopsReadingFor, IsNoFault, keys_back, keys_before, with_pair}
+use Rattle.bson_bytes.specs.Source.{StopsReadingFor, IsNoFault, reversed_keys, earlier_keys, with_pair}
 use Rattle.bson_bytes.specs.declared.stop.Stop.{Stop}
 use Rattle.bson_bytes.specs.declared.stop.Stop.TheVariants as stops
 
@@ -65,12 +65,12 @@ onto_then ps k v (Err f) = refl
 -- ---- the loop
 
 pub keys_back_more : (ps : Pairs) (ks : List (List ℕ)) (k : List ℕ) (v : Value)
-    → keys_back (with_pair ps k v) ks ≡ k ∷ keys_back ps ks
+    → reversed_keys (with_pair ps k v) ks ≡ k ∷ reversed_keys ps ks
 keys_back_more no_pairs ks k v = refl
 keys_back_more (pair l w ps) ks k v = keys_back_more ps (l ∷ ks) k v
 
 before_more : (keys : DuplicateKeys) (doc : Bool) (ps : Pairs) (k : List ℕ) (v : Value)
-    → keys_before keys doc (with_pair ps k v) ≡ noted k (keys_before keys doc ps)
+    → earlier_keys keys doc (with_pair ps k v) ≡ add_earlier_key k (earlier_keys keys doc ps)
 before_more Replace doc ps k v = refl
 before_more Refuse true ps k v = ap (λ ks. Some ks) (keys_back_more ps [] k v)
 before_more Refuse false ps k v = refl
@@ -79,38 +79,38 @@ before_more Refuse false ps k v = refl
 pub record ListLeft (keys : DuplicateKeys) (doc : Bool) (d : ℕ) (ps : Pairs) (rest : List ℕ) (total : Read) : Type 0 where
   pub turns : ℕ
   pub enough : length rest ≤ turns
-  pub read : onto ps (elements keys d (keys_before keys doc ps) turns rest) ≡ total
+  pub read : onto ps (elements keys d (earlier_keys keys doc ps) turns rest) ≡ total
 
 pub list_start : (keys : DuplicateKeys) (doc : Bool) (d : ℕ) (bytes : List ℕ)
-    → ListLeft keys doc d no_pairs bytes (elements keys d (keys_before keys doc no_pairs) (length bytes) bytes)
+    → ListLeft keys doc d no_pairs bytes (elements keys d (earlier_keys keys doc no_pairs) (length bytes) bytes)
 list_start keys doc d bytes = record {
   turns = length bytes;
   enough = omega arith;
-  read = onto_none (elements keys d (keys_before keys doc no_pairs) (length bytes) bytes);
+  read = onto_none (elements keys d (earlier_keys keys doc no_pairs) (length bytes) bytes);
 }
 
 pub list_fault : (keys : DuplicateKeys) (doc : Bool) (d : ℕ) (ps : Pairs) (rest : List ℕ) (total : Read)
-    (i : ListLeft keys doc d ps rest total) (f : Fault) → elements keys d (keys_before keys doc ps) i.turns rest ≡ Err f
+    (i : ListLeft keys doc d ps rest total) (f : Fault) → elements keys d (earlier_keys keys doc ps) i.turns rest ≡ Err f
     → total ≡ Err f
 list_fault keys doc d ps rest total i f h = sym i.read ∙ ap (onto ps) h
 
 pub list_end : (keys : DuplicateKeys) (doc : Bool) (d : ℕ) (ps : Pairs) (rest : List ℕ) (total : Read) (t : ℕ) (a : List ℕ)
-    → ListLeft keys doc d ps rest total → byte_at rest ≡ Ok (t, a) → t ≡ 0 → total ≡ Ok (ps, a)
+    → ListLeft keys doc d ps rest total → read_byte rest ≡ Ok (t, a) → t ≡ 0 → total ≡ Ok (ps, a)
 list_end keys doc d ps rest total t a i e z =
-    sym i.read ∙ ap (onto ps) (no_more keys d (keys_before keys doc ps) i.turns rest t a i.enough e z)
+    sym i.read ∙ ap (onto ps) (no_more keys d (earlier_keys keys doc ps) i.turns rest t a i.enough e z)
     ∙ ap (λ (q : Pairs). Ok (q, a)) (join_none ps)
 
 pub list_more : (keys : DuplicateKeys) (doc : Bool) (d : ℕ) (ps : Pairs) (rest : List ℕ) (total : Read) (t : ℕ) (a : List ℕ)
     (k : ElementType) (s b : List ℕ) (v : Value) (c : List ℕ) → ListLeft keys doc d ps rest total → length c < length rest
-    → byte_at rest ≡ Ok (t, a) → (t ≡ 0 → ⊥) → kind_of t ≡ Some k → key_at (keys_before keys doc ps) a ≡ Ok (s, b)
-    → value_with keys (document_in keys d) k b ≡ Ok (v, c) → ListLeft keys doc d (with_pair ps s v) c total
+    → read_byte rest ≡ Ok (t, a) → (t ≡ 0 → ⊥) → type_of_tag t ≡ Some k → read_key (earlier_keys keys doc ps) a ≡ Ok (s, b)
+    → read_value_in keys (read_document_in keys d) k b ≡ Ok (v, c) → ListLeft keys doc d (with_pair ps s v) c total
 list_more keys doc d ps rest total t a k s b v c i lt e n k-is h w =
-    let g = one_more keys d (keys_before keys doc ps) i.turns rest t a k s b v c i.enough lt e n k-is h w in
+    let g = one_more keys d (earlier_keys keys doc ps) i.turns rest t a k s b v c i.enough lt e n k-is h w in
     record {
       turns = g.turns;
       enough = g.enough;
-      read = onto_then ps s v (elements keys d (keys_before keys doc (with_pair ps s v)) g.turns c)
-          ∙ ap (λ (before : Before). onto ps (elements keys d before g.turns c >>= then_pairs s v)) (before_more keys doc ps s v)
+      read = onto_then ps s v (elements keys d (earlier_keys keys doc (with_pair ps s v)) g.turns c)
+          ∙ ap (λ (before : EarlierKeys). onto ps (elements keys d before g.turns c >>= then_pairs s v)) (before_more keys doc ps s v)
           ∙ ap (onto ps) (sym g.read) ∙ i.read;
     }
 
@@ -121,46 +121,46 @@ Given {S} B ps first begun list now = (start : S) → B start no_pairs first beg
 -- ---- what holds a document
 
 pub begins : (keys : DuplicateKeys) (d : ℕ) (bytes : List ℕ)
-    → document_in keys d (none_before keys) bytes ≡ document_in keys d (keys_before keys true no_pairs) bytes
+    → read_document_in keys d (no_earlier_keys keys) bytes ≡ read_document_in keys d (earlier_keys keys true no_pairs) bytes
 begins Replace d bytes = refl
 begins Refuse d bytes = refl
 
 begins_array : (keys : DuplicateKeys) (d : ℕ) (bytes : List ℕ)
-    → document_in keys d None bytes ≡ document_in keys d (keys_before keys false no_pairs) bytes
+    → read_document_in keys d None bytes ≡ read_document_in keys d (earlier_keys keys false no_pairs) bytes
 begins_array Replace d bytes = refl
 begins_array Refuse d bytes = refl
 
 pub array_read : (keys : DuplicateKeys) (d : ℕ) (bytes : List ℕ) (ps : Pairs) (rest : List ℕ)
-    → document_in keys d (keys_before keys false no_pairs) bytes ≡ Ok (ps, rest)
-    → value_with keys (document_in keys d) tag.Array bytes ≡ Ok (array (pair_values ps), rest)
-unfolding value_with
+    → read_document_in keys d (earlier_keys keys false no_pairs) bytes ≡ Ok (ps, rest)
+    → read_value_in keys (read_document_in keys d) tag.Array bytes ≡ Ok (array (pair_values ps), rest)
+unfolding read_value_in
 array_read keys d bytes ps rest h = rw (begins_array keys d bytes ∙ h) refl
 
 pub array_fault : (keys : DuplicateKeys) (d : ℕ) (bytes : List ℕ) (f : Fault)
-    → document_in keys d (keys_before keys false no_pairs) bytes ≡ Err f
-    → value_with keys (document_in keys d) tag.Array bytes ≡ Err f
-unfolding value_with
+    → read_document_in keys d (earlier_keys keys false no_pairs) bytes ≡ Err f
+    → read_value_in keys (read_document_in keys d) tag.Array bytes ≡ Err f
+unfolding read_value_in
 array_fault keys d bytes f h = rw (begins_array keys d bytes ∙ h) refl
 
 pub embedded_read : (keys : DuplicateKeys) (d : ℕ) (bytes : List ℕ) (ps : Pairs) (rest : List ℕ)
-    → settled no_pairs (document_in keys d (none_before keys) bytes) ≡ Ok (ps, rest)
-    → value_with keys (document_in keys d) tag.EmbeddedDocument bytes ≡ Ok (document ps, rest)
-unfolding value_with
+    → insert_pairs_read no_pairs (read_document_in keys d (no_earlier_keys keys) bytes) ≡ Ok (ps, rest)
+    → read_value_in keys (read_document_in keys d) tag.EmbeddedDocument bytes ≡ Ok (document ps, rest)
+unfolding read_value_in
 embedded_read keys d bytes ps rest h = rw h refl
 
 pub embedded_fault : (keys : DuplicateKeys) (d : ℕ) (bytes : List ℕ) (f : Fault)
-    → settled no_pairs (document_in keys d (none_before keys) bytes) ≡ Err f
-    → value_with keys (document_in keys d) tag.EmbeddedDocument bytes ≡ Err f
-unfolding value_with
+    → insert_pairs_read no_pairs (read_document_in keys d (no_earlier_keys keys) bytes) ≡ Err f
+    → read_value_in keys (read_document_in keys d) tag.EmbeddedDocument bytes ≡ Err f
+unfolding read_value_in
 embedded_fault keys d bytes f h = rw h refl
 
-pub scope_fault : (inner : List ℕ → Read) (bytes : List ℕ) (n : ℕ) (a s b : List ℕ) (f : Fault) → size_at bytes ≡ Ok (n, a)
-    → text_at a ≡ Ok (s, b) → settled no_pairs (inner b) ≡ Err f → scope_at inner bytes ≡ Err f
-unfolding scope_at
+pub scope_fault : (inner : List ℕ → Read) (bytes : List ℕ) (n : ℕ) (a s b : List ℕ) (f : Fault) → read_length bytes ≡ Ok (n, a)
+    → read_string a ≡ Ok (s, b) → insert_pairs_read no_pairs (inner b) ≡ Err f → read_code_with_scope inner bytes ≡ Err f
+unfolding read_code_with_scope
 scope_fault inner bytes n a s b f size text read = rw (size, text, read) refl
 
 pub scope_short : (inner : List ℕ → Read) (bytes : List ℕ) (n : ℕ) (a s b : List ℕ) (ps : Pairs) (rest : List ℕ)
-    → size_at bytes ≡ Ok (n, a) → text_at a ≡ Ok (s, b) → settled no_pairs (inner b) ≡ Ok (ps, rest)
-    → (n + length rest ≡ length bytes → ⊥) → scope_at inner bytes ≡ Err (at Length bytes)
-unfolding scope_at
+    → read_length bytes ≡ Ok (n, a) → read_string a ≡ Ok (s, b) → insert_pairs_read no_pairs (inner b) ≡ Ok (ps, rest)
+    → (n + length rest ≡ length bytes → ⊥) → read_code_with_scope inner bytes ≡ Err (at Length bytes)
+unfolding read_code_with_scope
 scope_short inner bytes n a s b ps rest size text read k = rw (size, text, read, ne_eqb (n + length rest) (length bytes) k) refl

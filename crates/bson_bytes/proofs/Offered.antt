@@ -8,7 +8,7 @@ pub use Rattle.bson_bytes.proofs.Rounds.{document_done, document_wrong, scope_do
 pub use Rattle.bson_bytes.proofs.Putting.{told_ok, told_err, document_fits}
 pub use Rattle.bson_bytes.proofs.Within.{front_fault, fault_stands}
 pub use Rattle.bson_bytes.proofs.Standing.{new_from, new_again}
-pub use Rattle.bson_bytes.proofs.PartLaws.{wide32, length-le, size_again}
+pub use Rattle.bson_bytes.proofs.PartLaws.{wide32, length-little_endian, size_again}
 pub use Rattle.bson_bytes.proofs.Passed.{passed_ok, passed_err}
 pub use Rattle.bson_bytes.proofs.Texts.{string_utf8}
 pub use Rattle.bson_bytes.proofs.Splits.{before}

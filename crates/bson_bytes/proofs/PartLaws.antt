@@ -6,7 +6,7 @@ use Rattle.std.specs.Prelude.{option_map}
 use Rattle.std.specs.Int.{Width, w32, w64, byte_len, from_le_bytes, to_le_bytes}
 use Rattle.std.specs.Str.{is_utf8, IsUtf8}
 use Rattle.std.proofs.lemmas.Str.{IsUtf8-from_is_utf8}
-use Rattle.std.proofs.lemmas.Bool.{cases_lt, ltb-true, ltb-false, le-ltb, lt-ltb, eqb-true, eqb-false, ne_eqb}
+use Rattle.std.proofs.lemmas.Bool.{cases_lt, ltb-true, ltb-false, little_endian-ltb, lt-ltb, eqb-true, eqb-false, ne_eqb}
 use Rattle.std.proofs.lemmas.Bool.{false_from_ne_true}
 use Rattle.std.proofs.lemmas.List.{take_at, drop_at, take-append-drop, length-append, length-take, get_or-drop}
 use Rattle.std.proofs.lemmas.List.{get_or-take, get_or_past}
@@ -14,10 +14,10 @@ use Rattle.std.proofs.lemmas.Nat.{le_bytes_4, le_bytes_8, from_le_bytes-to_le_by
 use Rattle.bson_bytes.specs.declared.fault.Fault.{Fault}
 use Rattle.bson_bytes.specs.declared.fault.FaultKind.{FaultKind}
 use Rattle.bson_bytes.specs.declared.fault.FaultKind.TheVariants.{Short, Length, Utf8, End}
-use Rattle.bson_bytes.specs.Fault.{at, ◌>>=◌, or_fault}
-use Rattle.bson_bytes.specs.Grammar.{le, IsName, NoZero}
-use Rattle.bson_bytes.specs.Reading.{byte_at, bytes_at, number_at, size_at, zero_at, split_zero, with_byte_before, utf8_at}
-use Rattle.bson_bytes.specs.Reading.{name_at, text_at}
+use Rattle.bson_bytes.specs.Fault.{at, ◌>>=◌, or_error}
+use Rattle.bson_bytes.specs.Grammar.{little_endian, IsName, NoZero}
+use Rattle.bson_bytes.specs.Reading.{read_byte, read_bytes, read_integer, read_length, read_nul, split_at_nul, prepend_byte, check_utf8}
+use Rattle.bson_bytes.specs.Reading.{read_name, read_string}
 
 -- ---- bytes
 
@@ -31,7 +31,7 @@ pub IsBytes-take : (n : ℕ) (bytes : List ℕ) → IsBytes bytes → IsBytes (t
 IsBytes-take n bytes h i =
     elim (cases_lt i n) [
       | inl lt ↦ rw (get_or-take n bytes i 0 lt) (h i)
-      | inr le ↦ rw (get_or_past (take n bytes) i 0 (omega (arith, length-take n bytes))) (omega arith)
+      | inr little_endian ↦ rw (get_or_past (take n bytes) i 0 (omega (arith, length-take n bytes))) (omega arith)
     ]
 
 pub IsBytes-rest : (b : ℕ) (bytes : List ℕ) → IsBytes (b ∷ bytes) → IsBytes bytes
@@ -63,7 +63,7 @@ done x = Ok x
 pub ok_is : {A : Type 0} (x y : A) → done x ≡ done y → x ≡ y
 ok_is x y e = cc
 
-pub or_fault_ok : {A : Type 0} (o : Option A) (w : FaultKind) (bytes : List ℕ) (x : A) → or_fault o w bytes ≡ Ok x → o ≡ Some x
+pub or_fault_ok : {A : Type 0} (o : Option A) (w : FaultKind) (bytes : List ℕ) (x : A) → or_error o w bytes ≡ Ok x → o ≡ Some x
 or_fault_ok (Some y) w bytes x e = ap Some (ok_is y x e)
 or_fault_ok None w bytes x e = absurd cc
 
@@ -99,16 +99,16 @@ wide64 = record {
   below = λ bytes fits. omega (arith, fits 0, fits 1, fits 2, fits 3, fits 4, fits 5, fits 6, fits 7);
 }
 
-pub length-le : (w : Width) (limit : ℕ) → IsWide w limit → (n : ℕ) → length (le w n) ≡ byte_len w
-unfolding le
-length-le w limit wide n = wide.len n
+pub length-little_endian : (w : Width) (limit : ℕ) → IsWide w limit → (n : ℕ) → length (little_endian w n) ≡ byte_len w
+unfolding little_endian
+length-little_endian w limit wide n = wide.len n
 
 -- the bytes of the number, which is in range
 abbrev pub IsNumber : Width → ℕ → List ℕ → ℕ → Type 0
-IsNumber w limit front n = (front ≡ le w n) × (n < limit)
+IsNumber w limit front n = (front ≡ little_endian w n) × (n < limit)
 
-pub number_takes : (w : Width) (limit : ℕ) → IsWide w limit → (bytes : List ℕ) (n : ℕ) (rest : List ℕ) → IsBytes bytes → number_at w bytes ≡ Ok (n, rest) → Takes (IsNumber w limit) bytes n rest
-unfolding le
+pub number_takes : (w : Width) (limit : ℕ) → IsWide w limit → (bytes : List ℕ) (n : ℕ) (rest : List ℕ) → IsBytes bytes → read_integer w bytes ≡ Ok (n, rest) → Takes (IsNumber w limit) bytes n rest
+unfolding little_endian
 number_takes w limit wide bytes n rest fits e =
     let g = unless_ok (ltb (length bytes) (byte_len w)) (at Short bytes) (Ok (from_le_bytes w (take (byte_len w) bytes), drop (byte_len w) bytes)) (n, rest) e in
     let long : byte_len w ≤ length bytes = ltb-false _ _ g.0 in
@@ -123,50 +123,50 @@ number_takes w limit wide bytes n rest fits e =
       rest_bytes = rw (← rest-is) (IsBytes-drop (byte_len w) bytes fits);
     }
 
-pub number_again : (w : Width) (limit : ℕ) → IsWide w limit → (n : ℕ) (rest : List ℕ) → n < limit → number_at w (le w n ++ rest) ≡ Ok (n, rest)
-unfolding le
+pub number_again : (w : Width) (limit : ℕ) → IsWide w limit → (n : ℕ) (rest : List ℕ) → n < limit → read_integer w (little_endian w n ++ rest) ≡ Ok (n, rest)
+unfolding little_endian
 number_again w limit wide n rest lt =
     let len = wide.len n in
-    let long : ltb (length (to_le_bytes w n ++ rest)) (byte_len w) ≡ false = le-ltb _ _ (omega (arith, length-append (to_le_bytes w n) rest)) in
+    let long : ltb (length (to_le_bytes w n ++ rest)) (byte_len w) ≡ false = little_endian-ltb _ _ (omega (arith, length-append (to_le_bytes w n) rest)) in
     rw (long, take_at (to_le_bytes w n) rest (byte_len w) len, drop_at (to_le_bytes w n) rest (byte_len w) len, wide.again n lt) refl
 
 -- ---- a length
 
-pub size_takes : (bytes : List ℕ) (n : ℕ) (rest : List ℕ) → IsBytes bytes → size_at bytes ≡ Ok (n, rest) → Takes (IsNumber w32 (2 ^ 31)) bytes n rest
-unfolding size_at
+pub size_takes : (bytes : List ℕ) (n : ℕ) (rest : List ℕ) → IsBytes bytes → read_length bytes ≡ Ok (n, rest) → Takes (IsNumber w32 (2 ^ 31)) bytes n rest
+unfolding read_length
 size_takes bytes n rest fits e =
-    let b = bind_ok (number_at w32 bytes) (λ n. cond (ltb n.0 (2 ^ 31)) (Ok n) (Err (at Length bytes))) (n, rest) e in
+    let b = bind_ok (read_integer w32 bytes) (λ n. cond (ltb n.0 (2 ^ 31)) (Ok n) (Err (at Length bytes))) (n, rest) e in
     let g = if_ok (ltb b.0.0 (2 ^ 31)) (Ok b.0) (at Length bytes) (n, rest) b.2 in
     let small : b.0.0 < 2 ^ 31 = ltb-true _ _ g.0 in
     let t = number_takes w32 (2 ^ 32) wide32 bytes b.0.0 b.0.1 fits b.1 in
     let made : Takes (IsNumber w32 (2 ^ 31)) bytes b.0.0 b.0.1 = record { front = t.front; spelled = (t.spelled.0, small); parts = t.parts; rest_bytes = t.rest_bytes } in
     subst (λ (p : ℕ × List ℕ). Takes (IsNumber w32 (2 ^ 31)) bytes p.0 p.1) (ok_is b.0 (n, rest) g.1) made
 
-pub size_again : (n : ℕ) (rest : List ℕ) → n < 2 ^ 31 → size_at (le w32 n ++ rest) ≡ Ok (n, rest)
-unfolding size_at
+pub size_again : (n : ℕ) (rest : List ℕ) → n < 2 ^ 31 → read_length (little_endian w32 n ++ rest) ≡ Ok (n, rest)
+unfolding read_length
 size_again n rest lt = rw (number_again w32 (2 ^ 32) wide32 n rest (omega arith), lt-ltb n (2 ^ 31) lt) refl
 
 -- ---- bytes of a count
 
-pub bytes_takes : (n : ℕ) (bytes s rest : List ℕ) → IsBytes bytes → bytes_at n bytes ≡ Ok (s, rest) → Takes (λ front x. (front ≡ x) × (length x ≡ n)) bytes s rest
+pub bytes_takes : (n : ℕ) (bytes s rest : List ℕ) → IsBytes bytes → read_bytes n bytes ≡ Ok (s, rest) → Takes (λ front x. (front ≡ x) × (length x ≡ n)) bytes s rest
 bytes_takes n bytes s rest fits e =
     let g = unless_ok (ltb (length bytes) n) (at Short bytes) (Ok (take n bytes, drop n bytes)) (s, rest) e in
     let long : n ≤ length bytes = ltb-false _ _ g.0 in
     let made : Takes (λ front x. (front ≡ x) × (length x ≡ n)) bytes (take n bytes) (drop n bytes) = record { front = take n bytes; spelled = (refl, omega (arith, length-take n bytes)); parts = sym (take-append-drop n bytes); rest_bytes = IsBytes-drop n bytes fits } in
     subst (λ (p : List ℕ × List ℕ). Takes (λ front x. (front ≡ x) × (length x ≡ n)) bytes p.0 p.1) (ok_is (take n bytes, drop n bytes) (s, rest) g.1) made
 
-pub bytes_again : (s rest : List ℕ) → bytes_at (length s) (s ++ rest) ≡ Ok (s, rest)
+pub bytes_again : (s rest : List ℕ) → read_bytes (length s) (s ++ rest) ≡ Ok (s, rest)
 bytes_again s rest =
-    let long : ltb (length (s ++ rest)) (length s) ≡ false = le-ltb _ _ (omega (arith, length-append s rest)) in
+    let long : ltb (length (s ++ rest)) (length s) ≡ false = little_endian-ltb _ _ (omega (arith, length-append s rest)) in
     rw (long, take_at s rest (length s) refl, drop_at s rest (length s) refl) refl
 
 -- ---- a byte
 
-pub byte_takes : (bytes : List ℕ) (b : ℕ) (rest : List ℕ) → byte_at bytes ≡ Ok (b, rest) → bytes ≡ b ∷ rest
+pub byte_takes : (bytes : List ℕ) (b : ℕ) (rest : List ℕ) → read_byte bytes ≡ Ok (b, rest) → bytes ≡ b ∷ rest
 byte_takes [] b rest e = absurd cc
 byte_takes (c ∷ bytes) b rest e = ap (λ (p : ℕ × List ℕ). p.0 ∷ p.1) (ok_is (c, bytes) (b, rest) e)
 
-pub zero_takes : (bytes rest : List ℕ) → zero_at bytes ≡ Ok rest → bytes ≡ 0 ∷ rest
+pub zero_takes : (bytes rest : List ℕ) → read_nul bytes ≡ Ok rest → bytes ≡ 0 ∷ rest
 zero_takes [] rest e = absurd cc
 zero_takes (b ∷ bytes) rest e =
     let g = if_ok (eqb b 0) (Ok bytes) (at End (b ∷ bytes)) rest e in
@@ -174,16 +174,16 @@ zero_takes (b ∷ bytes) rest e =
 
 -- ---- UTF-8
 
-pub utf8_takes : (s bytes t : List ℕ) → utf8_at s bytes ≡ Ok t → (s ≡ t) × (is_utf8 t ≡ true)
+pub utf8_takes : (s bytes t : List ℕ) → check_utf8 s bytes ≡ Ok t → (s ≡ t) × (is_utf8 t ≡ true)
 utf8_takes s bytes t e =
     let g = if_ok (is_utf8 s) (Ok s) (at Utf8 bytes) t e in
     let same = ok_is s t g.1 in
     (same, rw (← same) g.0)
 
-pub utf8_again : (s bytes : List ℕ) → is_utf8 s ≡ true → utf8_at s bytes ≡ Ok s
+pub utf8_again : (s bytes : List ℕ) → is_utf8 s ≡ true → check_utf8 s bytes ≡ Ok s
 utf8_again s bytes h = rw h refl
 
-pub utf8_refused : (s bytes : List ℕ) → (IsUtf8 s → ⊥) → utf8_at s bytes ≡ Err (at Utf8 bytes)
+pub utf8_refused : (s bytes : List ℕ) → (IsUtf8 s → ⊥) → check_utf8 s bytes ≡ Err (at Utf8 bytes)
 utf8_refused s bytes n = rw (false_from_ne_true (is_utf8 s) (λ h. n (IsUtf8-from_is_utf8 s h))) refl
 
 -- ---- names
@@ -195,39 +195,39 @@ Splits bytes k rest = NoZero k × (bytes ≡ k ++ 0 ∷ rest)
 -- one byte more, where the rest splits
 split_more : (b : ℕ) (bytes k rest : List ℕ) (o : Option (List ℕ × List ℕ)) → (b ≡ 0 → ⊥)
     → ((j r : List ℕ) → o ≡ Some (j, r) → Splits bytes j r)
-    → option_map (with_byte_before b) o ≡ Some (k, rest) → Splits (b ∷ bytes) k rest
+    → option_map (prepend_byte b) o ≡ Some (k, rest) → Splits (b ∷ bytes) k rest
 split_more b bytes k rest None n f e = absurd cc
 split_more b bytes k rest (Some p) n f e =
     let h = f p.0 p.1 refl in
     let same : ◌≡◌ {A = List ℕ × List ℕ} (b ∷ p.0, p.1) (k, rest) = cc in
     subst (λ (q : List ℕ × List ℕ). Splits (b ∷ bytes) q.0 q.1) same ((n, h.0), ap (λ (x : List ℕ). b ∷ x) h.1)
 
-pub split_takes : (bytes k rest : List ℕ) → split_zero bytes ≡ Some (k, rest) → Splits bytes k rest
+pub split_takes : (bytes k rest : List ℕ) → split_at_nul bytes ≡ Some (k, rest) → Splits bytes k rest
 split_takes [] k rest e = absurd cc
 split_takes (b ∷ bytes) k rest e =
-    elim (chosen (eqb b 0) (Some ([], bytes)) (option_map (with_byte_before b) (split_zero bytes)) (Some (k, rest)) e) [
+    elim (chosen (eqb b 0) (Some ([], bytes)) (option_map (prepend_byte b) (split_at_nul bytes)) (Some (k, rest)) e) [
       | inl z ↦
           let same : ◌≡◌ {A = List ℕ × List ℕ} ([], bytes) (k, rest) = cc in
           subst (λ (p : List ℕ × List ℕ). Splits (b ∷ bytes) p.0 p.1) same (tt, rw (eqb-true b 0 z.0) refl)
-      | inr n ↦ split_more b bytes k rest (split_zero bytes) (eqb-false b 0 n.0) (λ j r h. split_takes bytes j r h) n.1
+      | inr n ↦ split_more b bytes k rest (split_at_nul bytes) (eqb-false b 0 n.0) (λ j r h. split_takes bytes j r h) n.1
     ]
 
-pub split_again : (k rest : List ℕ) → NoZero k → split_zero (k ++ 0 ∷ rest) ≡ Some (k, rest)
+pub split_again : (k rest : List ℕ) → NoZero k → split_at_nul (k ++ 0 ∷ rest) ≡ Some (k, rest)
 split_again [] rest h = refl
 split_again (b ∷ k) rest h = rw (ne_eqb b 0 h.0, split_again k rest h.1) refl
 
-pub name_takes : (bytes k rest : List ℕ) → name_at bytes ≡ Ok (k, rest) → IsName k × (bytes ≡ k ++ 0 ∷ rest)
-unfolding name_at
+pub name_takes : (bytes k rest : List ℕ) → read_name bytes ≡ Ok (k, rest) → IsName k × (bytes ≡ k ++ 0 ∷ rest)
+unfolding read_name
 name_takes bytes k rest e =
-    let b = bind_ok (or_fault (split_zero bytes) Short bytes) (λ p. utf8_at p.0 bytes >>= λ s. Ok (s, p.1)) (k, rest) e in
-    let c = bind_ok (utf8_at b.0.0 bytes) (λ s. Ok (s, b.0.1)) (k, rest) b.2 in
+    let b = bind_ok (or_error (split_at_nul bytes) Short bytes) (λ p. check_utf8 p.0 bytes >>= λ s. Ok (s, p.1)) (k, rest) e in
+    let c = bind_ok (check_utf8 b.0.0 bytes) (λ s. Ok (s, b.0.1)) (k, rest) b.2 in
     let u = utf8_takes b.0.0 bytes c.0 c.1 in
-    let t = split_takes bytes b.0.0 b.0.1 (or_fault_ok (split_zero bytes) Short bytes b.0 b.1) in
+    let t = split_takes bytes b.0.0 b.0.1 (or_fault_ok (split_at_nul bytes) Short bytes b.0 b.1) in
     let made : IsName c.0 × (bytes ≡ c.0 ++ 0 ∷ b.0.1) = (record { utf8 = u.1; no_zero = rw (← u.0) t.0 }, rw (← u.0) t.1) in
     subst (λ (p : List ℕ × List ℕ). IsName p.0 × (bytes ≡ p.0 ++ 0 ∷ p.1)) (ok_is (c.0, b.0.1) (k, rest) c.2) made
 
-pub name_again : (k rest : List ℕ) → IsName k → name_at (k ++ 0 ∷ rest) ≡ Ok (k, rest)
-unfolding name_at
+pub name_again : (k rest : List ℕ) → IsName k → read_name (k ++ 0 ∷ rest) ≡ Ok (k, rest)
+unfolding read_name
 name_again k rest h = rw (split_again k rest h.no_zero, utf8_again k (k ++ 0 ∷ rest) h.utf8) refl
 
 -- ---- texts
@@ -240,56 +240,56 @@ absurd_or zero m h e = absurd (h refl)
 absurd_or (suc n) m h e = omega arith
 
 abbrev pub IsTextBytes : List ℕ → List ℕ → Type 0
-IsTextBytes front s = (front ≡ le w32 (length s + 1) ++ (s ++ 0 ∷ [])) × (is_utf8 s ≡ true) × (length s + 1 < 2 ^ 31)
+IsTextBytes front s = (front ≡ little_endian w32 (length s + 1) ++ (s ++ 0 ∷ [])) × (is_utf8 s ≡ true) × (length s + 1 < 2 ^ 31)
 
-pub text_takes : (bytes s rest : List ℕ) → IsBytes bytes → text_at bytes ≡ Ok (s, rest) → Takes IsTextBytes bytes s rest
-unfolding text_at
+pub text_takes : (bytes s rest : List ℕ) → IsBytes bytes → read_string bytes ≡ Ok (s, rest) → Takes IsTextBytes bytes s rest
+unfolding read_string
 text_takes bytes s rest fits e =
-    let b = bind_ok (size_at bytes) (λ n. cond (eqb n.0 0) (Err (at Length bytes)) (bytes_at (n.0 - 1) n.1 >>= λ s. zero_at s.1 >>= λ rest. utf8_at s.0 n.1 >>= λ t. Ok (t, rest))) (s, rest) e in
+    let b = bind_ok (read_length bytes) (λ n. cond (eqb n.0 0) (Err (at Length bytes)) (read_bytes (n.0 - 1) n.1 >>= λ s. read_nul s.1 >>= λ rest. check_utf8 s.0 n.1 >>= λ t. Ok (t, rest))) (s, rest) e in
     let n = b.0 in
-    let g = unless_ok (eqb n.0 0) (at Length bytes) (bytes_at (n.0 - 1) n.1 >>= λ s. zero_at s.1 >>= λ rest. utf8_at s.0 n.1 >>= λ t. Ok (t, rest)) (s, rest) b.2 in
+    let g = unless_ok (eqb n.0 0) (at Length bytes) (read_bytes (n.0 - 1) n.1 >>= λ s. read_nul s.1 >>= λ rest. check_utf8 s.0 n.1 >>= λ t. Ok (t, rest)) (s, rest) b.2 in
     let some = eqb-false n.0 0 g.0 in
-    let c = bind_ok (bytes_at (n.0 - 1) n.1) (λ s. zero_at s.1 >>= λ rest. utf8_at s.0 n.1 >>= λ t. Ok (t, rest)) (s, rest) g.1 in
-    let d = bind_ok (zero_at c.0.1) (λ rest. utf8_at c.0.0 n.1 >>= λ t. Ok (t, rest)) (s, rest) c.2 in
-    let u = bind_ok (utf8_at c.0.0 n.1) (λ t. Ok (t, d.0)) (s, rest) d.2 in
+    let c = bind_ok (read_bytes (n.0 - 1) n.1) (λ s. read_nul s.1 >>= λ rest. check_utf8 s.0 n.1 >>= λ t. Ok (t, rest)) (s, rest) g.1 in
+    let d = bind_ok (read_nul c.0.1) (λ rest. check_utf8 c.0.0 n.1 >>= λ t. Ok (t, rest)) (s, rest) c.2 in
+    let u = bind_ok (check_utf8 c.0.0 n.1) (λ t. Ok (t, d.0)) (s, rest) d.2 in
     let size = size_takes bytes n.0 n.1 fits b.1 in
     let text = bytes_takes (n.0 - 1) n.1 c.0.0 c.0.1 size.rest_bytes c.1 in
     let end = zero_takes c.0.1 d.0 d.1 in
     let utf8 = utf8_takes c.0.0 n.1 u.0 u.1 in
     let len : n.0 ≡ length c.0.0 + 1 = absurd_or n.0 (length c.0.0) some text.spelled.1 in
-    let with_byte_before : n.1 ≡ c.0.0 ++ 0 ∷ d.0 = text.parts ∙ ap (λ (x : List ℕ). x ++ c.0.1) text.spelled.0 ∙ ap (λ (x : List ℕ). c.0.0 ++ x) end in
-    let whole : bytes ≡ (le w32 (length c.0.0 + 1) ++ (c.0.0 ++ 0 ∷ [])) ++ d.0 =
-    size.parts ∙ ap (λ (x : List ℕ). x ++ n.1) size.spelled.0 ∙ ap (λ (k : ℕ). le w32 k ++ n.1) len
-    ∙ ap (λ (x : List ℕ). le w32 (length c.0.0 + 1) ++ x) with_byte_before ∙ regroup (le w32 (length c.0.0 + 1)) c.0.0 d.0 in
+    let prepend_byte : n.1 ≡ c.0.0 ++ 0 ∷ d.0 = text.parts ∙ ap (λ (x : List ℕ). x ++ c.0.1) text.spelled.0 ∙ ap (λ (x : List ℕ). c.0.0 ++ x) end in
+    let whole : bytes ≡ (little_endian w32 (length c.0.0 + 1) ++ (c.0.0 ++ 0 ∷ [])) ++ d.0 =
+    size.parts ∙ ap (λ (x : List ℕ). x ++ n.1) size.spelled.0 ∙ ap (λ (k : ℕ). little_endian w32 k ++ n.1) len
+    ∙ ap (λ (x : List ℕ). little_endian w32 (length c.0.0 + 1) ++ x) prepend_byte ∙ regroup (little_endian w32 (length c.0.0 + 1)) c.0.0 d.0 in
     let made : Takes IsTextBytes bytes c.0.0 d.0 = record {
-      front = le w32 (length c.0.0 + 1) ++ (c.0.0 ++ 0 ∷ []);
+      front = little_endian w32 (length c.0.0 + 1) ++ (c.0.0 ++ 0 ∷ []);
       spelled = (refl, rw utf8.0 utf8.1, omega (arith, size.spelled.1, len));
       parts = whole;
       rest_bytes = IsBytes-rest 0 d.0 (subst IsBytes end text.rest_bytes);
     } in
     subst (λ (p : List ℕ × List ℕ). Takes IsTextBytes bytes p.0 p.1) (ap (λ (x : List ℕ). (x, d.0)) utf8.0 ∙ ok_is (u.0, d.0) (s, rest) u.2) made
 
-pub text_again : (s rest : List ℕ) → is_utf8 s ≡ true → length s + 1 < 2 ^ 31 → text_at ((le w32 (length s + 1) ++ (s ++ 0 ∷ [])) ++ rest) ≡ Ok (s, rest)
-unfolding text_at
+pub text_again : (s rest : List ℕ) → is_utf8 s ≡ true → length s + 1 < 2 ^ 31 → read_string ((little_endian w32 (length s + 1) ++ (s ++ 0 ∷ [])) ++ rest) ≡ Ok (s, rest)
+unfolding read_string
 text_again s rest utf8 lt =
     let some : eqb (length s + 1) 0 ≡ false = ne_eqb _ _ (λ e. omega arith) in
     let one : length s + 1 - 1 ≡ length s = omega arith in
-    ap text_at (sym (regroup (le w32 (length s + 1)) s rest))
+    ap read_string (sym (regroup (little_endian w32 (length s + 1)) s rest))
     ∙ rw (size_again (length s + 1) (s ++ 0 ∷ rest) lt, some, one, bytes_again s (0 ∷ rest), utf8) refl
 
-none_from : (b : ℕ) (o : Option (List ℕ × List ℕ)) → option_map (with_byte_before b) o ≡ None → o ≡ None
+none_from : (b : ℕ) (o : Option (List ℕ × List ℕ)) → option_map (prepend_byte b) o ≡ None → o ≡ None
 none_from b None e = refl
 none_from b (Some p) e = absurd cc
 
 -- a text whose bytes don't split has no 0
-pub no_zero_from : (k : List ℕ) → split_zero k ≡ None → NoZero k
+pub no_zero_from : (k : List ℕ) → split_at_nul k ≡ None → NoZero k
 no_zero_from [] e = tt
 no_zero_from (b ∷ k) e =
-    elim (chosen (eqb b 0) (Some ([], k)) (option_map (with_byte_before b) (split_zero k)) None e) [
+    elim (chosen (eqb b 0) (Some ([], k)) (option_map (prepend_byte b) (split_at_nul k)) None e) [
       | inl z ↦ absurd cc
-      | inr n ↦ (eqb-false b 0 n.0, no_zero_from k (none_from b (split_zero k) n.1))
+      | inr n ↦ (eqb-false b 0 n.0, no_zero_from k (none_from b (split_at_nul k) n.1))
     ]
 
-pub none_from_no_zero : (k : List ℕ) → NoZero k → split_zero k ≡ None
+pub none_from_no_zero : (k : List ℕ) → NoZero k → split_at_nul k ≡ None
 none_from_no_zero [] h = refl
 none_from_no_zero (b ∷ k) h = rw (ne_eqb b 0 h.0, none_from_no_zero k h.1) refl

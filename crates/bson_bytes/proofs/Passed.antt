@@ -4,7 +4,7 @@ use Rattle.std.specs.Str.{is_utf8}
 use Rattle.bson_bytes.specs.declared.fault.Fault.{Fault}
 use Rattle.bson_bytes.specs.declared.fault.FaultKind.TheVariants.{Short}
 use Rattle.bson_bytes.specs.Fault.{at}
-use Rattle.bson_bytes.specs.Reading.{passed, name_at, split_zero}
+use Rattle.bson_bytes.specs.Reading.{passed, read_name, split_at_nul}
 use Rattle.bson_bytes.proofs.PartLaws.{ok_is}
 
 pub record Behind {A : Type 0} (r : Result (A × List ℕ) Fault) (rest : List ℕ) : Type 0 where
@@ -20,11 +20,11 @@ pub passed_err : {A : Type 0} (r : Result (A × List ℕ) Fault) (f : Fault) →
 passed_err (Ok x) f e = absurd cc
 passed_err (Err g) f e = cc
 
-pub passed_name : (bytes s rest : List ℕ) → Some (s, rest) ≡ split_zero bytes → is_utf8 s ≡ true
-    → passed (name_at bytes) ≡ Ok rest
-unfolding name_at
+pub passed_name : (bytes s rest : List ℕ) → Some (s, rest) ≡ split_at_nul bytes → is_utf8 s ≡ true
+    → passed (read_name bytes) ≡ Ok rest
+unfolding read_name
 passed_name bytes s rest split u = rw (sym split, u) refl
 
-pub passed_short : (bytes : List ℕ) → None ≡ split_zero bytes → passed (name_at bytes) ≡ Err (at Short bytes)
-unfolding name_at
+pub passed_short : (bytes : List ℕ) → None ≡ split_at_nul bytes → passed (read_name bytes) ≡ Err (at Short bytes)
+unfolding read_name
 passed_short bytes none = rw (sym none) refl

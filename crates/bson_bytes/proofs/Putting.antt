@@ -14,33 +14,33 @@ use Rattle.bson_scalar.specs.Scalar.{symbol, code, regex, timestamp, binary, obj
 use Rattle.bson_scalar.specs.Scalar.{db_pointer}
 use Rattle.bson_model.specs.Value.{Value, Values, no_values, value, Pairs, no_pairs, pair, scalar, code_scope, array}
 use Rattle.bson_model.specs.Value.{document}
-use Rattle.bson_bytes.specs.Grammar.{le, NoZero, IsSize, text_bytes, scope_size, framed}
-use Rattle.bson_bytes.specs.Putting.{Put, then, put_sized, put_text, is_free, put_regex, put_pointer}
-use Rattle.bson_bytes.specs.Putting.{put_scalar, put_name, put_room, put_length, put_end, put_value, put_items}
-use Rattle.bson_bytes.specs.Putting.{put_elements}
-use Rattle.bson_bytes.specs.Putting.{put_document}
-use Rattle.bson_bytes.specs.Reading.{split_zero}
+use Rattle.bson_bytes.specs.Grammar.{little_endian, NoZero, IsLength, text_bytes, scope_size, document_of_elements}
+use Rattle.bson_bytes.specs.PutSteps.{PutResult, then, put_if_short, put_text, has_no_nul, put_regex, put_pointer}
+use Rattle.bson_bytes.specs.PutSteps.{put_scalar, put_name, put_length_placeholder, put_length, put_end, put_value, put_items}
+use Rattle.bson_bytes.specs.PutSteps.{put_elements}
+use Rattle.bson_bytes.specs.PutSteps.{put_document}
+use Rattle.bson_bytes.specs.Reading.{split_at_nul}
 use Rattle.bson_bytes.specs.Writing.{Cause, zero_in_key, zero_in_regex, too_long, scalar_bytes, subtyped_size}
 use Rattle.bson_bytes.specs.Writing.{name_bytes}
-use Rattle.bson_bytes.specs.Writing.{type_of, value_bytes, items_bytes, list_bytes, document_bytes, regex_bytes}
-use Rattle.bson_bytes.specs.Writing.{FitsScalar, FitsValue, FitsItems, FitsList, FitsDocument, IsLong, HasZeroKey}
-use Rattle.bson_bytes.specs.Writing.{HasZeroRegex, ScalarFails, ValueFails, ItemsFail, ListFails, DocumentFails}
+use Rattle.bson_bytes.specs.Writing.{type_of, value_bytes, array_elements_bytes, elements_bytes, document_bytes, regex_bytes}
+use Rattle.bson_bytes.specs.Writing.{FitsScalar, FitsValue, FitsItems, FitsElements, FitsDocument, IsLengthTooGreat, HasZeroKey}
+use Rattle.bson_bytes.specs.Writing.{HasZeroRegex, ScalarFails, ValueFails, ItemsFail, ElementsFail, DocumentFails}
 use Rattle.bson_bytes.proofs.PartLaws.{no_zero_from, none_from_no_zero}
 
 -- ---- what was put
 
 -- the bytes behind the others, of something that fits; or a cause that it fails for
-abbrev pub Told : List ℕ → Put → List ℕ → Type 0 → (Cause → Type 0) → Type 0
+abbrev pub Told : List ℕ → PutResult → List ℕ → Type 0 → (Cause → Type 0) → Type 0
 Told out (Ok b) bytes fits fails = fits × (b ≡ out ++ bytes)
 Told out (Err c) bytes fits fails = fails c
 
-behind : (out mid : List ℕ) (r : Put) (a b : List ℕ) (p q : Type 0) (g h : Cause → Type 0)
+behind : (out mid : List ℕ) (r : PutResult) (a b : List ℕ) (p q : Type 0) (g h : Cause → Type 0)
     → p × (mid ≡ out ++ a) → Told mid r b q h → Told out r (a ++ b) (p × q) (λ c. g c ⊎ (p × h c))
 behind out mid (Ok e) a b p q g h t u =
     ((t.0, u.0), u.1 ∙ ap (λ (x : List ℕ). x ++ b) t.1 ∙ append_assoc out a b)
 behind out mid (Err c) a b p q g h t u = inr (t.0, u)
 
-told_then : (out : List ℕ) (r : Put) (f : List ℕ → Put) (a b : List ℕ) (p q : Type 0) (g h : Cause → Type 0)
+told_then : (out : List ℕ) (r : PutResult) (f : List ℕ → PutResult) (a b : List ℕ) (p q : Type 0) (g h : Cause → Type 0)
     → Told out r a p g → ((mid : List ℕ) → Told mid (f mid) b q h)
     → Told out (then r f) (a ++ b) (p × q) (λ c. g c ⊎ (p × h c))
 told_then out (Err c) f a b p q g h t u = inl t
@@ -53,20 +53,20 @@ told_if false out bytes c p g h k = k refl
 
 -- ---- parts
 
-told_sized : (n : ℕ) (bytes out : List ℕ) → Told out (put_sized n bytes out) bytes (IsSize n) (λ c. IsLong c n)
+told_sized : (n : ℕ) (bytes out : List ℕ) → Told out (put_if_short n bytes out) bytes (IsLength n) (λ c. IsLengthTooGreat c n)
 told_sized n bytes out =
-    told_if (ltb n (2 ^ 31)) out bytes too_long (IsSize n) (λ c. IsLong c n) (λ e. ltb-true n (2 ^ 31) e)
+    told_if (ltb n (2 ^ 31)) out bytes too_long (IsLength n) (λ c. IsLengthTooGreat c n) (λ e. ltb-true n (2 ^ 31) e)
     (λ e. ltb-false n (2 ^ 31) e)
 
 none_is : (o : Option (List ℕ × List ℕ)) → is_none o ≡ true → o ≡ None
 none_is None e = refl
 none_is (Some x) e = absurd cc
 
-pub free_from : (k : List ℕ) → is_free k ≡ true → NoZero k
-free_from k e = no_zero_from k (none_is (split_zero k) e)
+pub free_from : (k : List ℕ) → has_no_nul k ≡ true → NoZero k
+free_from k e = no_zero_from k (none_is (split_at_nul k) e)
 
-pub not_free : (k : List ℕ) → is_free k ≡ false → NoZero k → ⊥
-not_free k e h = absurd (let n = none_from_no_zero k h in let t : is_free k ≡ true = rw n refl in cc)
+pub not_free : (k : List ℕ) → has_no_nul k ≡ false → NoZero k → ⊥
+not_free k e h = absurd (let n = none_from_no_zero k h in let t : has_no_nul k ≡ true = rw n refl in cc)
 
 both_from : (a b : Bool) → (a && b) ≡ true → (a ≡ true) × (b ≡ true)
 both_from true true e = (refl, refl)
@@ -78,29 +78,29 @@ not_both true true e p q = cc
 not_both true false e p q = cc
 not_both false b e p q = cc
 
-free_is : (k : List ℕ) → NoZero k → is_free k ≡ true
+free_is : (k : List ℕ) → NoZero k → has_no_nul k ≡ true
 free_is k h = rw (none_from_no_zero k h) refl
 
 told_regex : (p o out : List ℕ)
     → Told out (put_regex p o out) (regex_bytes p o) (NoZero p × NoZero o) (λ c. HasZeroRegex c p o)
 told_regex p o out =
-    told_if (is_free p && is_free o) out (regex_bytes p o) zero_in_regex (NoZero p × NoZero o) (λ c. HasZeroRegex c p o)
-    (λ e. let t = both_from (is_free p) (is_free o) e in (free_from p t.0, free_from o t.1))
-    (λ e h. not_both (is_free p) (is_free o) e (free_is p h.0) (free_is o h.1))
+    told_if (has_no_nul p && has_no_nul o) out (regex_bytes p o) zero_in_regex (NoZero p × NoZero o) (λ c. HasZeroRegex c p o)
+    (λ e. let t = both_from (has_no_nul p) (has_no_nul o) e in (free_from p t.0, free_from o t.1))
+    (λ e h. not_both (has_no_nul p) (has_no_nul o) e (free_is p h.0) (free_is o h.1))
 
 told_name : (t : ElementType) (k out : List ℕ)
     → Told out (put_name t k out) (name_bytes t k) (NoZero k) (λ c. HasZeroKey c k)
 told_name t k out =
-    told_if (is_free k) out (name_bytes t k) zero_in_key (NoZero k) (λ c. HasZeroKey c k) (λ e. free_from k e)
+    told_if (has_no_nul k) out (name_bytes t k) zero_in_key (NoZero k) (λ c. HasZeroKey c k) (λ e. free_from k e)
     (λ e h. not_free k e h)
 
-onto_id : (id out : List ℕ) (r : Put) (bytes : List ℕ) (n : ℕ) → Told out r bytes (IsSize n) (λ c. IsLong c n)
-    → Told out (then r (λ a. Ok (a ++ id))) (bytes ++ id) (IsSize n) (λ c. IsLong c n)
+onto_id : (id out : List ℕ) (r : PutResult) (bytes : List ℕ) (n : ℕ) → Told out r bytes (IsLength n) (λ c. IsLengthTooGreat c n)
+    → Told out (then r (λ a. Ok (a ++ id))) (bytes ++ id) (IsLength n) (λ c. IsLengthTooGreat c n)
 onto_id id out (Ok a) bytes n t = (t.0, ap (λ (x : List ℕ). x ++ id) t.1 ∙ append_assoc out bytes id)
 onto_id id out (Err c) bytes n t = t
 
 told_pointer : (s id out : List ℕ)
-    → Told out (put_pointer s id out) (text_bytes s ++ id) (IsSize (length s + 1)) (λ c. IsLong c (length s + 1))
+    → Told out (put_pointer s id out) (text_bytes s ++ id) (IsLength (length s + 1)) (λ c. IsLengthTooGreat c (length s + 1))
 told_pointer s id out = onto_id id out (put_text s out) (text_bytes s) (length s + 1) (told_sized (length s + 1) (text_bytes s) out)
 
 told_scalar : (x : Scalar) (out : List ℕ)
@@ -127,8 +127,8 @@ told_scalar (db_pointer s id) out = told_pointer s id out
 -- ---- lengths that are written behind their parts
 
 -- what the length of four bytes and a body is written as
-sized_is : (out body b : List ℕ) → b ≡ put_room out ++ body
-    → put_length (length out) b ≡ put_sized (4 + length body) (le w32 (4 + length body) ++ body) out
+sized_is : (out body b : List ℕ) → b ≡ put_length_placeholder out ++ body
+    → put_length (length out) b ≡ put_if_short (4 + length body) (little_endian w32 (4 + length body) ++ body) out
 unfolding put_length
 sized_is out body b e =
     let zeros : List ℕ = 0 ∷ 0 ∷ 0 ∷ 0 ∷ [] in
@@ -138,71 +138,71 @@ sized_is out body b e =
     let front : take (length out) b ≡ out =
     ap (take (length out)) all ∙ take_at out (zeros ++ body) (length out) refl in
     let rest : drop (length out + 4) b ≡ body =
-    ap (drop (length out + 4)) e ∙ drop_at (put_room out) body (length out + 4) (length-append out zeros) in
+    ap (drop (length out + 4)) e ∙ drop_at (put_length_placeholder out) body (length out + 4) (length-append out zeros) in
     rw (len, front, rest) refl
 
-with_first : (r : Put) (out bytes : List ℕ) (p q : Type 0) (g h : Cause → Type 0) → p → Told out r bytes q h
+with_first : (r : PutResult) (out bytes : List ℕ) (p q : Type 0) (g h : Cause → Type 0) → p → Told out r bytes q h
     → Told out r bytes (p × q) (λ c. g c ⊎ (p × h c))
 with_first (Ok b) out bytes p q g h x t = ((x, t.0), t.1)
 with_first (Err c) out bytes p q g h x t = inr (x, t)
 
 -- the same as it is told, where the body is what was put behind the four bytes
-told_length : (out : List ℕ) (r : Put) (body : List ℕ) (p : Type 0) (g : Cause → Type 0) → Told (put_room out) r body p g
-    → Told out (then r (put_length (length out))) (le w32 (4 + length body) ++ body) (p × IsSize (4 + length body))
-    (λ c. g c ⊎ (p × IsLong c (4 + length body)))
+told_length : (out : List ℕ) (r : PutResult) (body : List ℕ) (p : Type 0) (g : Cause → Type 0) → Told (put_length_placeholder out) r body p g
+    → Told out (then r (put_length (length out))) (little_endian w32 (4 + length body) ++ body) (p × IsLength (4 + length body))
+    (λ c. g c ⊎ (p × IsLengthTooGreat c (4 + length body)))
 told_length out (Ok b) body p g t =
-    subst (λ (x : Put). Told out x (le w32 (4 + length body) ++ body) (p × IsSize (4 + length body))
-    (λ c. g c ⊎ (p × IsLong c (4 + length body)))) (sym (sized_is out body b t.1))
-    (with_first (put_sized (4 + length body) (le w32 (4 + length body) ++ body) out) out (le w32 (4 + length body) ++ body) p
-    (IsSize (4 + length body)) g (λ c. IsLong c (4 + length body)) t.0
-    (told_sized (4 + length body) (le w32 (4 + length body) ++ body) out))
+    subst (λ (x : PutResult). Told out x (little_endian w32 (4 + length body) ++ body) (p × IsLength (4 + length body))
+    (λ c. g c ⊎ (p × IsLengthTooGreat c (4 + length body)))) (sym (sized_is out body b t.1))
+    (with_first (put_if_short (4 + length body) (little_endian w32 (4 + length body) ++ body) out) out (little_endian w32 (4 + length body) ++ body) p
+    (IsLength (4 + length body)) g (λ c. IsLengthTooGreat c (4 + length body)) t.0
+    (told_sized (4 + length body) (little_endian w32 (4 + length body) ++ body) out))
 told_length out (Err c) body p g t = inl t
 
 -- a list of elements as a document
-told_end : (out : List ℕ) (r : Put) (list : List ℕ) (p : Type 0) (g : Cause → Type 0) → Told (put_room out) r list p g
-    → Told out (then r (put_end (length out))) (framed list) (p × IsSize (length list + 5)) (λ c. g c ⊎ (p × IsLong c (length list + 5)))
+told_end : (out : List ℕ) (r : PutResult) (list : List ℕ) (p : Type 0) (g : Cause → Type 0) → Told (put_length_placeholder out) r list p g
+    → Told out (then r (put_end (length out))) (document_of_elements list) (p × IsLength (length list + 5)) (λ c. g c ⊎ (p × IsLengthTooGreat c (length list + 5)))
 told_end out (Err c) list p g t = inl t
 told_end out (Ok b) list p g t =
     let body = list ++ 0 ∷ [] in
     let size : 4 + length body ≡ length list + 5 = ap (λ (n : ℕ). 4 + n) (length-append list (0 ∷ [])) ∙ omega arith in
-    let ended : b ++ 0 ∷ [] ≡ put_room out ++ body =
-    ap (λ (x : List ℕ). x ++ 0 ∷ []) t.1 ∙ append_assoc (put_room out) list (0 ∷ []) in
-    let whole : Told out (put_end (length out) b) (le w32 (4 + length body) ++ body) (p × IsSize (4 + length body))
-    (λ c. g c ⊎ (p × IsLong c (4 + length body))) =
+    let ended : b ++ 0 ∷ [] ≡ put_length_placeholder out ++ body =
+    ap (λ (x : List ℕ). x ++ 0 ∷ []) t.1 ∙ append_assoc (put_length_placeholder out) list (0 ∷ []) in
+    let whole : Told out (put_end (length out) b) (little_endian w32 (4 + length body) ++ body) (p × IsLength (4 + length body))
+    (λ c. g c ⊎ (p × IsLengthTooGreat c (4 + length body))) =
     told_length out (Ok (b ++ 0 ∷ [])) body p g (t.0, ended) in
-    subst (λ (n : ℕ). Told out (put_end (length out) b) (le w32 n ++ body) (p × IsSize n) (λ c. g c ⊎ (p × IsLong c n))) size whole
+    subst (λ (n : ℕ). Told out (put_end (length out) b) (little_endian w32 n ++ body) (p × IsLength n) (λ c. g c ⊎ (p × IsLengthTooGreat c n))) size whole
 
 -- ---- values
 
-prefixed : (out a : List ℕ) (r : Put) (b : List ℕ) (p : Type 0) (g : Cause → Type 0) → Told (out ++ a) r b p g
+prefixed : (out a : List ℕ) (r : PutResult) (b : List ℕ) (p : Type 0) (g : Cause → Type 0) → Told (out ++ a) r b p g
     → Told out r (a ++ b) p g
 prefixed out a (Ok x) b p g t = (t.0, t.1 ∙ append_assoc out a b)
 prefixed out a (Err c) b p g t = t
 
 told_scope : (s : List ℕ) (ps : Pairs) (out : List ℕ)
-    → ((mid : List ℕ) → Told mid (put_elements ps mid) (list_bytes ps) (FitsList ps) (λ c. ListFails c ps))
+    → ((mid : List ℕ) → Told mid (put_elements ps mid) (elements_bytes ps) (FitsElements ps) (λ c. ElementsFail c ps))
     → Told out (put_value (code_scope s ps) out) (value_bytes (code_scope s ps)) (FitsValue (code_scope s ps))
     (λ c. ValueFails c (code_scope s ps))
 unfolding put_value
 told_scope s ps out h =
-    let bytes = framed (list_bytes ps) in
+    let bytes = document_of_elements (elements_bytes ps) in
     let body = text_bytes s ++ bytes in
     let size : 4 + length body ≡ scope_size s bytes = ap (λ (n : ℕ). 4 + n) (length-append (text_bytes s) bytes) in
-    let put = λ (a : List ℕ). then (put_elements ps (put_room a)) (put_end (length a)) in
-    let fits = IsSize (length s + 1) × (FitsList ps × IsSize (length (list_bytes ps) + 5)) in
-    let inner = λ (c : Cause). ListFails c ps ⊎ (FitsList ps × IsLong c (length (list_bytes ps) + 5)) in
-    let fails = λ (c : Cause). IsLong c (length s + 1) ⊎ (IsSize (length s + 1) × inner c) in
-    let parts : Told (put_room out) (then (put_text s (put_room out)) put) body fits fails =
-    told_then (put_room out) (put_text s (put_room out)) put (text_bytes s) bytes (IsSize (length s + 1))
-    (FitsList ps × IsSize (length (list_bytes ps) + 5)) (λ c. IsLong c (length s + 1))
-    inner (told_sized (length s + 1) (text_bytes s) (put_room out))
-    (λ mid. told_end mid (put_elements ps (put_room mid)) (list_bytes ps) (FitsList ps) (λ c. ListFails c ps)
-    (h (put_room mid))) in
-    let r = then (then (put_text s (put_room out)) put) (put_length (length out)) in
-    let whole : Told out r (le w32 (4 + length body) ++ body) (fits × IsSize (4 + length body))
-    (λ c. fails c ⊎ (fits × IsLong c (4 + length body))) =
-    told_length out (then (put_text s (put_room out)) put) body fits fails parts in
-    subst (λ (n : ℕ). Told out r (le w32 n ++ body) (fits × IsSize n) (λ c. fails c ⊎ (fits × IsLong c n))) size whole
+    let put = λ (a : List ℕ). then (put_elements ps (put_length_placeholder a)) (put_end (length a)) in
+    let fits = IsLength (length s + 1) × (FitsElements ps × IsLength (length (elements_bytes ps) + 5)) in
+    let inner = λ (c : Cause). ElementsFail c ps ⊎ (FitsElements ps × IsLengthTooGreat c (length (elements_bytes ps) + 5)) in
+    let fails = λ (c : Cause). IsLengthTooGreat c (length s + 1) ⊎ (IsLength (length s + 1) × inner c) in
+    let parts : Told (put_length_placeholder out) (then (put_text s (put_length_placeholder out)) put) body fits fails =
+    told_then (put_length_placeholder out) (put_text s (put_length_placeholder out)) put (text_bytes s) bytes (IsLength (length s + 1))
+    (FitsElements ps × IsLength (length (elements_bytes ps) + 5)) (λ c. IsLengthTooGreat c (length s + 1))
+    inner (told_sized (length s + 1) (text_bytes s) (put_length_placeholder out))
+    (λ mid. told_end mid (put_elements ps (put_length_placeholder mid)) (elements_bytes ps) (FitsElements ps) (λ c. ElementsFail c ps)
+    (h (put_length_placeholder mid))) in
+    let r = then (then (put_text s (put_length_placeholder out)) put) (put_length (length out)) in
+    let whole : Told out r (little_endian w32 (4 + length body) ++ body) (fits × IsLength (4 + length body))
+    (λ c. fails c ⊎ (fits × IsLengthTooGreat c (4 + length body))) =
+    told_length out (then (put_text s (put_length_placeholder out)) put) body fits fails parts in
+    subst (λ (n : ℕ). Told out r (little_endian w32 n ++ body) (fits × IsLength n) (λ c. fails c ⊎ (fits × IsLengthTooGreat c n))) size whole
 
 mutual
   unfolding put_value put_items put_elements
@@ -211,49 +211,49 @@ mutual
   told_value (scalar x) out = told_scalar x out
   told_value (code_scope s ps) out = told_scope s ps out (λ mid. told_pairs ps mid)
   told_value (array vs) out =
-      told_end out (put_items 0 vs (put_room out)) (items_bytes 0 vs) (FitsItems vs) (λ c. ItemsFail c vs)
-      (told_items 0 vs (put_room out))
+      told_end out (put_items 0 vs (put_length_placeholder out)) (array_elements_bytes 0 vs) (FitsItems vs) (λ c. ItemsFail c vs)
+      (told_items 0 vs (put_length_placeholder out))
   told_value (document ps) out =
-      told_end out (put_elements ps (put_room out)) (list_bytes ps) (FitsList ps) (λ c. ListFails c ps) (told_pairs ps (put_room out))
+      told_end out (put_elements ps (put_length_placeholder out)) (elements_bytes ps) (FitsElements ps) (λ c. ElementsFail c ps) (told_pairs ps (put_length_placeholder out))
 
   pub told_items : (n : ℕ) (vs : Values) (out : List ℕ)
-      → Told out (put_items n vs out) (items_bytes n vs) (FitsItems vs) (λ c. ItemsFail c vs)
+      → Told out (put_items n vs out) (array_elements_bytes n vs) (FitsItems vs) (λ c. ItemsFail c vs)
   told_items n no_values out = (tt, sym (append-nil out))
   told_items n (value v vs) out =
       let name = name_bytes (type_of v) (decimal n) in
-      prefixed out name (put_items n (value v vs) out) (value_bytes v ++ items_bytes (n + 1) vs) (FitsValue v × FitsItems vs)
+      prefixed out name (put_items n (value v vs) out) (value_bytes v ++ array_elements_bytes (n + 1) vs) (FitsValue v × FitsItems vs)
       (λ c. ValueFails c v ⊎ (FitsValue v × ItemsFail c vs))
-      (told_then (out ++ name) (put_value v (out ++ name)) (λ b. put_items (n + 1) vs b) (value_bytes v) (items_bytes (n + 1) vs)
+      (told_then (out ++ name) (put_value v (out ++ name)) (λ b. put_items (n + 1) vs b) (value_bytes v) (array_elements_bytes (n + 1) vs)
       (FitsValue v) (FitsItems vs) (λ c. ValueFails c v) (λ c. ItemsFail c vs) (told_value v (out ++ name))
       (λ b. told_items (n + 1) vs b))
 
   pub told_pairs : (ps : Pairs) (out : List ℕ)
-      → Told out (put_elements ps out) (list_bytes ps) (FitsList ps) (λ c. ListFails c ps)
+      → Told out (put_elements ps out) (elements_bytes ps) (FitsElements ps) (λ c. ElementsFail c ps)
   told_pairs no_pairs out = (tt, sym (append-nil out))
   told_pairs (pair k v ps) out =
       told_then out (put_name (type_of v) k out) (λ a. then (put_value v a) (λ b. put_elements ps b)) (name_bytes (type_of v) k)
-      (value_bytes v ++ list_bytes ps) (NoZero k) (FitsValue v × FitsList ps) (λ c. HasZeroKey c k)
-      (λ c. ValueFails c v ⊎ (FitsValue v × ListFails c ps)) (told_name (type_of v) k out)
-      (λ mid. told_then mid (put_value v mid) (λ b. put_elements ps b) (value_bytes v) (list_bytes ps) (FitsValue v) (FitsList ps)
-      (λ c. ValueFails c v) (λ c. ListFails c ps) (told_value v mid) (λ b. told_pairs ps b))
+      (value_bytes v ++ elements_bytes ps) (NoZero k) (FitsValue v × FitsElements ps) (λ c. HasZeroKey c k)
+      (λ c. ValueFails c v ⊎ (FitsValue v × ElementsFail c ps)) (told_name (type_of v) k out)
+      (λ mid. told_then mid (put_value v mid) (λ b. put_elements ps b) (value_bytes v) (elements_bytes ps) (FitsValue v) (FitsElements ps)
+      (λ c. ValueFails c v) (λ c. ElementsFail c ps) (told_value v mid) (λ b. told_pairs ps b))
 
 pub told_document : (ps : Pairs) (out : List ℕ)
     → Told out (put_document ps out) (document_bytes ps) (FitsDocument ps) (λ c. DocumentFails c ps)
 told_document ps out =
-    told_end out (put_elements ps (put_room out)) (list_bytes ps) (FitsList ps) (λ c. ListFails c ps) (told_pairs ps (put_room out))
+    told_end out (put_elements ps (put_length_placeholder out)) (elements_bytes ps) (FitsElements ps) (λ c. ElementsFail c ps) (told_pairs ps (put_length_placeholder out))
 
 pub told_ok : (ps : Pairs) (new : List ℕ) → put_document ps [] ≡ Ok new → FitsDocument ps × (new ≡ document_bytes ps)
 told_ok ps new h =
-    subst (λ (r : Put). Told [] r (document_bytes ps) (FitsDocument ps) (λ c. DocumentFails c ps)) h (told_document ps [])
+    subst (λ (r : PutResult). Told [] r (document_bytes ps) (FitsDocument ps) (λ c. DocumentFails c ps)) h (told_document ps [])
 
 pub told_err : (ps : Pairs) (c : Cause) → put_document ps [] ≡ Err c → DocumentFails c ps
 told_err ps c h =
-    subst (λ (r : Put). Told [] r (document_bytes ps) (FitsDocument ps) (λ c. DocumentFails c ps)) h (told_document ps [])
+    subst (λ (r : PutResult). Told [] r (document_bytes ps) (FitsDocument ps) (λ c. DocumentFails c ps)) h (told_document ps [])
 
 -- ---- what fits has no cause
 
-pub long_is : (c : Cause) (n : ℕ) → IsSize n → IsLong c n → ⊥
-long_is too_long n lt le = omega (arith, lt, le)
+pub long_is : (c : Cause) (n : ℕ) → IsLength n → IsLengthTooGreat c n → ⊥
+long_is too_long n lt little_endian = omega (arith, lt, little_endian)
 long_is zero_in_key n lt h = h
 long_is zero_in_regex n lt h = h
 
@@ -296,21 +296,21 @@ mutual
   value_fits (scalar x) c f h = scalar_fits x c f h
   value_fits (code_scope s ps) c f h =
       either (either (λ l. long_is c (length s + 1) f.0.0 l) (λ m.
-      either (λ l. list_fits ps c f.0.1.0 l) (λ l. long_is c (length (list_bytes ps) + 5) f.0.1.1 l.1) m.1))
-      (λ l. long_is c (scope_size s (framed (list_bytes ps))) f.1 l.1) h
+      either (λ l. list_fits ps c f.0.1.0 l) (λ l. long_is c (length (elements_bytes ps) + 5) f.0.1.1 l.1) m.1))
+      (λ l. long_is c (scope_size s (document_of_elements (elements_bytes ps))) f.1 l.1) h
   value_fits (array vs) c f h =
-      either (λ l. items_fit vs c f.0 l) (λ l. long_is c (length (items_bytes 0 vs) + 5) f.1 l.1) h
+      either (λ l. items_fit vs c f.0 l) (λ l. long_is c (length (array_elements_bytes 0 vs) + 5) f.1 l.1) h
   value_fits (document ps) c f h =
-      either (λ l. list_fits ps c f.0 l) (λ l. long_is c (length (list_bytes ps) + 5) f.1 l.1) h
+      either (λ l. list_fits ps c f.0 l) (λ l. long_is c (length (elements_bytes ps) + 5) f.1 l.1) h
 
   pub items_fit : (vs : Values) (c : Cause) → FitsItems vs → ItemsFail c vs → ⊥
   items_fit no_values c f h = h
   items_fit (value v vs) c f h = either (λ l. value_fits v c f.0 l) (λ l. items_fit vs c f.1 l.1) h
 
-  pub list_fits : (ps : Pairs) (c : Cause) → FitsList ps → ListFails c ps → ⊥
+  pub list_fits : (ps : Pairs) (c : Cause) → FitsElements ps → ElementsFail c ps → ⊥
   list_fits no_pairs c f h = h
   list_fits (pair k v ps) c f h =
       either (λ l. key_is c k f.0 l) (λ m. either (λ l. value_fits v c f.1.0 l) (λ l. list_fits ps c f.1.1 l.1) m.1) h
 
 pub document_fits : (ps : Pairs) (c : Cause) → FitsDocument ps → DocumentFails c ps → ⊥
-document_fits ps c f h = either (λ l. list_fits ps c f.0 l) (λ l. long_is c (length (list_bytes ps) + 5) f.1 l.1) h
+document_fits ps c f h = either (λ l. list_fits ps c f.0 l) (λ l. long_is c (length (elements_bytes ps) + 5) f.1 l.1) h

@@ -25,19 +25,19 @@ use Rattle.bson_model.specs.Value.{pair_keys, Value, Pairs, no_pairs, pair, docu
 use Rattle.bson_model.specs.Writing.{with_scope}
 use Rattle.bson_model.specs.DistinctKeys.{PairKeysDistinct, ItemKeysDistinct}
 use Rattle.bson_model.specs.OrderedWriting.{values_in_order, pairs_in_order}
-use Rattle.bson_bytes.specs.Grammar.{pair_values, one_each}
+use Rattle.bson_bytes.specs.Grammar.{pair_values, deduplicated}
 use Rattle.bson_scalar.specs.KeyHash.{key_hash}
-use Rattle.bson_bytes.specs.TextWritten.{Sent, TreeOf, ValueSent, PairsSent, MembersOf, ItemsOf, items_in_turn, ArrayBegun}
-use Rattle.bson_bytes.specs.TextWritten.{DocumentBegun, Begun, Named, Coded}
+use Rattle.bson_bytes.specs.TextSinkStates.{TextTokensAdded, IsWrittenTree, TextValueWritten, TextDocumentWritten, AreWrittenMembers, AreWrittenItems, array_items_tokens, TextArrayOpened}
+use Rattle.bson_bytes.specs.TextSinkStates.{TextDocumentOpened, TextListOpened, TextNameWritten, TextCodeOpened}
 use Rattle.bson_bytes.specs.Source.{with_pair}
-use Rattle.bson_bytes.specs.declared.text.TextSink.{TextSink}
+use Rattle.bson_bytes.specs.declared.text_sink.TextSink.{TextSink}
 use Rattle.bson_bytes.proofs.Apart.{Apart, has_none, one_each_is}
 
 abbrev pub with_out : TextSink → Writer Global → TextSink
 with_out w out = record { alloc = w.alloc; form = w.form; out = out; key_hashes = w.key_hashes }
 
 -- tokens and then others
-joined : (a b c : TextSink) (xs ys : List Token) → Sent a xs b → Sent b ys c → Sent a (xs ++ ys) c
+joined : (a b c : TextSink) (xs ys : List Token) → TextTokensAdded a xs b → TextTokensAdded b ys c → TextTokensAdded a (xs ++ ys) c
 joined a b c xs ys (f, w, d, is) (g, x, e, more) =
     (g ∙ f, x ∙ w, e ∙ d, more ∙ ap (λ ts. ts ++ ys) is ∙ append_assoc a.out.tokens xs ys)
 
@@ -47,36 +47,36 @@ abbrev item_last : Items → Data → Items
 item_last no_items d = item d no_items
 item_last (item e ds) d = item e (item_last ds d)
 
-items_snoc : (us : Items) (d : Data) → items_in_turn (item_last us d) ≡ items_in_turn us ++ tokens_of d
+items_snoc : (us : Items) (d : Data) → array_items_tokens (item_last us d) ≡ array_items_tokens us ++ tokens_of d
 items_snoc no_items d = append-nil (tokens_of d)
 items_snoc (item e ds) d =
-    ap (λ x. tokens_of e ++ x) (items_snoc ds d) ∙ sym (append_assoc (tokens_of e) (items_in_turn ds) (tokens_of d))
+    ap (λ x. tokens_of e ++ x) (items_snoc ds d) ∙ sym (append_assoc (tokens_of e) (array_items_tokens ds) (tokens_of d))
 
-items_more : (f : Form) (ps : Pairs) (us : Items) (k : List ℕ) (v : Value) (d : Data) → ItemsOf f ps us → TreeOf f v d
-    → ItemsOf f (with_pair ps k v) (item_last us d)
+items_more : (f : Form) (ps : Pairs) (us : Items) (k : List ℕ) (v : Value) (d : Data) → AreWrittenItems f ps us → IsWrittenTree f v d
+    → AreWrittenItems f (with_pair ps k v) (item_last us d)
 items_more f no_pairs us k v d h t = (d, no_items, ap (λ x. item_last x d) h, t, refl)
 items_more f (pair l w ps) us k v d (e, ms, is, tree, rest) t =
     (e, item_last ms d, ap (λ x. item_last x d) is, tree, items_more f ps ms k v d rest t)
 
-items_are : (f : Form) (ps : Pairs) (us : Items) → ItemsOf f ps us
+items_are : (f : Form) (ps : Pairs) (us : Items) → AreWrittenItems f ps us
     → (values_in_order Finite f (pair_values ps) ≡ Ok us) × ItemsInRange (pair_values ps) × ItemKeysDistinct (pair_values ps)
 items_are f no_pairs us h = (ap Ok (sym h), tt, tt)
 items_are f (pair k v ps) us (d, ms, is, (w, r, a), rest) =
     let g = items_are f ps ms rest in (rw (w, g.0) (ap Ok (sym is)), (r, g.1), (a, g.2))
 
-items_end : (us : Items) → items_in_turn us ++ token.end_array ∷ [] ≡ items_tokens (json_of_items us)
+items_end : (us : Items) → array_items_tokens us ++ token.end_array ∷ [] ≡ items_tokens (json_of_items us)
 items_end no_items = refl
 items_end (item d ds) =
-    append_assoc (tokens_of d) (items_in_turn ds) (token.end_array ∷ []) ∙ ap (λ x. tokens_of d ++ x) (items_end ds)
+    append_assoc (tokens_of d) (array_items_tokens ds) (token.end_array ∷ []) ∙ ap (λ x. tokens_of d ++ x) (items_end ds)
 
-pub array_given : (ps : Pairs) (start now new : TextSink) → ArrayBegun start ps now → Sent now (token.end_array ∷ []) new
-    → ValueSent start (model.array (pair_values ps)) new
+pub array_given : (ps : Pairs) (start now new : TextSink) → TextArrayOpened start ps now → TextTokensAdded now (token.end_array ∷ []) new
+    → TextValueWritten start (model.array (pair_values ps)) new
 array_given ps start now new (us, are, sent) ended =
     let g = items_are start.form ps us are in (
       array us,
       (rw g.0 refl, g.1, g.2),
-      subst (λ ts. Sent start (token.begin_array ∷ ts) new) (items_end us)
-          (joined start now new (token.begin_array ∷ items_in_turn us) (token.end_array ∷ []) sent ended),
+      subst (λ ts. TextTokensAdded start (token.begin_array ∷ ts) new) (items_end us)
+          (joined start now new (token.begin_array ∷ array_items_tokens us) (token.end_array ∷ []) sent ended),
     )
 
 -- ---- documents
@@ -85,13 +85,13 @@ keys_more : (ps : Pairs) (k : List ℕ) (v : Value) → pair_keys (with_pair ps 
 keys_more no_pairs k v = refl
 keys_more (pair l w ps) k v = ap (λ ks. l ∷ ks) (keys_more ps k v)
 
-members_more : (f : Form) (ps : Pairs) (us : Members) (k : List ℕ) (v : Value) (d : Data) → MembersOf f ps us
-    → TreeOf f v d → MembersOf f (with_pair ps k v) (with_last_member us k d)
+members_more : (f : Form) (ps : Pairs) (us : Members) (k : List ℕ) (v : Value) (d : Data) → AreWrittenMembers f ps us
+    → IsWrittenTree f v d → AreWrittenMembers f (with_pair ps k v) (with_last_member us k d)
 members_more f no_pairs us k v d h t = (d, no_members, ap (λ x. with_last_member x k d) h, t, refl)
 members_more f (pair l w ps) us k v d (e, ms, is, tree, rest) t =
     (e, with_last_member ms k d, ap (λ x. with_last_member x k d) is, tree, members_more f ps ms k v d rest t)
 
-members_are : (f : Form) (ps : Pairs) (us : Members) → MembersOf f ps us → Apart (map key_hash (pair_keys ps))
+members_are : (f : Form) (ps : Pairs) (us : Members) → AreWrittenMembers f ps us → Apart (map key_hash (pair_keys ps))
     → (pairs_in_order Finite f ps ≡ Ok us) × PairsInRange ps × PairKeysDistinct ps
 members_are f no_pairs us h apart = (ap Ok (sym h), tt, tt)
 members_are f (pair k v ps) us (d, ms, is, (w, r, a), rest) apart =
@@ -127,10 +127,10 @@ maps_join [] ls = refl
 maps_join (k ∷ ks) ls = ap (λ ds. key_hash k ∷ ds) (maps_join ks ls)
 
 pub element_given : (b : Bool) (start before mid now : TextSink) (ps : Pairs) (k : List ℕ) (v : Value) (o : ℕ)
-    → Begun b start ps o before → Named b before k mid → ValueSent mid v now → Begun b start (with_pair ps k v) o now
+    → TextListOpened b start ps o before → TextNameWritten b before k mid → TextValueWritten mid v now → TextListOpened b start (with_pair ps k v) o now
 element_given true start before mid now ps k v o (us, are, at, (f, w, ds, is)) (g, x, es, js) (u, tree, (h, y, e, more)) = (
   with_last_member us k u,
-  members_more start.form ps us k v u are (subst (λ m. TreeOf m v u) (g ∙ f) tree),
+  members_more start.form ps us k v u are (subst (λ m. IsWrittenTree m v u) (g ∙ f) tree),
   at,
   (
     h ∙ g ∙ f,
@@ -143,20 +143,20 @@ element_given true start before mid now ps k v o (us, are, at, (f, w, ds, is)) (
   ),
 )
 element_given false start before mid now ps k v o (us, are, (f, w, ds, is)) (g, x, es, js) (u, tree, sent) =
-    let same : Sent start (token.begin_array ∷ items_in_turn us) mid =
+    let same : TextTokensAdded start (token.begin_array ∷ array_items_tokens us) mid =
     (g ∙ f, x ∙ w, es ∙ ds, js ∙ append-nil before.out.tokens ∙ is) in (
       item_last us u,
-      items_more start.form ps us k v u are (subst (λ m. TreeOf m v u) (g ∙ f) tree),
-      subst (λ ts. Sent start (token.begin_array ∷ ts) now) (sym (items_snoc us u))
-          (joined start mid now (token.begin_array ∷ items_in_turn us) (tokens_of u) same sent),
+      items_more start.form ps us k v u are (subst (λ m. IsWrittenTree m v u) (g ∙ f) tree),
+      subst (λ ts. TextTokensAdded start (token.begin_array ∷ ts) now) (sym (items_snoc us u))
+          (joined start mid now (token.begin_array ∷ array_items_tokens us) (tokens_of u) same sent),
     )
 
-pub document_given : (ps : Pairs) (start now new : TextSink) (o : ℕ) → DocumentBegun start ps o now
+pub document_given : (ps : Pairs) (start now new : TextSink) (o : ℕ) → TextDocumentOpened start ps o now
     → Apart (map key_hash (pair_keys ps)) → new.form ≡ now.form → new.out.before ≡ now.out.before
     → new.key_hashes.items ≡ start.key_hashes.items → new.out.tokens ≡ now.out.tokens ++ token.end_object ∷ []
-    → PairsSent start (one_each ps) new
+    → TextDocumentWritten start (deduplicated ps) new
 document_given ps start now new o (us, are, at, (f, w, ds, is)) apart g x e more =
-    subst (λ qs. PairsSent start qs new) (sym (one_each_is ps apart)) (
+    subst (λ qs. TextDocumentWritten start qs new) (sym (one_each_is ps apart)) (
       us,
       members_are start.form ps us are apart,
       (
@@ -168,11 +168,11 @@ document_given ps start now new o (us, are, at, (f, w, ds, is)) apart g x e more
       ),
     )
 
-pub embedded : (ps : Pairs) (old new : TextSink) → PairsSent old ps new → ValueSent old (document ps) new
+pub embedded : (ps : Pairs) (old new : TextSink) → TextDocumentWritten old ps new → TextValueWritten old (document ps) new
 embedded ps old new (us, (w, r, a), sent) = (object us, (rw w refl, r, a), sent)
 
-pub code_given : (s : List ℕ) (ps : Pairs) (start mid now new : TextSink) → Coded start s mid → PairsSent mid ps now
-    → Sent now (token.end_object ∷ []) new → ValueSent start (code_scope s ps) new
+pub code_given : (s : List ℕ) (ps : Pairs) (start mid now new : TextSink) → TextCodeOpened start s mid → TextDocumentWritten mid ps now
+    → TextTokensAdded now (token.end_object ∷ []) new → TextValueWritten start (code_scope s ps) new
 code_given s ps start mid now new (f, x, d, is) (us, (w, r, a), sent) ended = (
   with_scope s us,
   (rw (subst (λ h. pairs_in_order Finite h ps ≡ Ok us) f w) refl, r, a),

@@ -4,7 +4,7 @@ use Rattle.std.proofs.Common.{length, drop, take, Option, Some, None, Result, Ok
 use Rattle.std.specs.Prelude.{option_map, option_and_then}
 use Rattle.std.specs.Str.{is_utf8}
 use Rattle.std.specs.Int.{Width, w32, w64, byte_len, from_le_bytes, cast_signed}
-use Rattle.std.proofs.lemmas.Bool.{ltb-false, le-ltb, eqb-true, eqb-false}
+use Rattle.std.proofs.lemmas.Bool.{ltb-false, little_endian-ltb, eqb-true, eqb-false}
 use Rattle.std.proofs.lemmas.List.{drop-drop, length-drop}
 use Rattle.bson_types.specs.declared.spec.ElementType.{ElementType}
 use Rattle.bson_types.specs.declared.spec.ElementType.TheVariants as tag
@@ -14,12 +14,12 @@ use Rattle.bson_model.specs.Value.{Value, Pairs, no_pairs, scalar, code_scope, a
 use Rattle.bson_bytes.specs.declared.fault.Fault.{Fault}
 use Rattle.bson_bytes.specs.declared.fault.FaultKind.{FaultKind}
 use Rattle.bson_bytes.specs.declared.fault.FaultKind.TheVariants.{Short, Length, Utf8, Boolean}
-use Rattle.bson_bytes.specs.declared.keys.DuplicateKeys.TheVariants.{Replace}
-use Rattle.bson_bytes.specs.Fault.{at, ◌>>=◌, or_fault}
-use Rattle.bson_bytes.specs.Grammar.{pair_values, settle}
-use Rattle.bson_bytes.specs.Reading.{byte_at, bytes_at, number_at, size_at, zero_at, split_zero, with_byte_before, utf8_at, name_at}
-use Rattle.bson_bytes.specs.Reading.{text_at, old_binary_at, plain_binary_at, binary_at, boolean_at, regex_at, pointer_at}
-use Rattle.bson_bytes.specs.Reading.{timestamp_at, mapped, settled, scope_at, value_with, document_in}
+use Rattle.bson_bytes.specs.declared.duplicate_keys.DuplicateKeys.TheVariants.{Replace}
+use Rattle.bson_bytes.specs.Fault.{at, ◌>>=◌, or_error}
+use Rattle.bson_bytes.specs.Grammar.{pair_values, insert_pairs}
+use Rattle.bson_bytes.specs.Reading.{read_byte, read_bytes, read_integer, read_length, read_nul, split_at_nul, prepend_byte, check_utf8, read_name}
+use Rattle.bson_bytes.specs.Reading.{read_string, read_old_binary, read_plain_binary, read_binary, read_boolean, read_regex, read_pointer}
+use Rattle.bson_bytes.specs.Reading.{read_timestamp, map_pairs_read, insert_pairs_read, read_code_with_scope, read_value_in, read_document_in}
 use Rattle.bson_bytes.specs.Skip.{skip, length_at, skip_sized, skip_regex, skip_value}
 
 -- ---- steps
@@ -45,7 +45,7 @@ pub if_ok : {A : Type 0} (b : Bool) (r : Result A Fault) (d : Fault) (y : A) →
 if_ok true r d y e = (refl, e)
 if_ok false r d y e = absurd cc
 
-pub or_fault_ok : {A : Type 0} (o : Option A) (w : FaultKind) (bytes : List ℕ) (x : A) → or_fault o w bytes ≡ Ok x
+pub or_fault_ok : {A : Type 0} (o : Option A) (w : FaultKind) (bytes : List ℕ) (x : A) → or_error o w bytes ≡ Ok x
     → o ≡ Some x
 or_fault_ok (Some y) w bytes x e = ap Some (ok_is y x e)
 or_fault_ok None w bytes x e = absurd cc
@@ -78,22 +78,22 @@ follows_then n m a b c h g =
     (g.0 ∙ ap (drop m) h.0 ∙ drop-drop m n a, omega (arith, h.1, g.1, follows_length n a b h))
 
 skip_follows : (n : ℕ) (bytes rest : List ℕ) → Follows n bytes rest → skip n bytes ≡ Some rest
-skip_follows n bytes rest h = rw (le-ltb (length bytes) n h.1, h.0) refl
+skip_follows n bytes rest h = rw (little_endian-ltb (length bytes) n h.1, h.0) refl
 
-pub byte_follows : (bytes : List ℕ) (b : ℕ) (rest : List ℕ) → byte_at bytes ≡ Ok (b, rest) → Follows 1 bytes rest
+pub byte_follows : (bytes : List ℕ) (b : ℕ) (rest : List ℕ) → read_byte bytes ≡ Ok (b, rest) → Follows 1 bytes rest
 byte_follows [] b rest e = absurd cc
 byte_follows (c ∷ bytes) b rest e = (sym (rest_is c bytes b rest e), omega arith)
 
-zero_follows : (bytes rest : List ℕ) → zero_at bytes ≡ Ok rest → Follows 1 bytes rest
+zero_follows : (bytes rest : List ℕ) → read_nul bytes ≡ Ok rest → Follows 1 bytes rest
 zero_follows [] rest e = absurd cc
 zero_follows (b ∷ bytes) rest e = (sym (ok_is bytes rest (if_ok (eqb b 0) (Ok bytes) _ rest e).1), omega arith)
 
-bytes_follow : (n : ℕ) (bytes s rest : List ℕ) → bytes_at n bytes ≡ Ok (s, rest) → Follows n bytes rest
+bytes_follow : (n : ℕ) (bytes s rest : List ℕ) → read_bytes n bytes ≡ Ok (s, rest) → Follows n bytes rest
 bytes_follow n bytes s rest e =
     let g = unless_ok (ltb (length bytes) n) (at Short bytes) (Ok (take n bytes, drop n bytes)) (s, rest) e in
     (sym (rest_is (take n bytes) (drop n bytes) s rest g.1), ltb-false _ _ g.0)
 
-number_follows : (w : Width) (bytes : List ℕ) (n : ℕ) (rest : List ℕ) → number_at w bytes ≡ Ok (n, rest)
+number_follows : (w : Width) (bytes : List ℕ) (n : ℕ) (rest : List ℕ) → read_integer w bytes ≡ Ok (n, rest)
     → Follows (byte_len w) bytes rest
 number_follows w bytes n rest e =
     let read = from_le_bytes w (take (byte_len w) bytes) in
@@ -101,13 +101,13 @@ number_follows w bytes n rest e =
     (sym (rest_is read (drop (byte_len w) bytes) n rest g.1), ltb-false _ _ g.0)
 
 -- the length that was read
-pub size_follows : (bytes : List ℕ) (n : ℕ) (rest : List ℕ) → size_at bytes ≡ Ok (n, rest)
+pub size_follows : (bytes : List ℕ) (n : ℕ) (rest : List ℕ) → read_length bytes ≡ Ok (n, rest)
     → (length_at bytes ≡ Some n) × Follows 4 bytes rest
-unfolding size_at
+unfolding read_length
 size_follows bytes n rest e =
-    let b = bind_ok (number_at w32 bytes) (λ n. cond (ltb n.0 (2 ^ 31)) (Ok n) (Err (at Length bytes))) (n, rest) e in
+    let b = bind_ok (read_integer w32 bytes) (λ n. cond (ltb n.0 (2 ^ 31)) (Ok n) (Err (at Length bytes))) (n, rest) e in
     let same = ok_is b.0 (n, rest) (if_ok (ltb b.0.0 (2 ^ 31)) (Ok b.0) (at Length bytes) (n, rest) b.2).1 in
-    let read : number_at w32 bytes ≡ Ok (n, rest) = b.1 ∙ ap Ok same in
+    let read : read_integer w32 bytes ≡ Ok (n, rest) = b.1 ∙ ap Ok same in
     let first = from_le_bytes w32 (take 4 bytes) in
     let g = unless_ok (ltb (length bytes) 4) (at Short bytes) (Ok (first, drop 4 bytes)) (n, rest) read in
     let n-is : first ≡ n = first_is first (drop 4 bytes) n rest g.1 in
@@ -127,7 +127,7 @@ pub lookahead_then : (n : ℕ) (a b c : List ℕ) → Follows n a b → Lookahea
 lookahead_then n a b c h g = (n + g.0, follows_then n g.0 a b c h g.1)
 
 split_more : (b : ℕ) (bytes k rest : List ℕ) (o : Option (List ℕ × List ℕ))
-    → ((j r : List ℕ) → o ≡ Some (j, r) → Follows (length j + 1) bytes r) → option_map (with_byte_before b) o ≡ Some (k, rest)
+    → ((j r : List ℕ) → o ≡ Some (j, r) → Follows (length j + 1) bytes r) → option_map (prepend_byte b) o ≡ Some (k, rest)
     → Follows (length k + 1) (b ∷ bytes) rest
 split_more b bytes k rest None f e = absurd cc
 split_more b bytes k rest (Some p) f e =
@@ -137,32 +137,32 @@ split_more b bytes k rest (Some p) f e =
     (follows_then 1 (length p.0 + 1) (b ∷ bytes) bytes p.1 (refl, omega arith) (f p.0 p.1 refl)))
 
 split_if : (z : Bool) (b : ℕ) (bytes k rest : List ℕ)
-    → ((j r : List ℕ) → split_zero bytes ≡ Some (j, r) → Follows (length j + 1) bytes r)
-    → cond z (Some ([], bytes)) (option_map (with_byte_before b) (split_zero bytes)) ≡ Some (k, rest) → Follows (length k + 1) (b ∷ bytes) rest
+    → ((j r : List ℕ) → split_at_nul bytes ≡ Some (j, r) → Follows (length j + 1) bytes r)
+    → cond z (Some ([], bytes)) (option_map (prepend_byte b) (split_at_nul bytes)) ≡ Some (k, rest) → Follows (length k + 1) (b ∷ bytes) rest
 split_if true b bytes k rest f e =
     let same : ◌≡◌ {A = List ℕ × List ℕ} ([], bytes) (k, rest) = cc in
     subst (λ (q : List ℕ × List ℕ). Follows (length q.0 + 1) (b ∷ bytes) q.1) same (refl, omega arith)
-split_if false b bytes k rest f e = split_more b bytes k rest (split_zero bytes) f e
+split_if false b bytes k rest f e = split_more b bytes k rest (split_at_nul bytes) f e
 
 -- the bytes after the 0 that ends a name
-pub split_follows : (bytes k rest : List ℕ) → split_zero bytes ≡ Some (k, rest) → Follows (length k + 1) bytes rest
+pub split_follows : (bytes k rest : List ℕ) → split_at_nul bytes ≡ Some (k, rest) → Follows (length k + 1) bytes rest
 split_follows [] k rest e = absurd cc
 split_follows (b ∷ bytes) k rest e = split_if (eqb b 0) b bytes k rest (λ j r h. split_follows bytes j r h) e
 
-pub split_lookahead : (bytes k rest : List ℕ) → split_zero bytes ≡ Some (k, rest) → Lookahead bytes rest
+pub split_lookahead : (bytes k rest : List ℕ) → split_at_nul bytes ≡ Some (k, rest) → Lookahead bytes rest
 split_lookahead bytes k rest e = (length k + 1, split_follows bytes k rest e)
 
 -- a name is the bytes before the first 0, and UTF-8
-pub name_split : (bytes k rest : List ℕ) → name_at bytes ≡ Ok (k, rest)
-    → (split_zero bytes ≡ Some (k, rest)) × (is_utf8 k ≡ true) × Lookahead bytes rest
-unfolding name_at
+pub name_split : (bytes k rest : List ℕ) → read_name bytes ≡ Ok (k, rest)
+    → (split_at_nul bytes ≡ Some (k, rest)) × (is_utf8 k ≡ true) × Lookahead bytes rest
+unfolding read_name
 name_split bytes k rest e =
-    let b = bind_ok (or_fault (split_zero bytes) Short bytes) (λ p. utf8_at p.0 bytes >>= λ s. Ok (s, p.1)) (k, rest) e in
-    let c = bind_ok (utf8_at b.0.0 bytes) (λ s. Ok (s, b.0.1)) (k, rest) b.2 in
+    let b = bind_ok (or_error (split_at_nul bytes) Short bytes) (λ p. check_utf8 p.0 bytes >>= λ s. Ok (s, p.1)) (k, rest) e in
+    let c = bind_ok (check_utf8 b.0.0 bytes) (λ s. Ok (s, b.0.1)) (k, rest) b.2 in
     let u = if_ok (is_utf8 b.0.0) (Ok b.0.0) (at Utf8 bytes) c.0 c.1 in
     let same : ◌≡◌ {A = List ℕ × List ℕ} b.0 (k, rest) =
     ap (λ (s : List ℕ). (s, b.0.1)) (ok_is b.0.0 c.0 u.1) ∙ ok_is (c.0, b.0.1) (k, rest) c.2 in
-    let split : split_zero bytes ≡ Some (k, rest) = or_fault_ok (split_zero bytes) Short bytes b.0 b.1 ∙ ap Some same in
+    let split : split_at_nul bytes ≡ Some (k, rest) = or_fault_ok (split_at_nul bytes) Short bytes b.0 b.1 ∙ ap Some same in
     (split, subst (λ (q : List ℕ × List ℕ). is_utf8 q.0 ≡ true) same u.0, split_lookahead bytes k rest split)
 
 -- where a value ends, and that its length says so
@@ -188,15 +188,15 @@ one_less : (n : ℕ) → (n ≡ 0 → ⊥) → 4 + (n - 1 + 1) ≡ n + 4
 one_less zero h = absurd (h refl)
 one_less (suc n) h = omega arith
 
-pub text_sized : (bytes s rest : List ℕ) → text_at bytes ≡ Ok (s, rest) → Sized 4 bytes rest
-unfolding text_at
+pub text_sized : (bytes s rest : List ℕ) → read_string bytes ≡ Ok (s, rest) → Sized 4 bytes rest
+unfolding read_string
 text_sized bytes s rest e =
-    let b = bind_ok (size_at bytes) (λ n. cond (eqb n.0 0) (Err (at Length bytes)) (bytes_at (n.0 - 1) n.1 >>= λ s. zero_at s.1 >>= λ rest. utf8_at s.0 n.1 >>= λ t. Ok (t, rest))) (s, rest) e in
+    let b = bind_ok (read_length bytes) (λ n. cond (eqb n.0 0) (Err (at Length bytes)) (read_bytes (n.0 - 1) n.1 >>= λ s. read_nul s.1 >>= λ rest. check_utf8 s.0 n.1 >>= λ t. Ok (t, rest))) (s, rest) e in
     let n = b.0 in
-    let g = unless_ok (eqb n.0 0) (at Length bytes) (bytes_at (n.0 - 1) n.1 >>= λ s. zero_at s.1 >>= λ rest. utf8_at s.0 n.1 >>= λ t. Ok (t, rest)) (s, rest) b.2 in
-    let c = bind_ok (bytes_at (n.0 - 1) n.1) (λ s. zero_at s.1 >>= λ rest. utf8_at s.0 n.1 >>= λ t. Ok (t, rest)) (s, rest) g.1 in
-    let d = bind_ok (zero_at c.0.1) (λ rest. utf8_at c.0.0 n.1 >>= λ t. Ok (t, rest)) (s, rest) c.2 in
-    let u = bind_ok (utf8_at c.0.0 n.1) (λ t. Ok (t, d.0)) (s, rest) d.2 in
+    let g = unless_ok (eqb n.0 0) (at Length bytes) (read_bytes (n.0 - 1) n.1 >>= λ s. read_nul s.1 >>= λ rest. check_utf8 s.0 n.1 >>= λ t. Ok (t, rest)) (s, rest) b.2 in
+    let c = bind_ok (read_bytes (n.0 - 1) n.1) (λ s. read_nul s.1 >>= λ rest. check_utf8 s.0 n.1 >>= λ t. Ok (t, rest)) (s, rest) g.1 in
+    let d = bind_ok (read_nul c.0.1) (λ rest. check_utf8 c.0.0 n.1 >>= λ t. Ok (t, rest)) (s, rest) c.2 in
+    let u = bind_ok (check_utf8 c.0.0 n.1) (λ t. Ok (t, d.0)) (s, rest) d.2 in
     let size = size_follows bytes n.0 n.1 b.1 in
     let text = bytes_follow (n.0 - 1) n.1 c.0.0 c.0.1 c.1 in
     let end : Follows 1 c.0.1 rest = subst (Follows 1 c.0.1) (rest_is u.0 d.0 s rest u.2) (zero_follows c.0.1 d.0 d.1) in
@@ -204,43 +204,43 @@ text_sized bytes s rest e =
     (n.0, size.0, subst (λ (k : ℕ). Follows k bytes rest) (one_less n.0 (eqb-false n.0 0 g.0)) whole)
 
 text_skips : (f : List ℕ → Value) (bytes : List ℕ) (v : Value) (rest : List ℕ)
-    → made f (text_at bytes) ≡ Ok (v, rest) → (skip_sized 4 bytes ≡ Some rest) × Lookahead bytes rest
+    → made f (read_string bytes) ≡ Ok (v, rest) → (skip_sized 4 bytes ≡ Some rest) × Lookahead bytes rest
 text_skips f bytes v rest e =
-    let s = stepped f (text_at bytes) v rest e in
+    let s = stepped f (read_string bytes) v rest e in
     sized_skips 4 bytes rest (text_sized bytes s.0 rest s.1)
 
 -- ---- other scalars
 
 number_skips : (w : Width) (f : ℕ → Value) (bytes : List ℕ) (v : Value) (rest : List ℕ)
-    → made f (number_at w bytes) ≡ Ok (v, rest) → (skip (byte_len w) bytes ≡ Some rest) × Lookahead bytes rest
+    → made f (read_integer w bytes) ≡ Ok (v, rest) → (skip (byte_len w) bytes ≡ Some rest) × Lookahead bytes rest
 number_skips w f bytes v rest e =
-    let n = stepped f (number_at w bytes) v rest e in
+    let n = stepped f (read_integer w bytes) v rest e in
     fixed_skips (byte_len w) bytes rest (number_follows w bytes n.0 rest n.1)
 
 bytes_skip : (n : ℕ) (f : List ℕ → Value) (bytes : List ℕ) (v : Value) (rest : List ℕ)
-    → made f (bytes_at n bytes) ≡ Ok (v, rest) → (skip n bytes ≡ Some rest) × Lookahead bytes rest
+    → made f (read_bytes n bytes) ≡ Ok (v, rest) → (skip n bytes ≡ Some rest) × Lookahead bytes rest
 bytes_skip n f bytes v rest e =
-    let s = stepped f (bytes_at n bytes) v rest e in
+    let s = stepped f (read_bytes n bytes) v rest e in
     fixed_skips n bytes rest (bytes_follow n bytes s.0 rest s.1)
 
 binary_by : (old : Bool) (b n : ℕ) (bytes : List ℕ) (v : Value) (rest : List ℕ)
-    → cond old (old_binary_at n bytes) (plain_binary_at b n bytes) ≡ Ok (v, rest) → Follows n bytes rest
+    → cond old (read_old_binary n bytes) (read_plain_binary b n bytes) ≡ Ok (v, rest) → Follows n bytes rest
 binary_by true b n bytes v rest e =
-    let m = bind_ok (size_at bytes) (λ m. cond (eqb (m.0 + 4) n) (bytes_at m.0 m.1 >>= λ s. Ok (scalar (kind.binary (subtype_of 2) s.0), s.1)) (Err (at Length bytes))) (v, rest) e in
-    let g = if_ok (eqb (m.0.0 + 4) n) (bytes_at m.0.0 m.0.1 >>= λ s. Ok (scalar (kind.binary (subtype_of 2) s.0), s.1)) (at Length bytes) (v, rest) m.2 in
-    let s = stepped (λ s. scalar (kind.binary (subtype_of 2) s)) (bytes_at m.0.0 m.0.1) v rest g.1 in
+    let m = bind_ok (read_length bytes) (λ m. cond (eqb (m.0 + 4) n) (read_bytes m.0 m.1 >>= λ s. Ok (scalar (kind.binary (subtype_of 2) s.0), s.1)) (Err (at Length bytes))) (v, rest) e in
+    let g = if_ok (eqb (m.0.0 + 4) n) (read_bytes m.0.0 m.0.1 >>= λ s. Ok (scalar (kind.binary (subtype_of 2) s.0), s.1)) (at Length bytes) (v, rest) m.2 in
+    let s = stepped (λ s. scalar (kind.binary (subtype_of 2) s)) (read_bytes m.0.0 m.0.1) v rest g.1 in
     let whole = follows_then 4 m.0.0 bytes m.0.1 rest (size_follows bytes m.0.0 m.0.1 m.1).1 (bytes_follow m.0.0 m.0.1 s.0 rest s.1) in
     subst (λ (k : ℕ). Follows k bytes rest) (omega (arith, eqb-true (m.0.0 + 4) n g.0)) whole
 binary_by false b n bytes v rest e =
-    let s = stepped (λ s. scalar (kind.binary (subtype_of b) s)) (bytes_at n bytes) v rest e in
+    let s = stepped (λ s. scalar (kind.binary (subtype_of b) s)) (read_bytes n bytes) v rest e in
     bytes_follow n bytes s.0 rest s.1
 
-binary_skips : (bytes : List ℕ) (v : Value) (rest : List ℕ) → binary_at bytes ≡ Ok (v, rest)
+binary_skips : (bytes : List ℕ) (v : Value) (rest : List ℕ) → read_binary bytes ≡ Ok (v, rest)
     → (skip_sized 5 bytes ≡ Some rest) × Lookahead bytes rest
-unfolding binary_at
+unfolding read_binary
 binary_skips bytes v rest e =
-    let b = bind_ok (size_at bytes) (λ n. byte_at n.1 >>= λ b. cond (eqb b.0 2) (old_binary_at n.0 b.1) (plain_binary_at b.0 n.0 b.1)) (v, rest) e in
-    let c = bind_ok (byte_at b.0.1) (λ c. cond (eqb c.0 2) (old_binary_at b.0.0 c.1) (plain_binary_at c.0 b.0.0 c.1)) (v, rest) b.2 in
+    let b = bind_ok (read_length bytes) (λ n. read_byte n.1 >>= λ b. cond (eqb b.0 2) (read_old_binary n.0 b.1) (read_plain_binary b.0 n.0 b.1)) (v, rest) e in
+    let c = bind_ok (read_byte b.0.1) (λ c. cond (eqb c.0 2) (read_old_binary b.0.0 c.1) (read_plain_binary c.0 b.0.0 c.1)) (v, rest) b.2 in
     let size = size_follows bytes b.0.0 b.0.1 b.1 in
     let front = follows_then 4 1 bytes b.0.1 c.0.1 size.1 (byte_follows b.0.1 c.0.0 c.0.1 c.1) in
     let inner = binary_by (eqb c.0.0 2) c.0.0 b.0.0 c.0.1 v rest c.2 in
@@ -253,62 +253,62 @@ boolean_by true b x bytes v rest e = rest_is (scalar (kind.boolean false)) x v r
 boolean_by false true x bytes v rest e = rest_is (scalar (kind.boolean true)) x v rest e
 boolean_by false false x bytes v rest e = absurd cc
 
-boolean_skips : (bytes : List ℕ) (v : Value) (rest : List ℕ) → boolean_at bytes ≡ Ok (v, rest)
+boolean_skips : (bytes : List ℕ) (v : Value) (rest : List ℕ) → read_boolean bytes ≡ Ok (v, rest)
     → (skip 1 bytes ≡ Some rest) × Lookahead bytes rest
-unfolding boolean_at
+unfolding read_boolean
 boolean_skips bytes v rest e =
-    let b = bind_ok (byte_at bytes) (λ b. cond (eqb b.0 0) (Ok (scalar (kind.boolean false), b.1)) (cond (eqb b.0 1) (Ok (scalar (kind.boolean true), b.1)) (Err (at Boolean bytes)))) (v, rest) e in
+    let b = bind_ok (read_byte bytes) (λ b. cond (eqb b.0 0) (Ok (scalar (kind.boolean false), b.1)) (cond (eqb b.0 1) (Ok (scalar (kind.boolean true), b.1)) (Err (at Boolean bytes)))) (v, rest) e in
     let same : b.0.1 ≡ rest = boolean_by (eqb b.0.0 0) (eqb b.0.0 1) b.0.1 bytes v rest b.2 in
     fixed_skips 1 bytes rest (subst (Follows 1 bytes) same (byte_follows bytes b.0.0 b.0.1 b.1))
 
-regex_skips : (bytes : List ℕ) (v : Value) (rest : List ℕ) → regex_at bytes ≡ Ok (v, rest)
+regex_skips : (bytes : List ℕ) (v : Value) (rest : List ℕ) → read_regex bytes ≡ Ok (v, rest)
     → (skip_regex bytes ≡ Some rest) × Lookahead bytes rest
-unfolding regex_at
+unfolding read_regex
 regex_skips bytes v rest e =
-    let a = bind_ok (name_at bytes) (λ a. name_at a.1 >>= λ o. Ok (scalar (kind.regex a.0 o.0), o.1)) (v, rest) e in
-    let o = stepped (λ o. scalar (kind.regex a.0.0 o)) (name_at a.0.1) v rest a.2 in
+    let a = bind_ok (read_name bytes) (λ a. read_name a.1 >>= λ o. Ok (scalar (kind.regex a.0 o.0), o.1)) (v, rest) e in
+    let o = stepped (λ o. scalar (kind.regex a.0.0 o)) (read_name a.0.1) v rest a.2 in
     let first = name_split bytes a.0.0 a.0.1 a.1 in
     let second = name_split a.0.1 o.0 rest o.1 in
     (rw (first.0, second.0) refl, lookahead_then first.2.0 bytes a.0.1 rest first.2.1 second.2)
 
-pointer_skips : (bytes : List ℕ) (v : Value) (rest : List ℕ) → pointer_at bytes ≡ Ok (v, rest)
+pointer_skips : (bytes : List ℕ) (v : Value) (rest : List ℕ) → read_pointer bytes ≡ Ok (v, rest)
     → (skip_sized 16 bytes ≡ Some rest) × Lookahead bytes rest
-unfolding pointer_at
+unfolding read_pointer
 pointer_skips bytes v rest e =
-    let a = bind_ok (text_at bytes) (λ a. bytes_at 12 a.1 >>= λ id. Ok (scalar (kind.db_pointer a.0 id.0), id.1)) (v, rest) e in
-    let id = stepped (λ id. scalar (kind.db_pointer a.0.0 id)) (bytes_at 12 a.0.1) v rest a.2 in
+    let a = bind_ok (read_string bytes) (λ a. read_bytes 12 a.1 >>= λ id. Ok (scalar (kind.db_pointer a.0 id.0), id.1)) (v, rest) e in
+    let id = stepped (λ id. scalar (kind.db_pointer a.0.0 id)) (read_bytes 12 a.0.1) v rest a.2 in
     let text = text_sized bytes a.0.0 a.0.1 a.1 in
     let whole = follows_then (text.0 + 4) 12 bytes a.0.1 rest text.2 (bytes_follow 12 a.0.1 id.0 rest id.1) in
     sized_skips 16 bytes rest (text.0, text.1, subst (λ (k : ℕ). Follows k bytes rest) (omega arith) whole)
 
-timestamp_skips : (bytes : List ℕ) (v : Value) (rest : List ℕ) → timestamp_at bytes ≡ Ok (v, rest)
+timestamp_skips : (bytes : List ℕ) (v : Value) (rest : List ℕ) → read_timestamp bytes ≡ Ok (v, rest)
     → (skip 8 bytes ≡ Some rest) × Lookahead bytes rest
-unfolding timestamp_at
+unfolding read_timestamp
 timestamp_skips bytes v rest e =
-    let i = bind_ok (number_at w32 bytes) (λ i. number_at w32 i.1 >>= λ t. Ok (scalar (kind.timestamp t.0 i.0), t.1)) (v, rest) e in
-    let t = stepped (λ t. scalar (kind.timestamp t i.0.0)) (number_at w32 i.0.1) v rest i.2 in
+    let i = bind_ok (read_integer w32 bytes) (λ i. read_integer w32 i.1 >>= λ t. Ok (scalar (kind.timestamp t.0 i.0), t.1)) (v, rest) e in
+    let t = stepped (λ t. scalar (kind.timestamp t i.0.0)) (read_integer w32 i.0.1) v rest i.2 in
     fixed_skips 8 bytes rest (follows_then 4 4 bytes i.0.1 rest (number_follows w32 bytes i.0.0 i.0.1 i.1) (number_follows w32 i.0.1 t.0 rest t.1))
 
 -- ---- documents
 
 -- a document has the length that it begins with
 abbrev pub DocumentSkips : ℕ → Type 0
-DocumentSkips d = (bytes : List ℕ) (ps : Pairs) (rest : List ℕ) → document_in Replace d None bytes ≡ Ok (ps, rest)
+DocumentSkips d = (bytes : List ℕ) (ps : Pairs) (rest : List ℕ) → read_document_in Replace d None bytes ≡ Ok (ps, rest)
     → Sized 0 bytes rest
 
 pub same_length : (n a b c m : ℕ) → n + c ≡ m → a + b + c ≡ m → n + 0 ≡ a + b
 same_length n a b c m e f = omega arith
 
 scope_sized : (d : ℕ) → DocumentSkips d → (bytes : List ℕ) (v : Value) (rest : List ℕ)
-    → scope_at (document_in Replace d None) bytes ≡ Ok (v, rest) → Sized 0 bytes rest
-unfolding scope_at
+    → read_code_with_scope (read_document_in Replace d None) bytes ≡ Ok (v, rest) → Sized 0 bytes rest
+unfolding read_code_with_scope
 scope_sized d h bytes v rest e =
-    let b = bind_ok (size_at bytes) (λ n. text_at n.1 >>= λ s. settled no_pairs (document_in Replace d None s.1) >>= λ x. cond (eqb (n.0 + length x.1) (length bytes)) (Ok (code_scope s.0 x.0, x.1)) (Err (at Length bytes))) (v, rest) e in
-    let s = bind_ok (text_at b.0.1) (λ s. settled no_pairs (document_in Replace d None s.1) >>= λ x. cond (eqb (b.0.0 + length x.1) (length bytes)) (Ok (code_scope s.0 x.0, x.1)) (Err (at Length bytes))) (v, rest) b.2 in
-    let x = bind_ok (settled no_pairs (document_in Replace d None s.0.1)) (λ x. cond (eqb (b.0.0 + length x.1) (length bytes)) (Ok (code_scope s.0.0 x.0, x.1)) (Err (at Length bytes))) (v, rest) s.2 in
+    let b = bind_ok (read_length bytes) (λ n. read_string n.1 >>= λ s. insert_pairs_read no_pairs (read_document_in Replace d None s.1) >>= λ x. cond (eqb (n.0 + length x.1) (length bytes)) (Ok (code_scope s.0 x.0, x.1)) (Err (at Length bytes))) (v, rest) e in
+    let s = bind_ok (read_string b.0.1) (λ s. insert_pairs_read no_pairs (read_document_in Replace d None s.1) >>= λ x. cond (eqb (b.0.0 + length x.1) (length bytes)) (Ok (code_scope s.0 x.0, x.1)) (Err (at Length bytes))) (v, rest) b.2 in
+    let x = bind_ok (insert_pairs_read no_pairs (read_document_in Replace d None s.0.1)) (λ x. cond (eqb (b.0.0 + length x.1) (length bytes)) (Ok (code_scope s.0.0 x.0, x.1)) (Err (at Length bytes))) (v, rest) s.2 in
     let g = if_ok (eqb (b.0.0 + length x.0.1) (length bytes)) (Ok (code_scope s.0.0 x.0.0, x.0.1)) (at Length bytes) (v, rest) x.2 in
     let same : x.0.1 ≡ rest = rest_is (code_scope s.0.0 x.0.0) x.0.1 v rest g.1 in
-    let read = stepped (settle no_pairs) (document_in Replace d None s.0.1) x.0.0 x.0.1 x.1 in
+    let read = stepped (insert_pairs no_pairs) (read_document_in Replace d None s.0.1) x.0.0 x.0.1 x.1 in
     let size = size_follows bytes b.0.0 b.0.1 b.1 in
     let text = text_sized b.0.1 s.0.0 s.0.1 s.1 in
     let scope = h s.0.1 read.0 x.0.1 read.1 in
@@ -321,19 +321,19 @@ scope_sized d h bytes v rest e =
 
 -- an array or a document that is a value
 inner_skips : {A : Type 0} (d : ℕ) → DocumentSkips d → (f : Pairs → A) (g : A → Value) (bytes : List ℕ) (v : Value) (rest : List ℕ)
-    → made g (mapped f (document_in Replace d None bytes)) ≡ Ok (v, rest)
+    → made g (map_pairs_read f (read_document_in Replace d None bytes)) ≡ Ok (v, rest)
     → (skip_sized 0 bytes ≡ Some rest) × Lookahead bytes rest
 inner_skips d h f g bytes v rest e =
-    let x = stepped g (mapped f (document_in Replace d None bytes)) v rest e in
-    let read = stepped f (document_in Replace d None bytes) x.0 rest x.1 in
+    let x = stepped g (map_pairs_read f (read_document_in Replace d None bytes)) v rest e in
+    let read = stepped f (read_document_in Replace d None bytes) x.0 rest x.1 in
     sized_skips 0 bytes rest (h bytes read.0 rest read.1)
 
 pub value_skips : (d : ℕ) → DocumentSkips d → (k : ElementType) (bytes : List ℕ) (v : Value) (rest : List ℕ)
-    → value_with Replace (document_in Replace d) k bytes ≡ Ok (v, rest) → Skips k bytes rest
-unfolding value_with
+    → read_value_in Replace (read_document_in Replace d) k bytes ≡ Ok (v, rest) → Skips k bytes rest
+unfolding read_value_in
 value_skips d h tag.Double bytes v rest e = number_skips w64 (λ n. scalar (kind.double n)) bytes v rest e
 value_skips d h tag.String bytes v rest e = text_skips (λ s. scalar (kind.text s)) bytes v rest e
-value_skips d h tag.EmbeddedDocument bytes v rest e = inner_skips d h (settle no_pairs) document bytes v rest e
+value_skips d h tag.EmbeddedDocument bytes v rest e = inner_skips d h (insert_pairs no_pairs) document bytes v rest e
 value_skips d h tag.Array bytes v rest e = inner_skips d h pair_values array bytes v rest e
 value_skips d h tag.Binary bytes v rest e = binary_skips bytes v rest e
 value_skips d h tag.Undefined bytes v rest e = none_skips bytes rest (scalar kind.undefined) v e

@@ -5,46 +5,46 @@ use Rattle.std.proofs.lemmas.Bool.{false_from_ne_true}
 use Rattle.std.proofs.lemmas.Slice.Eq.{bytes_eq-Decides}
 use Rattle.bson_model.specs.Value.{Value, Pairs, no_pairs, pair}
 use Rattle.bson_bytes.specs.declared.fault.FaultKind.TheVariants.{DuplicateKey}
-use Rattle.bson_bytes.specs.declared.keys.DuplicateKeys.{DuplicateKeys}
-use Rattle.bson_bytes.specs.declared.keys.DuplicateKeys.TheVariants.{Replace, Refuse}
+use Rattle.bson_bytes.specs.declared.duplicate_keys.DuplicateKeys.{DuplicateKeys}
+use Rattle.bson_bytes.specs.declared.duplicate_keys.DuplicateKeys.TheVariants.{Replace, Refuse}
 use Rattle.bson_bytes.specs.Fault.{at}
-use Rattle.bson_bytes.specs.Grammar.{IsNew, Once, MayStand}
-use Rattle.bson_bytes.specs.Reading.{Before, none_before, noted, is_new, key_at, name_at}
+use Rattle.bson_bytes.specs.Grammar.{IsNew, Once, AreAllowedKeys}
+use Rattle.bson_bytes.specs.Reading.{EarlierKeys, no_earlier_keys, add_earlier_key, is_new, read_key, read_name}
 use Rattle.bson_bytes.proofs.PartLaws.{bind_ok, if_ok, ok_is}
 
 -- the keys of the pairs may stand behind those
-abbrev pub Stand : Before → Pairs → Type 0
+abbrev pub Stand : EarlierKeys → Pairs → Type 0
 Stand None ps = Unit {0}
 Stand (Some ks) ps = Once ks ps
 
 -- the key may
-abbrev pub Fresh : Before → List ℕ → Type 0
+abbrev pub Fresh : EarlierKeys → List ℕ → Type 0
 Fresh None k = Unit {0}
 Fresh (Some ks) k = IsNew ks k
 
-pub stand_none : (before : Before) → Stand before no_pairs
+pub stand_none : (before : EarlierKeys) → Stand before no_pairs
 stand_none None = tt
 stand_none (Some ks) = tt
 
-pub stand_more : (before : Before) (k : List ℕ) (v : Value) (ps : Pairs) → Fresh before k → Stand (noted k before) ps
+pub stand_more : (before : EarlierKeys) (k : List ℕ) (v : Value) (ps : Pairs) → Fresh before k → Stand (add_earlier_key k before) ps
     → Stand before (pair k v ps)
 stand_more None k v ps f h = tt
 stand_more (Some ks) k v ps f h = (f, h)
 
-pub stand_first : (before : Before) (k : List ℕ) (v : Value) (ps : Pairs) → Stand before (pair k v ps) → Fresh before k
+pub stand_first : (before : EarlierKeys) (k : List ℕ) (v : Value) (ps : Pairs) → Stand before (pair k v ps) → Fresh before k
 stand_first None k v ps h = tt
 stand_first (Some ks) k v ps h = h.0
 
-pub stand_rest : (before : Before) (k : List ℕ) (v : Value) (ps : Pairs) → Stand before (pair k v ps)
-    → Stand (noted k before) ps
+pub stand_rest : (before : EarlierKeys) (k : List ℕ) (v : Value) (ps : Pairs) → Stand before (pair k v ps)
+    → Stand (add_earlier_key k before) ps
 stand_rest None k v ps h = tt
 stand_rest (Some ks) k v ps h = h.1
 
-pub may_stand : (keys : DuplicateKeys) (ps : Pairs) → Stand (none_before keys) ps → MayStand keys ps
+pub may_stand : (keys : DuplicateKeys) (ps : Pairs) → Stand (no_earlier_keys keys) ps → AreAllowedKeys keys ps
 may_stand Replace ps h = tt
 may_stand Refuse ps h = h
 
-pub stand_from : (keys : DuplicateKeys) (ps : Pairs) → MayStand keys ps → Stand (none_before keys) ps
+pub stand_from : (keys : DuplicateKeys) (ps : Pairs) → AreAllowedKeys keys ps → Stand (no_earlier_keys keys) ps
 stand_from Replace ps h = tt
 stand_from Refuse ps h = h
 
@@ -71,16 +71,16 @@ new_again k (l ∷ ks) h =
     let apart : bytes_eq k l ≡ false = false_from_ne_true (bytes_eq k l) (λ t. h.0 ((bytes_eq-Decides k l).0 t)) in
     rw apart (new_again k ks h.1)
 
-pub key_takes : (before : Before) (bytes s rest : List ℕ) → key_at before bytes ≡ Ok (s, rest)
-    → (name_at bytes ≡ Ok (s, rest)) × Fresh before s
+pub key_takes : (before : EarlierKeys) (bytes s rest : List ℕ) → read_key before bytes ≡ Ok (s, rest)
+    → (read_name bytes ≡ Ok (s, rest)) × Fresh before s
 key_takes None bytes s rest e = (e, tt)
 key_takes (Some ks) bytes s rest e =
-    let b = bind_ok (name_at bytes) (λ n. cond (is_new n.0 ks) (Ok n) (Err (at DuplicateKey bytes))) (s, rest) e in
+    let b = bind_ok (read_name bytes) (λ n. cond (is_new n.0 ks) (Ok n) (Err (at DuplicateKey bytes))) (s, rest) e in
     let g = if_ok (is_new b.0.0 ks) (Ok b.0) (at DuplicateKey bytes) (s, rest) b.2 in
     let same : b.0 ≡ (s, rest) = ok_is b.0 (s, rest) g.1 in
     (b.1 ∙ g.1, subst (λ (n : List ℕ × List ℕ). IsNew ks n.0) same (new_from b.0.0 ks g.0))
 
-pub key_again : (before : Before) (bytes s rest : List ℕ) → name_at bytes ≡ Ok (s, rest) → Fresh before s
-    → key_at before bytes ≡ Ok (s, rest)
+pub key_again : (before : EarlierKeys) (bytes s rest : List ℕ) → read_name bytes ≡ Ok (s, rest) → Fresh before s
+    → read_key before bytes ≡ Ok (s, rest)
 key_again None bytes s rest e f = e
 key_again (Some ks) bytes s rest e f = rw (e, new_again s ks f) refl

@@ -8,21 +8,21 @@ use Rattle.bson_types.specs.declared.spec.ElementType.{ElementType}
 use Rattle.bson_model.specs.Value.{Value, Pairs, no_pairs, pair}
 use Rattle.bson_bytes.specs.declared.fault.Fault.{Fault}
 use Rattle.bson_bytes.specs.declared.fault.FaultKind.TheVariants.{Tag, Length}
-use Rattle.bson_bytes.specs.declared.keys.DuplicateKeys.TheVariants.{Replace}
-use Rattle.bson_bytes.specs.Fault.{at, ◌>>=◌, or_fault}
-use Rattle.bson_bytes.specs.Reading.{byte_at, size_at, split_zero, name_at, value_with, list_at, sized, document_in}
-use Rattle.bson_bytes.specs.Tags.{kind_of}
+use Rattle.bson_bytes.specs.declared.duplicate_keys.DuplicateKeys.TheVariants.{Replace}
+use Rattle.bson_bytes.specs.Fault.{at, ◌>>=◌, or_error}
+use Rattle.bson_bytes.specs.Reading.{read_byte, read_length, split_at_nul, read_name, read_value_in, read_elements, check_length, read_document_in}
+use Rattle.bson_bytes.specs.TypeTags.{type_of_tag}
 use Rattle.bson_bytes.proofs.Offered.{elements, then_pairs, no_more, one_more}
-use Rattle.bson_bytes.specs.Raw.{BeginsWithElements}
-use Rattle.bson_bytes.specs.Skip.{element_at, skip_value}
+use Rattle.bson_bytes.specs.ReadElements.{BeginsWithElements}
+use Rattle.bson_bytes.specs.Skip.{first_element_of, skip_value}
 use Rattle.bson_bytes.proofs.Skips.{bind_ok, ok_is, if_ok, or_fault_ok, first_is, rest_is, Follows, follows_then, follows_length}
 use Rattle.bson_bytes.proofs.Skips.{Lookahead, lookahead_then, byte_follows, name_split, Skips, DocumentSkips, value_skips}
 use Rattle.bson_bytes.proofs.Skips.{size_follows, same_length}
 
 -- no element is left
 pub record Ends (bytes : List ℕ) (ps : Pairs) (rest : List ℕ) : Type 0 where
-  pub none : element_at bytes ≡ None
-  pub byte : byte_at bytes ≡ Ok (0, rest)
+  pub none : first_element_of bytes ≡ None
+  pub byte : read_byte bytes ≡ Ok (0, rest)
   pub pairs : ps ≡ no_pairs
   pub last : Follows 1 bytes rest
 
@@ -31,17 +31,17 @@ pub record Cursor (d m : ℕ) (bytes : List ℕ) (ps : Pairs) (rest : List ℕ) 
   pub type : ElementType
   pub name : List ℕ
   pub after : List ℕ
-  pub found : element_at bytes ≡ Some (type, name, after)
+  pub found : first_element_of bytes ≡ Some (type, name, after)
   pub tag : ℕ
   pub behind : List ℕ
-  pub byte : byte_at bytes ≡ Ok (tag, behind)
+  pub byte : read_byte bytes ≡ Ok (tag, behind)
   pub some : tag ≡ 0 → ⊥
-  pub kind : kind_of tag ≡ Some type
-  pub key : name_at behind ≡ Ok (name, after)
+  pub kind : type_of_tag tag ≡ Some type
+  pub key : read_name behind ≡ Ok (name, after)
   pub utf8 : is_utf8 name ≡ true
   pub value : Value
   pub next : List ℕ
-  pub read : value_with Replace (document_in Replace d) type after ≡ Ok (value, next)
+  pub read : read_value_in Replace (read_document_in Replace d) type after ≡ Ok (value, next)
   pub skips : Skips type after next
   pub lookahead : (n : ℕ) × Follows (1 + n) bytes next
   pub others : Pairs
@@ -51,36 +51,36 @@ pub record Cursor (d m : ℕ) (bytes : List ℕ) (ps : Pairs) (rest : List ℕ) 
 abbrev pub Step : ℕ → ℕ → List ℕ → Pairs → List ℕ → Type 0
 Step d m bytes ps rest = Ends bytes ps rest ⊎ Cursor d m bytes ps rest
 
-found_at : (bytes : List ℕ) (t : ℕ) (a : List ℕ) (k : ElementType) (s b : List ℕ) → byte_at bytes ≡ Ok (t, a)
-    → kind_of t ≡ Some k → split_zero a ≡ Some (s, b) → element_at bytes ≡ Some (k, s, b)
+found_at : (bytes : List ℕ) (t : ℕ) (a : List ℕ) (k : ElementType) (s b : List ℕ) → read_byte bytes ≡ Ok (t, a)
+    → type_of_tag t ≡ Some k → split_at_nul a ≡ Some (s, b) → first_element_of bytes ≡ Some (k, s, b)
 found_at [] t a k s b e f g = absurd cc
 found_at (c ∷ bytes) t a k s b e f g =
-    let kind : kind_of c ≡ Some k = ap kind_of (first_is c bytes t a e) ∙ f in
-    let split : split_zero bytes ≡ Some (s, b) = ap split_zero (rest_is c bytes t a e) ∙ g in
+    let kind : type_of_tag c ≡ Some k = ap type_of_tag (first_is c bytes t a e) ∙ f in
+    let split : split_at_nul bytes ≡ Some (s, b) = ap split_at_nul (rest_is c bytes t a e) ∙ g in
     rw (kind, split) refl
 
-pub none_at : (bytes : List ℕ) (a : List ℕ) → byte_at bytes ≡ Ok (0, a) → element_at bytes ≡ None
-unfolding kind_of
+pub none_at : (bytes : List ℕ) (a : List ℕ) → read_byte bytes ≡ Ok (0, a) → first_element_of bytes ≡ None
+unfolding type_of_tag
 none_at [] a e = absurd cc
 none_at (c ∷ bytes) a e =
     let zero-is : c ≡ 0 = first_is c bytes 0 a e in rw zero-is refl
 
 -- what is read after a tag that is not 0
 abbrev after_tag : ℕ → ℕ → List ℕ → ℕ → List ℕ → Result (Pairs × List ℕ) Fault
-after_tag d m bytes t a = or_fault (kind_of t) Tag bytes >>= λ k. name_at a >>= λ s. value_with Replace (document_in Replace d) k s.1
+after_tag d m bytes t a = or_error (type_of_tag t) Tag bytes >>= λ k. read_name a >>= λ s. read_value_in Replace (read_document_in Replace d) k s.1
     >>= λ v. elements Replace d None m v.1 >>= λ x. Ok (pair s.0 v.0 x.0, x.1)
 
 turn_of : (d : ℕ) → DocumentSkips d → (m : ℕ) (bytes : List ℕ) (t : ℕ) (a : List ℕ) (ps : Pairs) (rest : List ℕ)
-    → byte_at bytes ≡ Ok (t, a) → (t ≡ 0 → ⊥)
+    → read_byte bytes ≡ Ok (t, a) → (t ≡ 0 → ⊥)
     → after_tag d m bytes t a ≡ Ok (ps, rest)
     → Cursor d m bytes ps rest
 turn_of d h m bytes t a ps rest byte some e =
-    let value = value_with Replace (document_in Replace d) in
-    let k = bind_ok (or_fault (kind_of t) Tag bytes) (λ k. name_at a >>= λ s. value k s.1 >>= λ v. elements Replace d None m v.1 >>= λ x. Ok (pair s.0 v.0 x.0, x.1)) (ps, rest) e in
-    let s = bind_ok (name_at a) (λ s. value k.0 s.1 >>= λ v. elements Replace d None m v.1 >>= λ x. Ok (pair s.0 v.0 x.0, x.1)) (ps, rest) k.2 in
+    let value = read_value_in Replace (read_document_in Replace d) in
+    let k = bind_ok (or_error (type_of_tag t) Tag bytes) (λ k. read_name a >>= λ s. value k s.1 >>= λ v. elements Replace d None m v.1 >>= λ x. Ok (pair s.0 v.0 x.0, x.1)) (ps, rest) e in
+    let s = bind_ok (read_name a) (λ s. value k.0 s.1 >>= λ v. elements Replace d None m v.1 >>= λ x. Ok (pair s.0 v.0 x.0, x.1)) (ps, rest) k.2 in
     let v = bind_ok (value k.0 s.0.1) (λ v. elements Replace d None m v.1 >>= λ x. Ok (pair s.0.0 v.0 x.0, x.1)) (ps, rest) s.2 in
     let x = bind_ok (elements Replace d None m v.0.1) (λ x. Ok (pair s.0.0 v.0.0 x.0, x.1)) (ps, rest) v.2 in
-    let kind = or_fault_ok (kind_of t) Tag bytes k.0 k.1 in
+    let kind = or_fault_ok (type_of_tag t) Tag bytes k.0 k.1 in
     let name = name_split a s.0.0 s.0.1 s.1 in
     let skips = value_skips d h k.0 s.0.1 v.0.0 v.0.1 v.1 in
     let all = pair s.0.0 v.0.0 x.0.0 in
@@ -108,11 +108,11 @@ turn_of d h m bytes t a ps rest byte some e =
     }
 
 step_by : (d : ℕ) → DocumentSkips d → (m : ℕ) (z : Bool) (bytes : List ℕ) (t : ℕ) (a : List ℕ) (ps : Pairs) (rest : List ℕ)
-    → eqb t 0 ≡ z → byte_at bytes ≡ Ok (t, a)
+    → eqb t 0 ≡ z → read_byte bytes ≡ Ok (t, a)
     → cond {A = Result (Pairs × List ℕ) Fault} z (Ok (no_pairs, a)) (after_tag d m bytes t a) ≡ Ok (ps, rest)
     → Step d m bytes ps rest
 step_by d h m true bytes t a ps rest z byte e =
-    let first : byte_at bytes ≡ Ok (0, a) = byte ∙ ap (λ (c : ℕ). Ok (c, a)) (eqb-true t 0 z) in
+    let first : read_byte bytes ≡ Ok (0, a) = byte ∙ ap (λ (c : ℕ). Ok (c, a)) (eqb-true t 0 z) in
     inl record {
       none = none_at bytes a first;
       byte = first ∙ ap (λ (c : List ℕ). Ok (0, c)) (rest_is no_pairs a ps rest e);
@@ -123,14 +123,14 @@ step_by d h m false bytes t a ps rest z byte e = inr (turn_of d h m bytes t a ps
 
 pub list_step : (d : ℕ) → DocumentSkips d → (m : ℕ) (bytes : List ℕ) (ps : Pairs) (rest : List ℕ)
     → elements Replace d None (suc m) bytes ≡ Ok (ps, rest) → Step d m bytes ps rest
-unfolding list_at
+unfolding read_elements
 list_step d h m bytes ps rest e =
-    let value = value_with Replace (document_in Replace d) in
-    let b = bind_ok (byte_at bytes) (λ t. cond (eqb t.0 0) (Ok (no_pairs, t.1)) (or_fault (kind_of t.0) Tag bytes >>= λ k. name_at t.1 >>= λ s. value k s.1 >>= λ v. elements Replace d None m v.1 >>= λ x. Ok (pair s.0 v.0 x.0, x.1))) (ps, rest) e in
+    let value = read_value_in Replace (read_document_in Replace d) in
+    let b = bind_ok (read_byte bytes) (λ t. cond (eqb t.0 0) (Ok (no_pairs, t.1)) (or_error (type_of_tag t.0) Tag bytes >>= λ k. read_name t.1 >>= λ s. value k s.1 >>= λ v. elements Replace d None m v.1 >>= λ x. Ok (pair s.0 v.0 x.0, x.1))) (ps, rest) e in
     step_by d h m (eqb b.0.0 0) bytes b.0.0 b.0.1 ps rest refl b.1 b.2
 
 no_turns : (d : ℕ) (bytes : List ℕ) (ps : Pairs) (rest : List ℕ) → elements Replace d None zero bytes ≡ Ok (ps, rest) → ⊥
-unfolding list_at
+unfolding read_elements
 no_turns d bytes ps rest e = absurd cc
 
 list_lookahead : (d : ℕ) → DocumentSkips d → (m : ℕ) (bytes : List ℕ) (ps : Pairs) (rest : List ℕ)
@@ -144,11 +144,11 @@ list_lookahead d h (suc m) bytes ps rest e =
     ]
 
 pub document_skips : (d : ℕ) → DocumentSkips d
-unfolding document_in
+unfolding read_document_in
 document_skips zero bytes ps rest e = absurd cc
 document_skips (suc d) bytes ps rest e =
-    let b = bind_ok (size_at bytes) (λ n. elements Replace d None (length n.1) n.1 >>= λ x. sized n.0 bytes x) (ps, rest) e in
-    let x = bind_ok (elements Replace d None (length b.0.1) b.0.1) (λ x. sized b.0.0 bytes x) (ps, rest) b.2 in
+    let b = bind_ok (read_length bytes) (λ n. elements Replace d None (length n.1) n.1 >>= λ x. check_length n.0 bytes x) (ps, rest) e in
+    let x = bind_ok (elements Replace d None (length b.0.1) b.0.1) (λ x. check_length b.0.0 bytes x) (ps, rest) b.2 in
     let g = if_ok (eqb (b.0.0 + length x.0.1) (length bytes)) (Ok x.0) (at Length bytes) (ps, rest) x.2 in
     let size = size_follows bytes b.0.0 b.0.1 b.1 in
     let list = list_lookahead d (document_skips d) (length b.0.1) b.0.1 x.0.0 x.0.1 x.1 in
@@ -186,13 +186,13 @@ pub record Opened (d : ℕ) (bytes : List ℕ) (ps : Pairs) (rest : List ℕ) : 
   pub first : Follows 4 bytes list
   pub read : elements Replace (d - 1) None (length list) list ≡ Ok (ps, rest)
 
-pub opened : (d : ℕ) (bytes : List ℕ) (ps : Pairs) (rest : List ℕ) → document_in Replace d None bytes ≡ Ok (ps, rest)
+pub opened : (d : ℕ) (bytes : List ℕ) (ps : Pairs) (rest : List ℕ) → read_document_in Replace d None bytes ≡ Ok (ps, rest)
     → Opened d bytes ps rest
-unfolding document_in
+unfolding read_document_in
 opened zero bytes ps rest e = absurd cc
 opened (suc d) bytes ps rest e =
-    let b = bind_ok (size_at bytes) (λ n. elements Replace d None (length n.1) n.1 >>= λ x. sized n.0 bytes x) (ps, rest) e in
-    let x = bind_ok (elements Replace d None (length b.0.1) b.0.1) (λ x. sized b.0.0 bytes x) (ps, rest) b.2 in
+    let b = bind_ok (read_length bytes) (λ n. elements Replace d None (length n.1) n.1 >>= λ x. check_length n.0 bytes x) (ps, rest) e in
+    let x = bind_ok (elements Replace d None (length b.0.1) b.0.1) (λ x. check_length b.0.0 bytes x) (ps, rest) b.2 in
     let g = if_ok (eqb (b.0.0 + length x.0.1) (length bytes)) (Ok x.0) (at Length bytes) (ps, rest) x.2 in
     record {
       deep = omega arith;
@@ -206,7 +206,7 @@ pub record Took (d : ℕ) (k : ElementType) (s b : List ℕ) (ps : Pairs) : Type
   pub utf8 : is_utf8 s ≡ true
   pub value : Value
   pub next : List ℕ
-  pub read : value_with Replace (document_in Replace d) k b ≡ Ok (value, next)
+  pub read : read_value_in Replace (read_document_in Replace d) k b ≡ Ok (value, next)
   pub skips : skip_value k b ≡ Some next
   pub lookahead : Lookahead b next
   pub others : Pairs
@@ -226,7 +226,7 @@ is_last bytes rest h =
     h.1.0 ∙ ap (λ (n : ℕ). drop n bytes) count
 
 took_by : (d m : ℕ) (bytes : List ℕ) (ps : Pairs) (rest : List ℕ) (k : ElementType) (s b : List ℕ)
-    → elements Replace d None m bytes ≡ Ok (ps, rest) → element_at bytes ≡ Some (k, s, b) → Took d k s b ps
+    → elements Replace d None m bytes ≡ Ok (ps, rest) → first_element_of bytes ≡ Some (k, s, b) → Took d k s b ps
 took_by d zero bytes ps rest k s b e found = absurd (no_turns d bytes ps rest e)
 took_by d (suc m) bytes ps rest k s b e found =
     elim (list_step d (document_skips d) m bytes ps rest e) [
@@ -249,11 +249,11 @@ took_by d (suc m) bytes ps rest k s b e found =
     ]
 
 pub took : (d : ℕ) (bytes : List ℕ) (ps : Pairs) (k : ElementType) (s b : List ℕ) → BeginsWithElements d bytes ps
-    → element_at bytes ≡ Some (k, s, b) → Took d k s b ps
+    → first_element_of bytes ≡ Some (k, s, b) → Took d k s b ps
 took d bytes ps k s b h found = took_by d (length bytes) bytes ps h.0 k s b h.1 found
 
 none_by : (d m : ℕ) (bytes : List ℕ) (ps : Pairs) (rest : List ℕ) → elements Replace d None m bytes ≡ Ok (ps, rest)
-    → element_at bytes ≡ None → ps ≡ no_pairs
+    → first_element_of bytes ≡ None → ps ≡ no_pairs
 none_by d zero bytes ps rest e none = absurd (no_turns d bytes ps rest e)
 none_by d (suc m) bytes ps rest e none =
     elim (list_step d (document_skips d) m bytes ps rest e) [
@@ -261,5 +261,5 @@ none_by d (suc m) bytes ps rest e none =
       | inr turn ↦ absurd cc
     ]
 
-pub none_left : (d : ℕ) (bytes : List ℕ) (ps : Pairs) → BeginsWithElements d bytes ps → element_at bytes ≡ None → ps ≡ no_pairs
+pub none_left : (d : ℕ) (bytes : List ℕ) (ps : Pairs) → BeginsWithElements d bytes ps → first_element_of bytes ≡ None → ps ≡ no_pairs
 none_left d bytes ps h none = none_by d (length bytes) bytes ps h.0 h.1 none

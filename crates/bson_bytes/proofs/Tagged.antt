@@ -5,7 +5,7 @@ use Rattle.std.proofs.lemmas.Bool.{eqb-true}
 use Rattle.bson_types.specs.declared.spec.ElementType.{ElementType}
 use Rattle.bson_types.specs.declared.spec.ElementType.TheVariants as kind
 use Rattle.bson_types.specs.ElementTags.{tag_of}
-use Rattle.bson_bytes.specs.Tags.{named, all_types, kind_of}
+use Rattle.bson_bytes.specs.TypeTags.{named, all_types, type_of_tag}
 use Rattle.bson_bytes.proofs.PartLaws.{chosen}
 
 named_from : (t : ℕ) (ks : List ElementType) (k : ElementType) → named t ks ≡ Some k → tag_of k ≡ t
@@ -16,8 +16,8 @@ named_from t (j ∷ ks) k e =
       | inr m ↦ named_from t ks k m.1
     ]
 
-pub kind_again : (k : ElementType) → kind_of (tag_of k) ≡ Some k
-unfolding kind_of
+pub kind_again : (k : ElementType) → type_of_tag (tag_of k) ≡ Some k
+unfolding type_of_tag
 kind_again kind.Double = refl
 kind_again kind.String = refl
 kind_again kind.EmbeddedDocument = refl
@@ -40,17 +40,17 @@ kind_again kind.Decimal128 = refl
 kind_again kind.MaxKey = refl
 kind_again kind.MinKey = refl
 
-named_is : (t : ℕ) (r o : Option ElementType) → o ≡ kind_of t → ((k : ElementType) → (r ≡ Some k) ↔ (tag_of k ≡ t)) → ((k : ElementType) → o ≡ Some k → tag_of k ≡ t) → r ≡ o
-named_is t (Some k) o e h f = sym (e ∙ ap kind_of (sym ((h k).0 refl)) ∙ kind_again k)
+named_is : (t : ℕ) (r o : Option ElementType) → o ≡ type_of_tag t → ((k : ElementType) → (r ≡ Some k) ↔ (tag_of k ≡ t)) → ((k : ElementType) → o ≡ Some k → tag_of k ≡ t) → r ≡ o
+named_is t (Some k) o e h f = sym (e ∙ ap type_of_tag (sym ((h k).0 refl)) ∙ kind_again k)
 named_is t None (Some k) e h f = (h k).1 (f k refl)
 named_is t None None e h f = refl
 
-pub kind_is : (t : ℕ) (r : Option ElementType) → ((k : ElementType) → (r ≡ Some k) ↔ (tag_of k ≡ t)) → r ≡ kind_of t
-unfolding kind_of
-kind_is t r h = named_is t r (kind_of t) refl h (λ k e. named_from t all_types k e)
+pub kind_is : (t : ℕ) (r : Option ElementType) → ((k : ElementType) → (r ≡ Some k) ↔ (tag_of k ≡ t)) → r ≡ type_of_tag t
+unfolding type_of_tag
+kind_is t r h = named_is t r (type_of_tag t) refl h (λ k e. named_from t all_types k e)
 
-pub tag_from : (t : ℕ) (k : ElementType) → kind_of t ≡ Some k → tag_of k ≡ t
-unfolding kind_of
+pub tag_from : (t : ℕ) (k : ElementType) → type_of_tag t ≡ Some k → tag_of k ≡ t
+unfolding type_of_tag
 tag_from t k e = named_from t all_types k e
 
 no_high : (t : ℕ) (k : ElementType) → 20 ≤ t → (t ≡ 127 → ⊥) → (t ≡ 255 → ⊥) → tag_of k ≡ t → ⊥
@@ -77,5 +77,5 @@ no_high t kind.MaxKey low n m e = n (sym e)
 no_high t kind.MinKey low n m e = m (sym e)
 
 -- a byte above the low tags, and not one of the two high ones
-pub no_kind : (t : ℕ) → 20 ≤ t → (t ≡ 127 → ⊥) → (t ≡ 255 → ⊥) → None ≡ kind_of t
+pub no_kind : (t : ℕ) → 20 ≤ t → (t ≡ 127 → ⊥) → (t ≡ 255 → ⊥) → None ≡ type_of_tag t
 no_kind t low n m = kind_is t None (λ k. (λ e. absurd cc, λ e. absurd (no_high t k low n m e)))

@@ -13,9 +13,9 @@ abbrev pub ◌>>=◌ : {A B : Type 0} → Result A Fault → (A → Result B Fau
 (Err e) >>= f = Err e
 
 -- the value, or an error of this kind at the start of these bytes
-abbrev pub or_fault : {A : Type 0} → Option A → FaultKind → List ℕ → Result A Fault
-or_fault (Some x) k bytes = Ok x
-or_fault None k bytes = Err (at k bytes)
+abbrev pub or_error : {A : Type 0} → Option A → FaultKind → List ℕ → Result A Fault
+or_error (Some x) k bytes = Ok x
+or_error None k bytes = Err (at k bytes)
 
 -- what a function returned, seen by view, is the result of reading
 abbrev pub ReturnsReading : {X Y : Type 0} → (X → Y) → Result X Fault → Result Y Fault → Type 0

@@ -1,10 +1,10 @@
 -- What a source of bytes has read, and what it wrote to a sink.
 use Rattle.std.specs.Prelude.{◌≡◌, ℕ, Bool, true, false, List, [], ◌∷◌, Some, None, Result, Ok, Err}
 use Rattle.bson_model.specs.Value.{Value, Pairs, no_pairs, pair}
-use Rattle.bson_bytes.specs.Reading.{Before}
+use Rattle.bson_bytes.specs.Reading.{EarlierKeys}
 use Rattle.bson_bytes.specs.declared.fault.Fault.{Fault}
-use Rattle.bson_bytes.specs.declared.keys.DuplicateKeys.{DuplicateKeys}
-use Rattle.bson_bytes.specs.declared.keys.DuplicateKeys.TheVariants.{Replace, Refuse}
+use Rattle.bson_bytes.specs.declared.duplicate_keys.DuplicateKeys.{DuplicateKeys}
+use Rattle.bson_bytes.specs.declared.duplicate_keys.DuplicateKeys.TheVariants.{Replace, Refuse}
 use Rattle.bson_bytes.specs.declared.stop.Stop.{Stop}
 use Rattle.bson_bytes.specs.declared.stop.Stop.TheVariants as stops
 
@@ -36,12 +36,12 @@ with_pair no_pairs k v = pair k v no_pairs
 with_pair (pair l w ps) k v = pair l w (with_pair ps k v)
 
 -- the keys of the pairs, the last one first, before these
-abbrev pub keys_back : Pairs → List (List ℕ) → List (List ℕ)
-keys_back no_pairs ks = ks
-keys_back (pair k v ps) ks = keys_back ps (k ∷ ks)
+abbrev pub reversed_keys : Pairs → List (List ℕ) → List (List ℕ)
+reversed_keys no_pairs ks = ks
+reversed_keys (pair k v ps) ks = reversed_keys ps (k ∷ ks)
 
 -- the keys that a document (true) of these pairs may not have again; an array may have any names
-abbrev pub keys_before : DuplicateKeys → Bool → Pairs → Before
-keys_before Replace b ps = None
-keys_before Refuse true ps = Some (keys_back ps [])
-keys_before Refuse false ps = None
+abbrev pub earlier_keys : DuplicateKeys → Bool → Pairs → EarlierKeys
+earlier_keys Replace b ps = None
+earlier_keys Refuse true ps = Some (reversed_keys ps [])
+earlier_keys Refuse false ps = None

@@ -16,8 +16,8 @@ use Rattle.bson_scalar.specs.ElementType.{scalar_type}
 use Rattle.bson_model.specs.Normal.{map_scalars_of_pairs}
 use Rattle.bson_model.specs.Value.{Value, Values, no_values, value, Pairs, no_pairs, pair, scalar, code_scope, array}
 use Rattle.bson_model.specs.Value.{document}
-use Rattle.bson_bytes.specs.Grammar.{le, NoZero, IsSize, text_bytes, binary_bytes, old_binary_bytes, scope_size}
-use Rattle.bson_bytes.specs.Grammar.{scope_bytes, framed, one_each}
+use Rattle.bson_bytes.specs.Grammar.{little_endian, NoZero, IsLength, text_bytes, binary_bytes, old_binary_bytes, scope_size}
+use Rattle.bson_bytes.specs.Grammar.{scope_bytes, document_of_elements, deduplicated}
 
 -- ---- bytes
 
@@ -38,17 +38,17 @@ scalar_bytes undefined = []
 scalar_bytes min_key = []
 scalar_bytes max_key = []
 scalar_bytes (boolean b) = bool_byte b ∷ []
-scalar_bytes (double p) = le w64 p
-scalar_bytes (int32 z) = le w32 (cast_unsigned w32 z)
-scalar_bytes (int64 z) = le w64 (cast_unsigned w64 z)
+scalar_bytes (double p) = little_endian w64 p
+scalar_bytes (int32 z) = little_endian w32 (cast_unsigned w32 z)
+scalar_bytes (int64 z) = little_endian w64 (cast_unsigned w64 z)
 scalar_bytes (text s) = text_bytes s
 scalar_bytes (symbol s) = text_bytes s
 scalar_bytes (code s) = text_bytes s
 scalar_bytes (regex p o) = regex_bytes p o
-scalar_bytes (timestamp t i) = le w32 i ++ le w32 t
+scalar_bytes (timestamp t i) = little_endian w32 i ++ little_endian w32 t
 scalar_bytes (binary k s) = subtyped_bytes (subtype_byte k) s
 scalar_bytes (object_id id) = id
-scalar_bytes (date z) = le w64 (cast_unsigned w64 z)
+scalar_bytes (date z) = little_endian w64 (cast_unsigned w64 z)
 scalar_bytes (decimal128 s) = s
 scalar_bytes (db_pointer s id) = text_bytes s ++ id
 
@@ -66,21 +66,21 @@ name_bytes t k = tag_of t ∷ (k ++ 0 ∷ [])
 abbrev mutual
   pub value_bytes : Value → List ℕ
   value_bytes (scalar x) = scalar_bytes x
-  value_bytes (code_scope s ps) = scope_bytes s (framed (list_bytes ps))
-  value_bytes (array vs) = framed (items_bytes 0 vs)
-  value_bytes (document ps) = framed (list_bytes ps)
+  value_bytes (code_scope s ps) = scope_bytes s (document_of_elements (elements_bytes ps))
+  value_bytes (array vs) = document_of_elements (array_elements_bytes 0 vs)
+  value_bytes (document ps) = document_of_elements (elements_bytes ps)
 
   -- the elements of an array from index n on
-  pub items_bytes : ℕ → Values → List ℕ
-  items_bytes n no_values = []
-  items_bytes n (value v vs) = name_bytes (type_of v) (decimal n) ++ (value_bytes v ++ items_bytes (n + 1) vs)
+  pub array_elements_bytes : ℕ → Values → List ℕ
+  array_elements_bytes n no_values = []
+  array_elements_bytes n (value v vs) = name_bytes (type_of v) (decimal n) ++ (value_bytes v ++ array_elements_bytes (n + 1) vs)
 
-  pub list_bytes : Pairs → List ℕ
-  list_bytes no_pairs = []
-  list_bytes (pair k v ps) = name_bytes (type_of v) k ++ (value_bytes v ++ list_bytes ps)
+  pub elements_bytes : Pairs → List ℕ
+  elements_bytes no_pairs = []
+  elements_bytes (pair k v ps) = name_bytes (type_of v) k ++ (value_bytes v ++ elements_bytes ps)
 
 abbrev pub document_bytes : Pairs → List ℕ
-document_bytes ps = framed (list_bytes ps)
+document_bytes ps = document_of_elements (elements_bytes ps)
 
 -- ---- what has bytes: no key, pattern or options contain a 0, and no length is too great
 
@@ -89,33 +89,33 @@ abbrev pub subtyped_size : ℕ → List ℕ → ℕ
 subtyped_size b s = cond (nat_eq b 2) (length s + 4) (length s)
 
 abbrev pub FitsScalar : Scalar → Type 0
-FitsScalar (text s) = IsSize (length s + 1)
-FitsScalar (symbol s) = IsSize (length s + 1)
-FitsScalar (code s) = IsSize (length s + 1)
+FitsScalar (text s) = IsLength (length s + 1)
+FitsScalar (symbol s) = IsLength (length s + 1)
+FitsScalar (code s) = IsLength (length s + 1)
 FitsScalar (regex p o) = NoZero p × NoZero o
-FitsScalar (binary k s) = IsSize (subtyped_size (subtype_byte k) s)
-FitsScalar (db_pointer s id) = IsSize (length s + 1)
+FitsScalar (binary k s) = IsLength (subtyped_size (subtype_byte k) s)
+FitsScalar (db_pointer s id) = IsLength (length s + 1)
 FitsScalar x = Unit {0}
 
 abbrev mutual
   pub FitsValue : Value → Type 0
   FitsValue (scalar x) = FitsScalar x
   FitsValue (code_scope s ps) =
-      (IsSize (length s + 1) × (FitsList ps × IsSize (length (list_bytes ps) + 5)))
-      × IsSize (scope_size s (framed (list_bytes ps)))
-  FitsValue (array vs) = FitsItems vs × IsSize (length (items_bytes 0 vs) + 5)
-  FitsValue (document ps) = FitsList ps × IsSize (length (list_bytes ps) + 5)
+      (IsLength (length s + 1) × (FitsElements ps × IsLength (length (elements_bytes ps) + 5)))
+      × IsLength (scope_size s (document_of_elements (elements_bytes ps)))
+  FitsValue (array vs) = FitsItems vs × IsLength (length (array_elements_bytes 0 vs) + 5)
+  FitsValue (document ps) = FitsElements ps × IsLength (length (elements_bytes ps) + 5)
 
   pub FitsItems : Values → Type 0
   FitsItems no_values = Unit {0}
   FitsItems (value v vs) = FitsValue v × FitsItems vs
 
-  pub FitsList : Pairs → Type 0
-  FitsList no_pairs = Unit {0}
-  FitsList (pair k v ps) = NoZero k × (FitsValue v × FitsList ps)
+  pub FitsElements : Pairs → Type 0
+  FitsElements no_pairs = Unit {0}
+  FitsElements (pair k v ps) = NoZero k × (FitsValue v × FitsElements ps)
 
 abbrev pub FitsDocument : Pairs → Type 0
-FitsDocument ps = FitsList ps × IsSize (length (list_bytes ps) + 5)
+FitsDocument ps = FitsElements ps × IsLength (length (elements_bytes ps) + 5)
 
 -- ---- why a value has none
 
@@ -128,9 +128,9 @@ pub data Cause : Type 0 where
   too_long : Cause
 
 -- the length is too great for BSON, which is this cause
-abbrev pub IsLong : Cause → ℕ → Type 0
-IsLong too_long n = 2 ^ 31 ≤ n
-IsLong c n = ⊥
+abbrev pub IsLengthTooGreat : Cause → ℕ → Type 0
+IsLengthTooGreat too_long n = 2 ^ 31 ≤ n
+IsLengthTooGreat c n = ⊥
 
 abbrev pub HasZeroKey : Cause → List ℕ → Type 0
 HasZeroKey zero_in_key k = NoZero k → ⊥
@@ -141,12 +141,12 @@ HasZeroRegex zero_in_regex p o = NoZero p × NoZero o → ⊥
 HasZeroRegex c p o = ⊥
 
 abbrev pub ScalarFails : Cause → Scalar → Type 0
-ScalarFails c (text s) = IsLong c (length s + 1)
-ScalarFails c (symbol s) = IsLong c (length s + 1)
-ScalarFails c (code s) = IsLong c (length s + 1)
+ScalarFails c (text s) = IsLengthTooGreat c (length s + 1)
+ScalarFails c (symbol s) = IsLengthTooGreat c (length s + 1)
+ScalarFails c (code s) = IsLengthTooGreat c (length s + 1)
 ScalarFails c (regex p o) = HasZeroRegex c p o
-ScalarFails c (binary k s) = IsLong c (subtyped_size (subtype_byte k) s)
-ScalarFails c (db_pointer s id) = IsLong c (length s + 1)
+ScalarFails c (binary k s) = IsLengthTooGreat c (subtyped_size (subtype_byte k) s)
+ScalarFails c (db_pointer s id) = IsLengthTooGreat c (length s + 1)
 ScalarFails c x = ⊥
 
 abbrev mutual
@@ -155,34 +155,34 @@ abbrev mutual
   pub ValueFails : Cause → Value → Type 0
   ValueFails c (scalar x) = ScalarFails c x
   ValueFails c (code_scope s ps) =
-      (IsLong c (length s + 1)
-      ⊎ (IsSize (length s + 1) × (ListFails c ps ⊎ (FitsList ps × IsLong c (length (list_bytes ps) + 5)))))
-      ⊎ ((IsSize (length s + 1) × (FitsList ps × IsSize (length (list_bytes ps) + 5)))
-      × IsLong c (scope_size s (framed (list_bytes ps))))
-  ValueFails c (array vs) = ItemsFail c vs ⊎ (FitsItems vs × IsLong c (length (items_bytes 0 vs) + 5))
-  ValueFails c (document ps) = ListFails c ps ⊎ (FitsList ps × IsLong c (length (list_bytes ps) + 5))
+      (IsLengthTooGreat c (length s + 1)
+      ⊎ (IsLength (length s + 1) × (ElementsFail c ps ⊎ (FitsElements ps × IsLengthTooGreat c (length (elements_bytes ps) + 5)))))
+      ⊎ ((IsLength (length s + 1) × (FitsElements ps × IsLength (length (elements_bytes ps) + 5)))
+      × IsLengthTooGreat c (scope_size s (document_of_elements (elements_bytes ps))))
+  ValueFails c (array vs) = ItemsFail c vs ⊎ (FitsItems vs × IsLengthTooGreat c (length (array_elements_bytes 0 vs) + 5))
+  ValueFails c (document ps) = ElementsFail c ps ⊎ (FitsElements ps × IsLengthTooGreat c (length (elements_bytes ps) + 5))
 
   pub ItemsFail : Cause → Values → Type 0
   ItemsFail c no_values = ⊥
   ItemsFail c (value v vs) = ValueFails c v ⊎ (FitsValue v × ItemsFail c vs)
 
-  pub ListFails : Cause → Pairs → Type 0
-  ListFails c no_pairs = ⊥
-  ListFails c (pair k v ps) = HasZeroKey c k ⊎ (NoZero k × (ValueFails c v ⊎ (FitsValue v × ListFails c ps)))
+  pub ElementsFail : Cause → Pairs → Type 0
+  ElementsFail c no_pairs = ⊥
+  ElementsFail c (pair k v ps) = HasZeroKey c k ⊎ (NoZero k × (ValueFails c v ⊎ (FitsValue v × ElementsFail c ps)))
 
 abbrev pub DocumentFails : Cause → Pairs → Type 0
-DocumentFails c ps = ListFails c ps ⊎ (FitsList ps × IsLong c (length (list_bytes ps) + 5))
+DocumentFails c ps = ElementsFail c ps ⊎ (FitsElements ps × IsLengthTooGreat c (length (elements_bytes ps) + 5))
 
 -- ---- what is read back
 
 -- the scalar with the subtype that its byte names
-abbrev pub by_byte : Scalar → Scalar
-by_byte (binary k s) = binary (subtype_of (subtype_byte k)) s
-by_byte x = x
+abbrev pub with_written_subtype : Scalar → Scalar
+with_written_subtype (binary k s) = binary (subtype_of (subtype_byte k)) s
+with_written_subtype x = x
 
 -- the pairs as they are read back from their bytes
-abbrev pub as_written : Pairs → Pairs
-as_written ps = map_scalars_of_pairs by_byte ps
+abbrev pub as_read_back : Pairs → Pairs
+as_read_back ps = map_scalars_of_pairs with_written_subtype ps
 
 -- what each value of the Rust types is: its numbers are in range, and its texts are UTF-8
 abbrev pub IsWellTypedScalar : Scalar → Type 0
@@ -205,9 +205,9 @@ abbrev mutual
   -- and no document has a duplicate key
   pub IsWellTyped : Value → Type 0
   IsWellTyped (scalar x) = IsWellTypedScalar x
-  IsWellTyped (code_scope s ps) = (is_utf8 s ≡ true) × PairsAreWellTyped ps × (one_each ps ≡ ps)
+  IsWellTyped (code_scope s ps) = (is_utf8 s ≡ true) × PairsAreWellTyped ps × (deduplicated ps ≡ ps)
   IsWellTyped (array vs) = AreWellTyped vs
-  IsWellTyped (document ps) = PairsAreWellTyped ps × (one_each ps ≡ ps)
+  IsWellTyped (document ps) = PairsAreWellTyped ps × (deduplicated ps ≡ ps)
 
   pub AreWellTyped : Values → Type 0
   AreWellTyped no_values = Unit {0}
@@ -218,20 +218,20 @@ abbrev mutual
   PairsAreWellTyped (pair k v ps) = (is_utf8 k ≡ true) × IsWellTyped v × PairsAreWellTyped ps
 
 abbrev pub IsWellTypedDocument : Pairs → Type 0
-IsWellTypedDocument ps = PairsAreWellTyped ps × (one_each ps ≡ ps)
+IsWellTypedDocument ps = PairsAreWellTyped ps × (deduplicated ps ≡ ps)
 
 abbrev mutual
   -- documents, arrays and scopes nest at most d deep in the value
-  pub Nests : Value → ℕ → Type 0
-  Nests (scalar x) d = Unit {0}
-  Nests (code_scope s ps) d = (e : ℕ) × (d ≡ suc e) × NestsPairs ps e
-  Nests (array vs) d = (e : ℕ) × (d ≡ suc e) × NestsItems vs e
-  Nests (document ps) d = (e : ℕ) × (d ≡ suc e) × NestsPairs ps e
+  pub NestsUpTo : Value → ℕ → Type 0
+  NestsUpTo (scalar x) d = Unit {0}
+  NestsUpTo (code_scope s ps) d = (e : ℕ) × (d ≡ suc e) × PairsNestUpTo ps e
+  NestsUpTo (array vs) d = (e : ℕ) × (d ≡ suc e) × ItemsNestUpTo vs e
+  NestsUpTo (document ps) d = (e : ℕ) × (d ≡ suc e) × PairsNestUpTo ps e
 
-  pub NestsItems : Values → ℕ → Type 0
-  NestsItems no_values d = Unit {0}
-  NestsItems (value v vs) d = Nests v d × NestsItems vs d
+  pub ItemsNestUpTo : Values → ℕ → Type 0
+  ItemsNestUpTo no_values d = Unit {0}
+  ItemsNestUpTo (value v vs) d = NestsUpTo v d × ItemsNestUpTo vs d
 
-  pub NestsPairs : Pairs → ℕ → Type 0
-  NestsPairs no_pairs d = Unit {0}
-  NestsPairs (pair k v ps) d = Nests v d × NestsPairs ps d
+  pub PairsNestUpTo : Pairs → ℕ → Type 0
+  PairsNestUpTo no_pairs d = Unit {0}
+  PairsNestUpTo (pair k v ps) d = NestsUpTo v d × PairsNestUpTo ps d

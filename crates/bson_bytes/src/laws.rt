@@ -2,11 +2,11 @@
 ghost use Rattle.std.specs.Prelude.{◌≡◌, ◌↔◌, ◌++◌, ◌<◌, ◌≤◌, ℕ, suc, List, length, Ok, Err, slice_index};
 ghost use Rattle.bson_bytes.specs.declared.fault.Fault.{Fault};
 ghost use Rattle.bson_bytes.specs.Grammar.{IsDocument};
-ghost use Rattle.bson_bytes.specs.Laws.{IsRead, IsReadIn};
+ghost use Rattle.bson_bytes.specs.ReadDocuments.{IsRead, IsReadIn};
 ghost use Rattle.bson_bytes.specs.Reading.{reads_bytes_in};
-ghost use Rattle.bson_bytes.specs.declared.keys.DuplicateKeys.{DuplicateKeys};
-ghost use Rattle.bson_bytes.specs.Writing.{document_bytes, as_written, Cause, FitsDocument, DocumentFails};
-ghost use Rattle.bson_bytes.specs.Writing.{IsWellTypedDocument, NestsPairs};
+ghost use Rattle.bson_bytes.specs.declared.duplicate_keys.DuplicateKeys.{DuplicateKeys};
+ghost use Rattle.bson_bytes.specs.Writing.{document_bytes, as_read_back, Cause, FitsDocument, DocumentFails};
+ghost use Rattle.bson_bytes.specs.Writing.{IsWellTypedDocument, PairsNestUpTo};
 ghost use Rattle.bson_model.specs.Value.{Pairs};
 
 /// Proves that bytes are those of a document if and only if reading them returns it. So what is no
@@ -24,7 +24,7 @@ pub fn refusing_keys_changes_no_document()
 {}
 
 /// Proves that the position of a fault is one of the bytes, or their end.
-pub fn fault_stands_in_the_bytes()
+pub fn fault_is_in_the_bytes()
     ensures { (keys : DuplicateKeys) (d : ℕ) (bytes : List ℕ) (f : Fault) → reads_bytes_in keys d bytes ≡ Err f
         → f.left ≤ length bytes }
 {}
@@ -39,14 +39,14 @@ pub fn one_document()
 /// order, the same numbers, patterns and options, and each binary under the subtype that its byte
 /// names.
 pub fn written_is_read()
-    ensures { (d : ℕ) (ps : Pairs) → FitsDocument ps → IsWellTypedDocument ps → NestsPairs ps d
-        → IsRead (suc d) (document_bytes ps) (as_written ps) }
+    ensures { (d : ℕ) (ps : Pairs) → FitsDocument ps → IsWellTypedDocument ps → PairsNestUpTo ps d
+        → IsRead (suc d) (document_bytes ps) (as_read_back ps) }
 {}
 
 /// Proves that documents that are written as the same bytes are read back as the same.
 pub fn written_is_one()
     ensures { (d : ℕ) (ps qs : Pairs) → FitsDocument ps → FitsDocument qs → IsWellTypedDocument ps → IsWellTypedDocument qs
-        → NestsPairs ps d → NestsPairs qs d → document_bytes ps ≡ document_bytes qs → as_written ps ≡ as_written qs }
+        → PairsNestUpTo ps d → PairsNestUpTo qs d → document_bytes ps ≡ document_bytes qs → as_read_back ps ≡ as_read_back qs }
 {}
 
 /// Proves that a document whose parts all fit does not fail for a cause.

@@ -1,36 +1,36 @@
 //! BSON bytes (BSON 1.1, bsonspec.org), without `Bson`. Read the definitions in this order:
-//! `Grammar`, `Writing`; then `Fault` and `Reading`, for the order of faults. `parts` reads what an
-//! element is made of, and `put` writes it.
+//! `Grammar`, `Writing`; then `Fault` and `Reading`, for the order of faults. `read_parts` reads what an
+//! element is made of, and `write_parts` writes it.
 //!
-//! `source` reads each element once, and writes its value to a `ValueSink` (`sink`): to `nothing`,
-//! or as text (`text`). `document` has documents that remain bytes.
+//! `source` reads each element once, and writes its value to a `ValueSink` (`sink`): to `nothing_sink`,
+//! or as text (`text_sink`). `raw_document` has documents that remain bytes.
 #![tactic(auto)]
 
-pub mod access;
-pub mod document;
-pub mod element;
+pub mod typed_getters;
+pub mod raw_document;
+pub mod raw_element;
 pub mod error;
 pub mod fault;
-pub mod find;
-pub mod fixed;
-pub mod iter;
-pub mod keys;
+pub mod find_key;
+pub mod fixed_scalar;
+pub mod raw_iter;
+pub mod duplicate_keys;
 pub mod laws;
-pub mod nothing;
-pub mod parts;
-pub mod put;
-pub mod read;
-mod scalar_parts;
+pub mod nothing_sink;
+pub mod read_parts;
+pub mod write_parts;
+pub mod raw_read;
+mod read_scalars;
 pub mod sink;
-mod skip;
+mod skip_value;
 pub mod source;
 pub mod stop;
-pub mod text;
-pub mod value;
+pub mod text_sink;
+pub mod raw_value;
 
-pub use access::{ValueAccessError, ValueAccessResult};
-pub use document::{RawArray, RawDocument};
-pub use iter::{RawArrayIter, RawIter};
-pub use value::{
+pub use typed_getters::{ValueAccessError, ValueAccessResult};
+pub use raw_document::{RawArray, RawDocument};
+pub use raw_iter::{RawArrayIter, RawIter};
+pub use raw_value::{
     RawBinaryRef, RawBsonRef, RawDbPointerRef, RawJavaScriptCodeWithScopeRef, RawRegexRef,
 };

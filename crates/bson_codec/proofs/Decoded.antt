@@ -19,9 +19,9 @@ use Rattle.bson_model.proofs.OfferedInOrder.{default_written, has_no_float, one_
 use Rattle.bson_model.proofs.OfferedInOrder.{writable_is, written_to}
 use Rattle.bson.specs.Texts.{IsTextBy, IsTextInOrder}
 use Rattle.bson.specs.declared.extjson.key_order.KeyOrder.TheVariants.{AsGiven}
-use Rattle.bson_bytes.specs.Printed.{IsPrinted}
-use Rattle.bson_codec.specs.Documents.{IsLine, WritesLine}
-use Rattle.bson_codec.specs.Texts.{IsDocumentTextOf}
+use Rattle.bson_bytes.specs.PrintedText.{IsPrintedText}
+use Rattle.bson_codec.specs.DumpRuns.{IsLine, WritesLine}
+use Rattle.bson_codec.specs.DocumentText.{IsDocumentTextOf}
 use Rattle.bson_codec.specs.Diagnostics.{newline}
 use Rattle.bson_codec.specs.declared.documents.Line.TheVariants.{Text}
 use Rattle.bson_codec.specs.declared.documents.Run.{Run}
@@ -38,7 +38,7 @@ default_tree f v t h w ranged =
     let is = tree_is_in Finite f v it.0 it.1 ranged in
     subst (IsTreeOfIn Finite f v) (sym (is.one (tree_sorted_by_key t) (default_written Finite f v t h ranged))) is
 
-pub printed_is : (f : Form) (ps : Pairs) (s : String Global) → IsPrinted f ps (string_bytes s)
+pub printed_is : (f : Form) (ps : Pairs) (s : String Global) → IsPrintedText f ps (string_bytes s)
     → IsTextInOrder Finite f (document ps) (string_bytes s)
 printed_is f ps s (us, (w, r, d), text) =
     let v = document ps in

@@ -8,17 +8,17 @@ use Rattle.bson_model.specs.Value.{Value, Pairs, no_pairs, pair}
 use Rattle.bson_bytes.specs.declared.fault.Fault.{Fault}
 use Rattle.bson_bytes.specs.declared.fault.FaultKind.TheVariants.{DuplicateKey}
 use Rattle.bson_bytes.specs.Fault.{at}
-use Rattle.bson_bytes.specs.Grammar.{insert_value, settle, one_each}
-use Rattle.bson_bytes.specs.Reading.{name_at, key_at, is_new}
+use Rattle.bson_bytes.specs.Grammar.{insert_value, insert_pairs, deduplicated}
+use Rattle.bson_bytes.specs.Reading.{read_name, read_key, is_new}
 use Rattle.bson.specs.Pairs.{get, insert_pair}
 use Rattle.bson.specs.View.{bson_view, document_view, pairs_view, contents}
 use Rattle.bson.specs.declared.bson.Bson.{Bson}
 use Rattle.bson.specs.declared.document.Document.{Document}
-use Rattle.bson_bytes.specs.Source.{keys_back, with_pair}
+use Rattle.bson_bytes.specs.Source.{reversed_keys, with_pair}
 use Rattle.bson_bytes.proofs.OfferedSource.{keys_back_more}
 use Rattle.bson_codec.proofs.Listed.{pairs_view-put}
 use Rattle.bson_codec.proofs.Seen.{document_view-pairs}
-use Rattle.bson_codec.specs.Reading.{AreKeys}
+use Rattle.bson_codec.specs.ReadToMemory.{HaveKeys}
 
 -- ---- its keys once a pair is put
 
@@ -56,8 +56,8 @@ known_by : (b c : Bool) → cond b true (cond c false true) ≡ cond (cond b fal
 known_by true c = refl
 known_by false c = refl
 
-keys_more : (ks : List (List ℕ)) (ps qs : List (List ℕ × Bson)) (k : List ℕ) (v : Bson) → AreKeys ks ps
-    → qs ≡ insert_pair k v ps → AreKeys (k ∷ ks) qs
+keys_more : (ks : List (List ℕ)) (ps qs : List (List ℕ × Bson)) (k : List ℕ) (v : Bson) → HaveKeys ks ps
+    → qs ≡ insert_pair k v ps → HaveKeys (k ∷ ks) qs
 keys_more ks ps qs k v h is = λ q.
     ap (λ (x : List (List ℕ × Bson)). is_some (get q x)) is ∙ keys_put q k v ps
     ∙ ap (λ (b : Bool). cond (bytes_eq q k) true b) (h q) ∙ known_by (bytes_eq q k) (is_new q ks)
@@ -66,9 +66,9 @@ keys_more ks ps qs k v h is = λ q.
 
 -- the document is that of the pairs, and has their keys
 abbrev pub Distinct : Pairs → Document → Type 0
-Distinct ps d = (document_view d ≡ one_each ps) × AreKeys (keys_back ps []) (contents d)
+Distinct ps d = (document_view d ≡ deduplicated ps) × HaveKeys (reversed_keys ps []) (contents d)
 
-settle_more : (done ps : Pairs) (k : List ℕ) (v : Value) → settle done (with_pair ps k v) ≡ insert_value k v (settle done ps)
+settle_more : (done ps : Pairs) (k : List ℕ) (v : Value) → insert_pairs done (with_pair ps k v) ≡ insert_value k v (insert_pairs done ps)
 settle_more done no_pairs k v = refl
 settle_more done (pair l w ps) k v = settle_more (insert_value l w done) ps k v
 
@@ -81,13 +81,13 @@ pub distinct_more : (ps : Pairs) (d new : Document) (k : List ℕ) (v : Bson) �
 distinct_more ps d new k v put (seen, keys) = (
   document_view-pairs new ∙ ap pairs_view put ∙ pairs_view-put k v (contents d)
       ∙ ap (insert_value k (bson_view v)) (sym (document_view-pairs d) ∙ seen) ∙ sym (settle_more no_pairs ps k (bson_view v)),
-  subst (λ ks. AreKeys ks (contents new)) (sym (keys_back_more ps [] k (bson_view v)))
-      (keys_more (keys_back ps []) (contents d) (contents new) k v keys put),
+  subst (λ ks. HaveKeys ks (contents new)) (sym (keys_back_more ps [] k (bson_view v)))
+      (keys_more (reversed_keys ps []) (contents d) (contents new) k v keys put),
 )
 
 -- ---- its keys
 
-pub key_bad : (ks : List (List ℕ)) (bytes : List ℕ) (f : Fault) → name_at bytes ≡ Err f → key_at (Some ks) bytes ≡ Err f
+pub key_bad : (ks : List (List ℕ)) (bytes : List ℕ) (f : Fault) → read_name bytes ≡ Err f → read_key (Some ks) bytes ≡ Err f
 key_bad ks bytes f e = rw e refl
 
 new_by : (b c : Bool) → c ≡ cond b false true → c ≡ true → b ≡ false
@@ -98,10 +98,10 @@ new_unless : (b c : Bool) → c ≡ cond b false true → c ≡ false → b ≡ 
 new_unless true c is t = refl
 new_unless false c is t = absurd cc
 
-pub key_twice : (ks : List (List ℕ)) (ps : List (List ℕ × Bson)) (bytes s rest : List ℕ) → AreKeys ks ps
-    → name_at bytes ≡ Ok (s, rest) → is_some (get s ps) ≡ true → key_at (Some ks) bytes ≡ Err (at DuplicateKey bytes)
+pub key_twice : (ks : List (List ℕ)) (ps : List (List ℕ × Bson)) (bytes s rest : List ℕ) → HaveKeys ks ps
+    → read_name bytes ≡ Ok (s, rest) → is_some (get s ps) ≡ true → read_key (Some ks) bytes ≡ Err (at DuplicateKey bytes)
 key_twice ks ps bytes s rest h e t = rw (e, new_by (is_new s ks) (is_some (get s ps)) (h s) t) refl
 
-pub key_once : (ks : List (List ℕ)) (ps : List (List ℕ × Bson)) (bytes s rest : List ℕ) → AreKeys ks ps
-    → name_at bytes ≡ Ok (s, rest) → is_some (get s ps) ≡ false → key_at (Some ks) bytes ≡ Ok (s, rest)
+pub key_once : (ks : List (List ℕ)) (ps : List (List ℕ × Bson)) (bytes s rest : List ℕ) → HaveKeys ks ps
+    → read_name bytes ≡ Ok (s, rest) → is_some (get s ps) ≡ false → read_key (Some ks) bytes ≡ Ok (s, rest)
 key_once ks ps bytes s rest h e t = rw (e, new_unless (is_new s ks) (is_some (get s ps)) (h s) t) refl

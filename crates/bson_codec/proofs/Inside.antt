@@ -4,20 +4,20 @@ use Rattle.std.proofs.lemmas.List.{append-nil}
 use Rattle.std.specs.Io.KnownBytes.{Appends, Consumes}
 use Rattle.bson_codec.proofs.Justified.{ended, Ended}
 use Rattle.bson_codec.proofs.Streams.{front_none}
-use Rattle.bson_codec.specs.Documents.{EndsAt, EndsInside, HasNoLine, IsOfBytes, IsPassedOver}
-use Rattle.bson_codec.specs.Streams.{front_of}
+use Rattle.bson_codec.specs.DumpRuns.{EndsAt, EndsInside, HasNoLine, IsFaultOfDocument, IsSkipped}
+use Rattle.bson_codec.specs.Streams.{declared_prefix}
 use Rattle.bson_codec.specs.declared.documents.Run.{Run}
 use Rattle.bson_codec.specs.declared.run_end.RunFault.{RunFault}
 
 -- what stands behind the documents that were done
-record Behind (all done taken : List ℕ) : Type 0 where
+record Behind (all done bytes_read : List ℕ) : Type 0 where
   rest : List ℕ
   parts : all ≡ done ++ rest
 
-following : (all done taken : List ℕ) (after : Option (List ℕ)) → Consumes (Some all) after (done ++ taken)
-    → Behind all done taken
-following all done taken None h = absurd h
-following all done taken (Some left) h = record { rest = taken ++ left; parts = h ∙ append_assoc done taken left }
+following : (all done bytes_read : List ℕ) (after : Option (List ℕ)) → Consumes (Some all) after (done ++ bytes_read)
+    → Behind all done bytes_read
+following all done bytes_read None h = absurd h
+following all done bytes_read (Some left) h = record { rest = bytes_read ++ left; parts = h ∙ append_assoc done bytes_read left }
 
 kept : (had holds : Option (List ℕ)) (output more : List ℕ) → more ≡ [] → Appends had holds (output ++ more)
     → Appends had holds output
@@ -26,15 +26,15 @@ kept had holds output more e h =
 
 pub ends_inside : (run : Run) (all : List ℕ) (after had holds reported reports : Option (List ℕ)) (fault : RunFault)
     (number refused start : ℕ) → EndsAt run (Some all) after had holds reported reports fault number refused start
-    → IsOfBytes fault
-    → (output : List ℕ) × (verdicts : List ℕ) × EndsInside run all output verdicts fault number refused start
-    × Appends had holds output × Appends reported reports verdicts
+    → IsFaultOfDocument fault
+    → (output : List ℕ) × (diagnostic_lines : List ℕ) × EndsInside run all output diagnostic_lines fault number refused start
+    × Appends had holds output × Appends reported reports diagnostic_lines
 ends_inside run all after had holds reported reports fault number refused start h is =
-    let e = ended fault run number start (Some all) h.done h.taken h.more h.said is h.reason h.front in
-    let b = following all h.done h.taken after h.given in
+    let e = ended fault run number start (Some all) h.done h.bytes_read h.more h.partial_report is h.reason h.front in
+    let b = following all h.done h.bytes_read after h.consumed_bytes in
     let known : Some all ≡ Some (h.done ++ b.rest) = ap (λ (x : List ℕ). Some x) b.parts in
-    let first : h.taken ≡ front_of b.rest = e.front b.rest known in
-    let inside : EndsInside run all h.output h.verdicts fault number refused start = record {
+    let first : h.bytes_read ≡ declared_prefix b.rest = e.front b.rest known in
+    let inside : EndsInside run all h.output h.diagnostic_lines fault number refused start = record {
       done = h.done;
       rest = b.rest;
       count = h.count;
@@ -42,8 +42,8 @@ ends_inside run all after had holds reported reports fault number refused start 
       documents = h.documents;
       counted = h.counted;
       place = h.place;
-      some = λ none. e.some (first ∙ ap front_of none ∙ front_none);
+      some = λ none. e.some (first ∙ ap declared_prefix none ∙ front_none);
       reason = subst (HasNoLine fault run) first e.bad;
-      last = λ over. e.last (subst (IsPassedOver run) (sym first) over);
+      last = λ over. e.last (subst (IsSkipped run) (sym first) over);
     } in
-    (h.output, h.verdicts, inside, kept had holds h.output h.more e.no_more h.written, kept reported reports h.verdicts h.said e.unsaid h.reports_appended)
+    (h.output, h.diagnostic_lines, inside, kept had holds h.output h.more e.no_more h.written, kept reported reports h.diagnostic_lines h.partial_report e.unsaid h.reports_appended)

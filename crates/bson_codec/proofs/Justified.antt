@@ -5,16 +5,16 @@ use Rattle.std.proofs.lemmas.List.{take_at}
 use Rattle.std.specs.Io.KnownBytes.{Consumes}
 use Rattle.bson_model.specs.Value.{Pairs}
 use Rattle.bson_bytes.proofs.Offered.{is_read}
-use Rattle.bson_bytes.specs.Laws.{IsRead, IsFront}
+use Rattle.bson_bytes.specs.ReadDocuments.{IsRead, IsFirstDocument}
 use Rattle.bson_bytes.specs.Reading.{reads_bytes}
 use Rattle.bson_bytes.specs.declared.fault.Fault.{Fault}
 use Rattle.bson_bytes.specs.declared.fault.FaultKind.{FaultKind}
-use Rattle.bson_bytes.specs.declared.keys.DuplicateKeys.TheVariants.{Replace}
+use Rattle.bson_bytes.specs.declared.duplicate_keys.DuplicateKeys.TheVariants.{Replace}
 use Rattle.bson_codec.proofs.Streams.{front_none, front_read}
-use Rattle.bson_codec.specs.Documents.{EndsAt, EndsFor, HasNoLine, IsJustified, IsOfBytes, IsPassedOver, IsUnwritable}
-use Rattle.bson_codec.specs.Documents.{TakesFront}
-use Rattle.bson_codec.specs.Errors.{IsPlacedFault}
-use Rattle.bson_codec.specs.Streams.{front_of}
+use Rattle.bson_codec.specs.DumpRuns.{EndsAt, IsEndReason, HasNoLine, IsJustified, IsFaultOfDocument, IsSkipped, IsUnwritable}
+use Rattle.bson_codec.specs.DumpRuns.{ConsumesPrefix}
+use Rattle.bson_codec.specs.ReadErrors.{IsFaultAtOffset}
+use Rattle.bson_codec.specs.Streams.{declared_prefix}
 use Rattle.bson_codec.specs.declared.documents.Run.{Run}
 use Rattle.bson_codec.specs.declared.run_end.RunFault.{RunFault}
 use Rattle.bson_codec.specs.declared.run_end.RunFault.TheVariants.{Malformed, FiniteDouble, CannotRead, CannotWrite}
@@ -28,7 +28,7 @@ read_one d bytes ps qs h k =
 
 -- a document has no fault
 pub faultless : (k : FaultKind) (n d : ℕ) (bytes : List ℕ) (ps : Pairs) → IsRead d bytes ps
-    → IsPlacedFault k n bytes (reads_bytes d bytes) → ⊥
+    → IsFaultAtOffset k n bytes (reads_bytes d bytes) → ⊥
 faultless k n d bytes ps h (f, e, w, l) = let o : reads_bytes d bytes ≡ Ok ps = is_read Replace d bytes ps h in absurd cc
 
 -- a document of which nothing can be written has no text
@@ -42,59 +42,59 @@ no_line CannotWrite run bytes ps h read = absurd h
 no_line OutOfMemory run bytes ps h read = absurd h
 
 -- how a run ended for a fault of bytes
-pub record Ended (fault : RunFault) (run : Run) (before : Option (List ℕ)) (done taken more said : List ℕ) : Type 0 where
-  pub bad : HasNoLine fault run taken
-  pub last : IsPassedOver run taken → ⊥
+pub record Ended (fault : RunFault) (run : Run) (before : Option (List ℕ)) (done bytes_read more partial_report : List ℕ) : Type 0 where
+  pub bad : HasNoLine fault run bytes_read
+  pub last : IsSkipped run bytes_read → ⊥
   pub no_more : more ≡ []
-  pub unsaid : said ≡ []
-  pub some : taken ≢ []
-  pub front : (rest : List ℕ) → before ≡ Some (done ++ rest) → taken ≡ front_of rest
+  pub unsaid : partial_report ≡ []
+  pub some : bytes_read ≢ []
+  pub front : (rest : List ℕ) → before ≡ Some (done ++ rest) → bytes_read ≡ declared_prefix rest
 
-pub ended : (fault : RunFault) (run : Run) (number start : ℕ) (before : Option (List ℕ)) (done taken more said : List ℕ)
-    → IsOfBytes fault → EndsFor fault run number start taken more said → TakesFront fault before done taken
-    → Ended fault run before done taken more said
-ended (Malformed k n) run number start before done taken more said is h f =
+pub ended : (fault : RunFault) (run : Run) (number start : ℕ) (before : Option (List ℕ)) (done bytes_read more partial_report : List ℕ)
+    → IsFaultOfDocument fault → IsEndReason fault run number start bytes_read more partial_report → ConsumesPrefix fault before done bytes_read
+    → Ended fault run before done bytes_read more partial_report
+ended (Malformed k n) run number start before done bytes_read more partial_report is h f =
     record { bad = h.0; last = h.1; no_more = h.2; unsaid = h.3; some = f.0; front = f.1 }
-ended FiniteDouble run number start before done taken more said is h f =
+ended FiniteDouble run number start before done bytes_read more partial_report is h f =
     record { bad = h.0; last = h.1; no_more = h.2; unsaid = h.3; some = f.0; front = f.1 }
-ended CannotRead run number start before done taken more said is h f = absurd is
-ended CannotWrite run number start before done taken more said is h f = absurd is
-ended OutOfMemory run number start before done taken more said is h f = absurd is
+ended CannotRead run number start before done bytes_read more partial_report is h f = absurd is
+ended CannotWrite run number start before done bytes_read more partial_report is h f = absurd is
+ended OutOfMemory run number start before done bytes_read more partial_report is h f = absurd is
 
 -- the bytes of a reader, and their beginning
 same_front : (a b c d : List ℕ) → a ++ b ≡ c ++ d → length a ≡ length c → a ≡ c
 same_front a b c d e l = sym (take_at a b (length a) refl) ∙ ap (take (length a)) e ∙ take_at c d (length a) (sym l)
 
 justified_by : (run : Run) (before after : Option (List ℕ)) (fault : RunFault) (number start : ℕ)
-    (own taken more said : List ℕ) → Consumes before after (own ++ taken) → start ≡ length own
-    → EndsFor fault run number start taken more said → TakesFront fault before own taken
+    (own bytes_read more partial_report : List ℕ) → Consumes before after (own ++ bytes_read) → start ≡ length own
+    → IsEndReason fault run number start bytes_read more partial_report → ConsumesPrefix fault before own bytes_read
     → IsJustified run before fault start
-justified_by run None after fault number start own taken more said given place reason front = λ done rest known at is.
+justified_by run None after fault number start own bytes_read more partial_report consumed_bytes place reason front = λ done rest known at is.
     absurd cc
-justified_by run (Some all) None fault number start own taken more said given place reason front =
-    λ done rest known at is. absurd given
-justified_by run (Some all) (Some left) fault number start own taken more said given place reason front =
+justified_by run (Some all) None fault number start own bytes_read more partial_report consumed_bytes place reason front =
+    λ done rest known at is. absurd consumed_bytes
+justified_by run (Some all) (Some left) fault number start own bytes_read more partial_report consumed_bytes place reason front =
     λ done rest known at is.
-    let e = ended fault run number start (Some all) own taken more said is reason front in
-    let whole : done ++ rest ≡ own ++ (taken ++ left) =
-    let i : all ≡ done ++ rest = cc in sym i ∙ given ∙ append_assoc own taken left in
-    let same : done ≡ own = same_front done rest own (taken ++ left) whole (at ∙ place) in
-    let first : taken ≡ front_of rest =
+    let e = ended fault run number start (Some all) own bytes_read more partial_report is reason front in
+    let whole : done ++ rest ≡ own ++ (bytes_read ++ left) =
+    let i : all ≡ done ++ rest = cc in sym i ∙ consumed_bytes ∙ append_assoc own bytes_read left in
+    let same : done ≡ own = same_front done rest own (bytes_read ++ left) whole (at ∙ place) in
+    let first : bytes_read ≡ declared_prefix rest =
     e.front rest (subst (λ (d : List ℕ). Some all ≡ Some (d ++ rest)) same known) in (
-      λ none. e.some (first ∙ ap front_of none ∙ front_none),
-      λ ps more f. no_line fault run taken ps e.bad
+      λ none. e.some (first ∙ ap declared_prefix none ∙ front_none),
+      λ ps more f. no_line fault run bytes_read ps e.bad
           (subst (λ (b : List ℕ). IsRead run.depth b ps) (sym first) (front_read run.depth rest ps more f)),
-      λ over. e.last (subst (IsPassedOver run) (sym first) over),
+      λ over. e.last (subst (IsSkipped run) (sym first) over),
     )
 
 pub justified : {run : Run} {before after had holds reported reports : Option (List ℕ)} {fault : RunFault}
     {number refused start : ℕ} → EndsAt run before after had holds reported reports fault number refused start
     → IsJustified run before fault start
 justified {run = run} {before = before} {after = after} {fault = fault} {number = number} {start = start} h =
-    justified_by run before after fault number start h.done h.taken h.more h.said h.given h.place h.reason h.front
+    justified_by run before after fault number start h.done h.bytes_read h.more h.partial_report h.consumed_bytes h.place h.reason h.front
 
 -- an end without a document
 pub unread_justified : (run : Run) (before : Option (List ℕ)) (fault : RunFault) (start : ℕ)
     → (fault ≡ CannotRead) ⊎ (fault ≡ OutOfMemory) → IsJustified run before fault start
-unread_justified run before fault start (inl e) = λ done rest known at is. absurd (subst IsOfBytes e is)
-unread_justified run before fault start (inr e) = λ done rest known at is. absurd (subst IsOfBytes e is)
+unread_justified run before fault start (inl e) = λ done rest known at is. absurd (subst IsFaultOfDocument e is)
+unread_justified run before fault start (inr e) = λ done rest known at is. absurd (subst IsFaultOfDocument e is)

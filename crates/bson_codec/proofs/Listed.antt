@@ -4,19 +4,19 @@ use Rattle.std.proofs.Common.{◌∙◌, subst, string_bytes}
 use Rattle.std.specs.Str.{bytes_eq}
 use Rattle.bson_store.specs.declared.small.Pair.{Pair}
 use Rattle.bson_model.specs.Value.{Value, Values, no_values, value, Pairs, no_pairs, pair}
-use Rattle.bson_bytes.specs.Grammar.{pair_values, insert_value, settle, one_each}
-use Rattle.bson_bytes.specs.Reading.{key_at, name_at}
-use Rattle.bson_bytes.specs.declared.keys.DuplicateKeys.{DuplicateKeys}
-use Rattle.bson_bytes.specs.declared.keys.DuplicateKeys.TheVariants.{Replace, Refuse}
+use Rattle.bson_bytes.specs.Grammar.{pair_values, insert_value, insert_pairs, deduplicated}
+use Rattle.bson_bytes.specs.Reading.{read_key, read_name}
+use Rattle.bson_bytes.specs.declared.duplicate_keys.DuplicateKeys.{DuplicateKeys}
+use Rattle.bson_bytes.specs.declared.duplicate_keys.DuplicateKeys.TheVariants.{Replace, Refuse}
 use Rattle.bson.specs.Pairs.{insert_pair}
 use Rattle.bson.specs.Put.{put_entries}
 use Rattle.bson.specs.View.{bson_view, document_view, values_view, pairs_view, contents}
 use Rattle.bson.specs.declared.bson.Bson.{Bson}
 use Rattle.bson.specs.declared.document.Document.{Document}
-use Rattle.bson_bytes.specs.Source.{ReadsTo, keys_before, with_pair}
+use Rattle.bson_bytes.specs.Source.{ReadsTo, earlier_keys, with_pair}
 use Rattle.bson_bytes.specs.declared.stop.Stop.{Stop}
 use Rattle.bson_codec.proofs.Seen.{document_view-pairs}
-use Rattle.bson_codec.specs.Reading.{OfKind, entries_view}
+use Rattle.bson_codec.specs.ReadToMemory.{DocumentOrArray, entries_view}
 
 -- ---- a document of entries
 
@@ -30,15 +30,15 @@ pairs_view-put k v [] = refl
 pairs_view-put k v (p ∷ ps) = put_view_by (bytes_eq k p.0) k v p ps (insert_pair k v ps) (insert_value k (bson_view v) (pairs_view ps)) (pairs_view-put k v ps)
 
 view-put_entries : (es : List (Pair Bson)) (ps : List (List ℕ × Bson))
-    → pairs_view (put_entries es ps) ≡ settle (pairs_view ps) (entries_view es)
+    → pairs_view (put_entries es ps) ≡ insert_pairs (pairs_view ps) (entries_view es)
 view-put_entries [] ps = refl
 view-put_entries (e ∷ es) ps =
     view-put_entries es (insert_pair (string_bytes e.key) e.value ps)
-    ∙ ap (λ (q : Pairs). settle q (entries_view es)) (pairs_view-put (string_bytes e.key) e.value ps)
+    ∙ ap (λ (q : Pairs). insert_pairs q (entries_view es)) (pairs_view-put (string_bytes e.key) e.value ps)
 
 pub document_is : (d : Document) (es : List (Pair Bson)) (ps : Pairs) → contents d ≡ put_entries es []
-    → entries_view es ≡ ps → document_view d ≡ one_each ps
-document_is d es ps h made = document_view-pairs d ∙ ap pairs_view h ∙ view-put_entries es [] ∙ ap one_each made
+    → entries_view es ≡ ps → document_view d ≡ deduplicated ps
+document_is d es ps h made = document_view-pairs d ∙ ap pairs_view h ∙ view-put_entries es [] ∙ ap deduplicated made
 
 -- ---- one more
 
@@ -70,24 +70,24 @@ items_more xs x ps k is =
 
 -- ---- a document or an array
 
-pub of_document : (b : Bool) (D A : Type 0) → b ≡ true → OfKind b D A → D
+pub of_document : (b : Bool) (D A : Type 0) → b ≡ true → DocumentOrArray b D A → D
 of_document true D A t h = h
 of_document false D A t h = absurd cc
 
-pub either_kind : (b : Bool) (D A : Type 0) → D → A → OfKind b D A
+pub either_kind : (b : Bool) (D A : Type 0) → D → A → DocumentOrArray b D A
 either_kind true D A d a = d
 either_kind false D A d a = a
 
 pub pair_put : {P : Type 0} (Holds : Pairs → P → Type 0) (b : Bool) (A B : Type 0) (old new : P) (key : List ℕ) (x : Value)
     (ps : Pairs) (k : List ℕ) (v : Value) → b ≡ true → (Holds ps old → Holds (with_pair ps key x) new)
-    → OfKind b (Holds ps old) A → OfKind b (key ≡ k) (Unit {0}) → x ≡ v → OfKind b (Holds (with_pair ps k v) new) B
+    → DocumentOrArray b (Holds ps old) A → DocumentOrArray b (key ≡ k) (Unit {0}) → x ≡ v → DocumentOrArray b (Holds (with_pair ps k v) new) B
 pair_put Holds true A B old new key x ps k v t put list name is =
     subst (λ q. Holds (with_pair ps q v) new) name (subst (λ w. Holds (with_pair ps key w) new) is (put list))
 pair_put Holds false A B old new key x ps k v t put list name is = absurd cc
 
 pub item_put : (b : Bool) (D E : Type 0) (old new : List Bson) (x : Bson) (ps : Pairs) (k : List ℕ) (v : Value) → b ≡ false
     → (values_view old ≡ pair_values ps → values_view new ≡ pair_values (with_pair ps k (bson_view x)))
-    → OfKind b D (values_view old ≡ pair_values ps) → bson_view x ≡ v → OfKind b E (values_view new ≡ pair_values (with_pair ps k v))
+    → DocumentOrArray b D (values_view old ≡ pair_values ps) → bson_view x ≡ v → DocumentOrArray b E (values_view new ≡ pair_values (with_pair ps k v))
 item_put true D E old new x ps k v t put list is = absurd cc
 item_put false D E old new x ps k v t put list is = put list ∙ ap (λ w. pair_values (with_pair ps k w)) is
 
@@ -95,14 +95,14 @@ item_put false D E old new x ps k v t put list is = put list ∙ ap (λ w. pair_
 
 pub named_key : {X : Type 0} (May : Stop → Type 0) (rest name : X → List ℕ) (b : Bool) (keys : DuplicateKeys) (ps : Pairs)
     (bytes : List ℕ) (r : Result X Stop) → b ≡ true
-    → ReadsTo May rest (λ s x. name x ≡ s) r (key_at (keys_before keys true ps) bytes)
-    → ReadsTo May rest (λ s x. OfKind b (name x ≡ s) (Unit {0})) r (key_at (keys_before keys b ps) bytes)
+    → ReadsTo May rest (λ s x. name x ≡ s) r (read_key (earlier_keys keys true ps) bytes)
+    → ReadsTo May rest (λ s x. DocumentOrArray b (name x ≡ s) (Unit {0})) r (read_key (earlier_keys keys b ps) bytes)
 named_key May rest name true keys ps bytes r t h = h
 named_key May rest name false keys ps bytes r t h = absurd cc
 
 pub named_free : {X : Type 0} (May : Stop → Type 0) (rest name : X → List ℕ) (b : Bool) (keys : DuplicateKeys) (ps : Pairs)
-    (bytes : List ℕ) (r : Result X Stop) → b ≡ false → ReadsTo May rest (λ s x. Unit {0}) r (name_at bytes)
-    → ReadsTo May rest (λ s x. OfKind b (name x ≡ s) (Unit {0})) r (key_at (keys_before keys b ps) bytes)
+    (bytes : List ℕ) (r : Result X Stop) → b ≡ false → ReadsTo May rest (λ s x. Unit {0}) r (read_name bytes)
+    → ReadsTo May rest (λ s x. DocumentOrArray b (name x ≡ s) (Unit {0})) r (read_key (earlier_keys keys b ps) bytes)
 named_free May rest name true keys ps bytes r t h = absurd cc
 named_free May rest name false Replace ps bytes r t h = h
 named_free May rest name false Refuse ps bytes r t h = h

@@ -12,14 +12,14 @@ use Rattle.bson_scalar.specs.declared.form.Doubles.{Doubles}
 use Rattle.bson_scalar.specs.declared.form.Form.{Form}
 use Rattle.bson_model.specs.Value.{Pairs, Value, document}
 use Rattle.bson_bytes.proofs.Offered.{size_again}
-use Rattle.bson_bytes.specs.Reading.{reads_bytes, size_at}
+use Rattle.bson_bytes.specs.Reading.{reads_bytes, read_length}
 use Rattle.bson_codec.proofs.Justified.{faultless, no_line, read_one}
 use Rattle.bson_codec.proofs.Lengths.{Counted, counted, length_front, one_span}
 use Rattle.bson_codec.proofs.Runs.{same_rest}
 use Rattle.bson_codec.proofs.Streams.{sized}
-use Rattle.bson_codec.specs.Documents.{BeginsWithLength, Dump, none, written, passed_over, EndsInside, HasNoLine, IsLine}
-use Rattle.bson_codec.specs.Documents.{IsPassedOver, IsUnwritable, WritesLine}
-use Rattle.bson_codec.specs.Streams.{front_of}
+use Rattle.bson_codec.specs.DumpRuns.{BeginsWithLength, Dump, none, written, skipped_document, EndsInside, HasNoLine, IsLine}
+use Rattle.bson_codec.specs.DumpRuns.{IsSkipped, IsUnwritable, WritesLine}
+use Rattle.bson_codec.specs.Streams.{declared_prefix}
 use Rattle.bson_codec.specs.Diagnostics.{newline, diagnostic_of}
 use Rattle.bson_codec.specs.declared.documents.Line.{Line}
 use Rattle.bson_codec.specs.declared.documents.Line.TheVariants.{Text, Shown, Nothing}
@@ -33,7 +33,7 @@ use Rattle.bson_codec.specs.declared.run_end.RunFault.TheVariants.{OutOfMemory}
 line_length : (run : Run) (bytes line : List ℕ) → IsLine run bytes line → BeginsWithLength bytes
 line_length run bytes line h =
     let s = sized h.read.grammar in
-    (s.body, ap size_at s.whole ∙ size_again (length bytes) s.body s.small)
+    (s.body, ap read_length s.whole ∙ size_again (length bytes) s.body s.small)
 
 one_text : (order : KeyOrder) (D : Doubles) (f : Form) (v : Value) (s t : List ℕ) → IsTextBy order D f v s
     → IsTextBy order D f v t → s ≡ t
@@ -85,11 +85,11 @@ one_fault run bytes OutOfMemory g h k = absurd h
 
 -- ---- the last document of a dump
 
-abbrev Step : Run → (number start : ℕ) → (bytes line said : List ℕ) → (over : ℕ) → Type 0
-Step run number start bytes line said over =
-    (IsLine run bytes line × (said ≡ []) × (over ≡ 0))
-    ⊎ ((fault : RunFault) × HasNoLine fault run bytes × IsPassedOver run bytes × (line ≡ [])
-    × (said ≡ diagnostic_of number start fault) × (over ≡ 1))
+abbrev Step : Run → (number start : ℕ) → (bytes line partial_report : List ℕ) → (over : ℕ) → Type 0
+Step run number start bytes line partial_report over =
+    (IsLine run bytes line × (partial_report ≡ []) × (over ≡ 0))
+    ⊎ ((fault : RunFault) × HasNoLine fault run bytes × IsSkipped run bytes × (line ≡ [])
+    × (partial_report ≡ diagnostic_of number start fault) × (over ≡ 1))
 
 record Last (run : Run) (bytes output reported : List ℕ) (number refused : ℕ) : Type 0 where
   before : List ℕ
@@ -97,14 +97,14 @@ record Last (run : Run) (bytes output reported : List ℕ) (number refused : ℕ
   out : List ℕ
   line : List ℕ
   reports : List ℕ
-  said : List ℕ
+  partial_report : List ℕ
   left : ℕ
   over : ℕ
   dump : Dump run before out reports number left
-  step : Step run (number + 1) (length before) span line said over
+  step : Step run (number + 1) (length before) span line partial_report over
   bytes_are : bytes ≡ before ++ span
   output_is : output ≡ out ++ line
-  told_is : reported ≡ reports ++ said
+  told_is : reported ≡ reports ++ partial_report
   refused_are : refused ≡ left + over
 
 last_of : {run : Run} {bytes output reported : List ℕ} {number refused : ℕ} (n : ℕ)
@@ -118,7 +118,7 @@ last_of {run = run} n (written {before = before} {output = output} {reported = r
       out = output;
       line = line;
       reports = reported;
-      said = [];
+      partial_report = [];
       left = refused;
       over = 0;
       dump = subst (λ (k : ℕ). Dump run before output reported k refused) count d;
@@ -128,7 +128,7 @@ last_of {run = run} n (written {before = before} {output = output} {reported = r
       told_is = sym (append-nil reported);
       refused_are = omega arith;
     }
-last_of {run = run} n (passed_over {before = before} {output = output} {reported = reported} {number = number} {refused = refused} bytes fault d over bad) e =
+last_of {run = run} n (skipped_document {before = before} {output = output} {reported = reported} {number = number} {refused = refused} bytes fault d over bad) e =
     let count : number ≡ n = omega (arith, e) in
     record {
       before = before;
@@ -136,7 +136,7 @@ last_of {run = run} n (passed_over {before = before} {output = output} {reported
       out = output;
       line = [];
       reports = reported;
-      said = diagnostic_of (number + 1) (length before) fault;
+      partial_report = diagnostic_of (number + 1) (length before) fault;
       left = refused;
       over = 1;
       dump = subst (λ (k : ℕ). Dump run before output reported k refused) count d;
@@ -151,21 +151,21 @@ none_of : {run : Run} {bytes output reported : List ℕ} {number refused : ℕ} 
     → number ≡ 0 → (bytes ≡ []) × (output ≡ []) × (reported ≡ []) × (refused ≡ 0)
 none_of none e = (refl, refl, refl, refl)
 none_of (written bytes line d is) e = absurd (omega (arith, e))
-none_of (passed_over bytes fault d over bad) e = absurd (omega (arith, e))
+none_of (skipped_document bytes fault d over bad) e = absurd (omega (arith, e))
 
-step_length : (run : Run) (number start : ℕ) (bytes line said : List ℕ) (over : ℕ)
-    → Step run number start bytes line said over → BeginsWithLength bytes
-step_length run number start bytes line said over (inl s) = line_length run bytes line s.0
-step_length run number start bytes line said over (inr s) = s.2.1
+step_length : (run : Run) (number start : ℕ) (bytes line partial_report : List ℕ) (over : ℕ)
+    → Step run number start bytes line partial_report over → BeginsWithLength bytes
+step_length run number start bytes line partial_report over (inl s) = line_length run bytes line s.0
+step_length run number start bytes line partial_report over (inr s) = s.2.1
 
-one_step : (run : Run) (number start : ℕ) (bytes a b said reports : List ℕ) (n m : ℕ)
-    → Step run number start bytes a said n → Step run number start bytes b reports m
-    → (a ≡ b) × (said ≡ reports) × (n ≡ m)
-one_step run number start bytes a b said reports n m (inl s) (inl t) =
+one_step : (run : Run) (number start : ℕ) (bytes a b partial_report reports : List ℕ) (n m : ℕ)
+    → Step run number start bytes a partial_report n → Step run number start bytes b reports m
+    → (a ≡ b) × (partial_report ≡ reports) × (n ≡ m)
+one_step run number start bytes a b partial_report reports n m (inl s) (inl t) =
     (one_line run bytes a b s.0 t.0, s.1 ∙ sym t.1, s.2 ∙ sym t.2)
-one_step run number start bytes a b said reports n m (inl s) (inr t) = absurd (either_line run bytes a t.0 s.0 t.1)
-one_step run number start bytes a b said reports n m (inr s) (inl t) = absurd (either_line run bytes b s.0 t.0 s.1)
-one_step run number start bytes a b said reports n m (inr (f, h, o, l, w, c)) (inr (g, k, p, q, v, d)) =
+one_step run number start bytes a b partial_report reports n m (inl s) (inr t) = absurd (either_line run bytes a t.0 s.0 t.1)
+one_step run number start bytes a b partial_report reports n m (inr s) (inl t) = absurd (either_line run bytes b s.0 t.0 s.1)
+one_step run number start bytes a b partial_report reports n m (inr (f, h, o, l, w, c)) (inr (g, k, p, q, v, d)) =
     let same : f ≡ g = one_fault run bytes f g h k in
     (l ∙ sym q, w ∙ ap (diagnostic_of number start) same ∙ sym v, c ∙ sym d)
 
@@ -174,7 +174,7 @@ one_step run number start bytes a b said reports n m (inr (f, h, o, l, w, c)) (i
 record Same (a b output other reported reports : List ℕ) (refused left : ℕ) : Type 0 where
   pub bytes : a ≡ b
   pub outputs : output ≡ other
-  pub verdicts : reported ≡ reports
+  pub diagnostic_lines : reported ≡ reports
   pub counts : refused ≡ left
 
 same_count : (n : ℕ) (run : Run) (a b output other reported reports x y : List ℕ) (refused left : ℕ)
@@ -183,7 +183,7 @@ same_count : (n : ℕ) (run : Run) (a b output other reported reports x y : List
 same_count zero run a b output other reported reports x y refused left d e g =
     let i = none_of d refl in
     let j = none_of e refl in
-    record { bytes = i.0 ∙ sym j.0; outputs = i.1 ∙ sym j.1; verdicts = i.2 ∙ sym j.2; counts = i.3 ∙ sym j.3 }
+    record { bytes = i.0 ∙ sym j.0; outputs = i.1 ∙ sym j.1; diagnostic_lines = i.2 ∙ sym j.2; counts = i.3 ∙ sym j.3 }
 same_count (suc n) run a b output other reported reports x y refused left d e g =
     let i = last_of n d refl in
     let j = last_of n e refl in
@@ -195,17 +195,17 @@ same_count (suc n) run a b output other reported reports x y refused left d e g 
     let rests : i.span ++ x ≡ j.span ++ y =
     same_rest i.before (i.span ++ x) j.before (j.span ++ y) whole (ap length k.bytes) in
     let p : i.span ≡ j.span =
-    one_span i.span j.span x y (step_length run (n + 1) (length i.before) i.span i.line i.said i.over i.step)
-    (step_length run (n + 1) (length j.before) j.span j.line j.said j.over j.step) rests in
-    let placed : Step run (n + 1) (length i.before) j.span j.line j.said j.over =
-    subst (λ (z : List ℕ). Step run (n + 1) (length z) j.span j.line j.said j.over) (sym k.bytes) j.step in
-    let moved : Step run (n + 1) (length i.before) i.span j.line j.said j.over =
-    subst (λ (z : List ℕ). Step run (n + 1) (length i.before) z j.line j.said j.over) (sym p) placed in
-    let q = one_step run (n + 1) (length i.before) i.span i.line j.line i.said j.said i.over j.over i.step moved in
+    one_span i.span j.span x y (step_length run (n + 1) (length i.before) i.span i.line i.partial_report i.over i.step)
+    (step_length run (n + 1) (length j.before) j.span j.line j.partial_report j.over j.step) rests in
+    let placed : Step run (n + 1) (length i.before) j.span j.line j.partial_report j.over =
+    subst (λ (z : List ℕ). Step run (n + 1) (length z) j.span j.line j.partial_report j.over) (sym k.bytes) j.step in
+    let moved : Step run (n + 1) (length i.before) i.span j.line j.partial_report j.over =
+    subst (λ (z : List ℕ). Step run (n + 1) (length i.before) z j.line j.partial_report j.over) (sym p) placed in
+    let q = one_step run (n + 1) (length i.before) i.span i.line j.line i.partial_report j.partial_report i.over j.over i.step moved in
     record {
       bytes = let u = k.bytes in let v = i.bytes_are in let w = j.bytes_are in cc;
       outputs = let u = k.outputs in let v = i.output_is in let w = j.output_is in let z = q.0 in cc;
-      verdicts = let u = k.verdicts in let v = i.told_is in let w = j.told_is in let z = q.1 in cc;
+      diagnostic_lines = let u = k.diagnostic_lines in let v = i.told_is in let w = j.told_is in let z = q.1 in cc;
       counts = omega (arith, k.counts, i.refused_are, j.refused_are, q.2);
     }
 
@@ -237,7 +237,7 @@ mark (suc k) n m run bytes output reported refused d e =
     let i = last_of (k + n) d (omega (arith, e)) in
     let b = mark k n (k + n) run i.before i.out i.reports i.left i.dump refl in
     let long : 4 ≤ length i.span =
-    (counted i.span (step_length run (k + n + 1) (length i.before) i.span i.line i.said i.over i.step)).long in
+    (counted i.span (step_length run (k + n + 1) (length i.before) i.span i.line i.partial_report i.over i.step)).long in
     record {
       front = b.front;
       following = b.following ++ i.span;
@@ -282,19 +282,19 @@ one_dump run bytes output other reported reports number count refused left d e =
     (no_longer count number run bytes other output reports reported left refused e d) in
     let s = same_count number run bytes bytes output other reported reports [] [] refused left d
     (subst (λ (k : ℕ). Dump run bytes other reports k left) (sym n) e) refl in
-    (s.outputs, s.verdicts, n, s.counts)
+    (s.outputs, s.diagnostic_lines, n, s.counts)
 
 -- ---- where a run ends
 
-stuck_at : (run : Run) (number start : ℕ) (bytes line said : List ℕ) (over : ℕ) (fault : RunFault)
-    → Step run number start bytes line said over → HasNoLine fault run bytes → (IsPassedOver run bytes → ⊥) → ⊥
-stuck_at run number start bytes line said over fault (inl s) bad last = either_line run bytes line fault s.0 bad
-stuck_at run number start bytes line said over fault (inr s) bad last = last s.2
+stuck_at : (run : Run) (number start : ℕ) (bytes line partial_report : List ℕ) (over : ℕ) (fault : RunFault)
+    → Step run number start bytes line partial_report over → HasNoLine fault run bytes → (IsSkipped run bytes → ⊥) → ⊥
+stuck_at run number start bytes line partial_report over fault (inl s) bad last = either_line run bytes line fault s.0 bad
+stuck_at run number start bytes line partial_report over fault (inr s) bad last = last s.2
 
 -- at bytes at which a run ends no document of a dump begins
 stuck : (n m : ℕ) (run : Run) (done rest bytes more output other reported reports : List ℕ) (refused left : ℕ)
     (fault : RunFault) → Dump run done output reported n refused → Dump run bytes other reports m left
-    → done ++ rest ≡ bytes ++ more → HasNoLine fault run (front_of rest) → (IsPassedOver run (front_of rest) → ⊥)
+    → done ++ rest ≡ bytes ++ more → HasNoLine fault run (declared_prefix rest) → (IsSkipped run (declared_prefix rest) → ⊥)
     → n < m → ⊥
 stuck n m run done rest bytes more output other reported reports refused left fault d e whole bad last lt =
     let f = first_of (suc n) m run bytes other reports left e (omega (arith, lt)) in
@@ -306,11 +306,11 @@ stuck n m run done rest bytes more output other reported reports refused left fa
     i.dump parts in
     let rests : rest ≡ i.span ++ (f.following ++ more) =
     same_rest done rest i.before (i.span ++ (f.following ++ more)) parts (ap length s.bytes) in
-    let here : front_of rest ≡ i.span =
-    ap front_of rests ∙ length_front i.span (f.following ++ more)
-    (step_length run (n + 1) (length i.before) i.span i.line i.said i.over i.step) in
-    stuck_at run (n + 1) (length i.before) i.span i.line i.said i.over fault i.step
-    (subst (HasNoLine fault run) here bad) (λ over. last (subst (IsPassedOver run) (sym here) over))
+    let here : declared_prefix rest ≡ i.span =
+    ap declared_prefix rests ∙ length_front i.span (f.following ++ more)
+    (step_length run (n + 1) (length i.before) i.span i.line i.partial_report i.over i.step) in
+    stuck_at run (n + 1) (length i.before) i.span i.line i.partial_report i.over fault i.step
+    (subst (HasNoLine fault run) here bad) (λ over. last (subst (IsSkipped run) (sym here) over))
 
 either_by : (run : Run) (all other output reports reported done rest : List ℕ) (count n left refused : ℕ) (b : Bool)
     → ltb n count ≡ b → (n < count → ⊥) → Dump run all other reports count left → Dump run done output reported n refused
@@ -358,8 +358,8 @@ one_end run all output other reported reports number count refused left start pl
     let s = same_count h.count run h.done k.done output other reported reports h.rest k.rest refused left h.documents
     (subst (λ (c : ℕ). Dump run k.done other reports c left) (sym n) k.documents) whole in
     let rests : h.rest ≡ k.rest = same_rest h.done h.rest k.done k.rest whole (ap length s.bytes) in
-    let faults : fault ≡ cause = one_fault run (front_of h.rest) fault cause h.reason
-    (subst (λ (b : List ℕ). HasNoLine cause run (front_of b)) (sym rests) k.reason) in
+    let faults : fault ≡ cause = one_fault run (declared_prefix h.rest) fault cause h.reason
+    (subst (λ (b : List ℕ). HasNoLine cause run (declared_prefix b)) (sym rests) k.reason) in
     let numbers : number ≡ count = omega (arith, h.counted, k.counted, n) in
     let places : start ≡ place = h.place ∙ ap length s.bytes ∙ sym k.place in
-    (s.outputs, s.verdicts, faults, numbers, s.counts, places)
+    (s.outputs, s.diagnostic_lines, faults, numbers, s.counts, places)

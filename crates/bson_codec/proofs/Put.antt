@@ -10,13 +10,13 @@ use Rattle.bson_scalar.specs.Scalar.{Scalar}
 use Rattle.bson_scalar.specs.ElementType.{scalar_type}
 use Rattle.bson_model.specs.Value.{Value, Values, no_values, value, Pairs, no_pairs, pair, scalar, array, document}
 use Rattle.bson_model.specs.Value.{code_scope}
-use Rattle.bson_bytes.specs.Putting.{Put, then, is_free, put_scalar, put_text, put_name, put_value, put_items, put_elements}
-use Rattle.bson_bytes.specs.Putting.{put_room, put_length, put_end, put_document, PutsBytes}
+use Rattle.bson_bytes.specs.PutSteps.{PutResult, then, has_no_nul, put_scalar, put_text, put_name, put_value, put_items, put_elements}
+use Rattle.bson_bytes.specs.PutSteps.{put_length_placeholder, put_length, put_end, put_document, PutsBytes}
 use Rattle.bson_bytes.specs.Writing.{type_of, name_bytes, zero_in_key, IsWellTypedScalar, AreWellTyped, PairsAreWellTyped}
 use Rattle.bson_bytes.specs.declared.error.Error.{Error}
 use Rattle.bson_text.specs.Walked.{ItemsWritten, PairsWritten, keys_of}
-use Rattle.bson_codec.specs.Packed.{PutUnder, PutFramed, ReservesLength, ArrayUnder, CodeUnder}
-use Rattle.bson_codec.specs.declared.elements.ElementWriter.{ElementWriter}
+use Rattle.bson_codec.specs.PackedText.{ElementPut, DocumentPut, LengthReserved, ElementArrayOpened, ElementCodeOpened}
+use Rattle.bson_codec.specs.declared.element_writer.ElementWriter.{ElementWriter}
 use Rattle.bson_codec.proofs.Once.{once}
 
 scalar_value : (x : Scalar) (out new : List ℕ) → put_scalar x out ≡ Ok new → put_value (scalar x) out ≡ Ok new
@@ -25,7 +25,7 @@ scalar_value x out new h = h
 
 pub scalar_put : (x : Scalar) (t : ElementType) (k old named new : List ℕ) → t ≡ scalar_type x
     → named ≡ old ++ name_bytes t k → IsWellTypedScalar x → put_scalar x named ≡ Ok new → length named ≤ length new
-    → PutUnder k (scalar x) old new
+    → ElementPut k (scalar x) old new
 scalar_put x t k old named new kind name typed put grows =
     let longer = length-append old (name_bytes t k) in
     let is = ap length name in (
@@ -36,7 +36,7 @@ scalar_put x t k old named new kind name typed put grows =
     )
 
 -- where an error is turned into another
-pub turned : {F G P : Type 0} (r : Result (Unit {0}) Error) (q : Result (Unit {0}) F) (new : List ℕ) (put : Put)
+pub turned : {F G P : Type 0} (r : Result (Unit {0}) Error) (q : Result (Unit {0}) F) (new : List ℕ) (put : PutResult)
     → is_ok q ≡ is_ok r → PutsBytes r new put → OnOk r G → (put ≡ Ok new → G → P) → OnOk q P
 turned (Ok u) (Ok v) new put same is g f = f is g
 turned (Ok u) (Err e) new put same is g f = tt
@@ -46,7 +46,7 @@ turned (Err e) (Err d) new put same is g f = tt
 pub scalar_turned : {F : Type 0} (r : Result (Unit {0}) Error) (q : Result (Unit {0}) F) (x : Scalar) (t : ElementType)
     (k old named new : List ℕ) → is_ok q ≡ is_ok r → t ≡ scalar_type x → named ≡ old ++ name_bytes t k
     → OnOk r (IsWellTypedScalar x) → PutsBytes r new (put_scalar x named) → OnOk r (length named ≤ length new)
-    → OnOk q (PutUnder k (scalar x) old new)
+    → OnOk q (ElementPut k (scalar x) old new)
 scalar_turned (Ok u) (Ok v) x t k old named new same kind name typed put grows =
     scalar_put x t k old named new kind name typed put grows
 scalar_turned (Ok u) (Err e) x t k old named new same kind name typed put grows = tt
@@ -54,7 +54,7 @@ scalar_turned (Err e) (Ok v) x t k old named new same kind name typed put grows 
 scalar_turned (Err e) (Err d) x t k old named new same kind name typed put grows = tt
 
 -- the room for a length is four bytes
-pub room : (start : ℕ) (old new : List ℕ) → ReservesLength start old new → start + 4 ≡ length new
+pub room : (start : ℕ) (old new : List ℕ) → LengthReserved start old new → start + 4 ≡ length new
 room start old new (at, is) =
     let longer = length-append old (0 ∷ 0 ∷ 0 ∷ 0 ∷ []) in
     let all = ap length is in
@@ -66,14 +66,14 @@ next_item : (n : ℕ) (v : Value) (vs : Values) (out new : List ℕ)
     → put_value v (out ++ name_bytes (type_of v) (decimal n)) ≡ Ok new
     → put_items n (value v vs) out ≡ put_items (n + 1) vs new
 unfolding put_items
-next_item n v vs out new put = ap (λ (r : Put). then r (λ b. put_items (n + 1) vs b)) put
+next_item n v vs out new put = ap (λ (r : PutResult). then r (λ b. put_items (n + 1) vs b)) put
 
 last_item : (n : ℕ) (out : List ℕ) → put_items n no_values out ≡ Ok out
 unfolding put_items
 last_item n out = refl
 
 abbrev Wrote : ElementWriter → List ℕ → Value → ElementWriter → Type 0
-Wrote old k v new = PutUnder k v old.bytes.items new.bytes.items
+Wrote old k v new = ElementPut k v old.bytes.items new.bytes.items
 
 items_put : (n : ℕ) (vs : Values) (old new : ElementWriter) → ItemsWritten Wrote (λ i. decimal i) n vs old new
     → AreWellTyped vs × (put_items n vs old.bytes.items ≡ Ok new.bytes.items)
@@ -90,22 +90,22 @@ items_put n (value v vs) old new (mid, (typed, put, grows), more) =
 
 -- where the length of an array stands that was begun
 pub array_room : (k : List ℕ) (start : ℕ) (vs : Values) (old mark now : ElementWriter)
-    → ArrayUnder k start old.bytes.items mark.bytes.items → ItemsWritten Wrote (λ i. decimal i) 0 vs mark now
+    → ElementArrayOpened k start old.bytes.items mark.bytes.items → ItemsWritten Wrote (λ i. decimal i) 0 vs mark now
     → start + 4 ≤ length now.bytes.items
 array_room k start vs old mark now begins written =
     let all = items_put 0 vs mark now written in
     let here = room start (old.bytes.items ++ name_bytes tag.Array k) mark.bytes.items begins in
     omega (arith, all.2, here)
 
-array_value : (vs : Values) (old now new : List ℕ) → put_items 0 vs (put_room old) ≡ Ok now
+array_value : (vs : Values) (old now new : List ℕ) → put_items 0 vs (put_length_placeholder old) ≡ Ok now
     → put_end (length old) now ≡ Ok new → put_value (array vs) old ≡ Ok new
 unfolding put_value
-array_value vs old now new put ended = ap (λ (r : Put). then r (put_end (length old))) put ∙ ended
+array_value vs old now new put ended = ap (λ (r : PutResult). then r (put_end (length old))) put ∙ ended
 
 pub array_put : (k : List ℕ) (start : ℕ) (vs : Values) (old mark now : ElementWriter) (new : List ℕ)
-    → ArrayUnder k start old.bytes.items mark.bytes.items → ItemsWritten Wrote (λ i. decimal i) 0 vs mark now
+    → ElementArrayOpened k start old.bytes.items mark.bytes.items → ItemsWritten Wrote (λ i. decimal i) 0 vs mark now
     → put_end start now.bytes.items ≡ Ok new → length now.bytes.items ≤ length new
-    → PutUnder k (array vs) old.bytes.items new
+    → ElementPut k (array vs) old.bytes.items new
 array_put k start vs old mark now new (at, is) written ended grows =
     let named = old.bytes.items ++ name_bytes tag.Array k in
     let all = items_put 0 vs mark now written in
@@ -121,17 +121,17 @@ array_put k start vs old mark now new (at, is) written ended grows =
 -- ---- documents
 
 abbrev Keyed : ElementWriter → List ℕ → ElementWriter → Type 0
-Keyed old k new = (new.bytes.items ≡ old.bytes.items) × (is_free k ≡ true) × (is_utf8 k ≡ true)
+Keyed old k new = (new.bytes.items ≡ old.bytes.items) × (has_no_nul k ≡ true) × (is_utf8 k ≡ true)
 
-name_put : (t : ElementType) (k out : List ℕ) → is_free k ≡ true → put_name t k out ≡ Ok (out ++ name_bytes t k)
+name_put : (t : ElementType) (k out : List ℕ) → has_no_nul k ≡ true → put_name t k out ≡ Ok (out ++ name_bytes t k)
 name_put t k out free = ap (λ b. cond b (Ok (out ++ name_bytes t k)) (Err zero_in_key)) free
 
-next_pair : (k : List ℕ) (v : Value) (ps : Pairs) (out new : List ℕ) → is_free k ≡ true
+next_pair : (k : List ℕ) (v : Value) (ps : Pairs) (out new : List ℕ) → has_no_nul k ≡ true
     → put_value v (out ++ name_bytes (type_of v) k) ≡ Ok new → put_elements (pair k v ps) out ≡ put_elements ps new
 unfolding put_elements
 next_pair k v ps out new free put =
-    ap (λ (r : Put). then r (λ a. then (put_value v a) (λ b. put_elements ps b))) (name_put (type_of v) k out free)
-    ∙ ap (λ (r : Put). then r (λ b. put_elements ps b)) put
+    ap (λ (r : PutResult). then r (λ a. then (put_value v a) (λ b. put_elements ps b))) (name_put (type_of v) k out free)
+    ∙ ap (λ (r : PutResult). then r (λ b. put_elements ps b)) put
 
 last_pair : (out : List ℕ) → put_elements no_pairs out ≡ Ok out
 unfolding put_elements
@@ -153,7 +153,7 @@ pairs_put (pair k v ps) old new (named, mid, (same, free, utf8), (typed, put, gr
     )
 
 pub framed_room : (start : ℕ) (ps : Pairs) (old mark now : ElementWriter)
-    → ReservesLength start old.bytes.items mark.bytes.items → PairsWritten Wrote Keyed ps mark now
+    → LengthReserved start old.bytes.items mark.bytes.items → PairsWritten Wrote Keyed ps mark now
     → start + 4 ≤ length now.bytes.items
 framed_room start ps old mark now begins written =
     let all = pairs_put ps mark now written in
@@ -161,13 +161,13 @@ framed_room start ps old mark now begins written =
     omega (arith, all.2, here)
 
 pub framed_put : (start : ℕ) (ps : Pairs) (old mark now : ElementWriter) (new : List ℕ)
-    → ReservesLength start old.bytes.items mark.bytes.items → PairsWritten Wrote Keyed ps mark now → AreDistinct (keys_of ps)
-    → put_end start now.bytes.items ≡ Ok new → length now.bytes.items ≤ length new → PutFramed ps old.bytes.items new
+    → LengthReserved start old.bytes.items mark.bytes.items → PairsWritten Wrote Keyed ps mark now → AreDistinct (keys_of ps)
+    → put_end start now.bytes.items ≡ Ok new → length now.bytes.items ≤ length new → DocumentPut ps old.bytes.items new
 framed_put start ps old mark now new (at, is) written apart ended grows =
     let all = pairs_put ps mark now written in
     let begins = room start old.bytes.items mark.bytes.items (at, is) in (
       (all.0, once ps apart),
-      ap (λ (r : Put). then r (put_end (length old.bytes.items)))
+      ap (λ (r : PutResult). then r (put_end (length old.bytes.items)))
           (subst (λ (b : List ℕ). put_elements ps b ≡ Ok now.bytes.items) is all.1)
           ∙ subst (λ n. put_end n now.bytes.items ≡ Ok new) at ended,
       omega (arith, all.2, begins, at, grows),
@@ -178,7 +178,7 @@ unfolding put_value
 document_value ps out new h = h
 
 pub document_put : (k : List ℕ) (ps : Pairs) (old named new : List ℕ) → named ≡ old ++ name_bytes tag.EmbeddedDocument k
-    → PutFramed ps named new → PutUnder k (document ps) old new
+    → DocumentPut ps named new → ElementPut k (document ps) old new
 document_put k ps old named new name (typed, put, grows) =
     let longer = length-append old (name_bytes tag.EmbeddedDocument k) in
     let is = ap length name in (
@@ -189,15 +189,15 @@ document_put k ps old named new name (typed, put, grows) =
 
 -- ---- code with its scope
 
-code_value : (s : List ℕ) (ps : Pairs) (out mid now new : List ℕ) → put_text s (put_room out) ≡ Ok mid
+code_value : (s : List ℕ) (ps : Pairs) (out mid now new : List ℕ) → put_text s (put_length_placeholder out) ≡ Ok mid
     → put_document ps mid ≡ Ok now → put_length (length out) now ≡ Ok new → put_value (code_scope s ps) out ≡ Ok new
 unfolding put_value
 code_value s ps out mid now new text put ended =
-    ap (λ (r : Put). then (then r (λ a. put_document ps a)) (put_length (length out))) text
-    ∙ ap (λ (r : Put). then r (put_length (length out))) put ∙ ended
+    ap (λ (r : PutResult). then (then r (λ a. put_document ps a)) (put_length (length out))) text
+    ∙ ap (λ (r : PutResult). then r (put_length (length out))) put ∙ ended
 
-pub code_put : (k s : List ℕ) (start : ℕ) (ps : Pairs) (old mid now new : List ℕ) → CodeUnder k s start old mid
-    → PutFramed ps mid now → put_length start now ≡ Ok new → length now ≤ length new → PutUnder k (code_scope s ps) old new
+pub code_put : (k s : List ℕ) (start : ℕ) (ps : Pairs) (old mid now new : List ℕ) → ElementCodeOpened k s start old mid
+    → DocumentPut ps mid now → put_length start now ≡ Ok new → length now ≤ length new → ElementPut k (code_scope s ps) old new
 code_put k s start ps old mid now new (utf8, at, text, longer, within) (typed, put, grows) ended more = (
   (utf8, typed.0, typed.1),
   code_value s ps (old ++ name_bytes tag.JavaScriptCodeWithScope k) mid now new text put

@@ -5,22 +5,22 @@ use Rattle.std.specs.Prelude.{◌==◌}
 use Rattle.std.specs.Io.KnownBytes.{Appends, Consumes, IsAtEnd, Keeps}
 use Rattle.std.proofs.KnownBytes.{Appends-nil, Appends-trans, Consumes-nil, Consumes-trans}
 use Rattle.std.proofs.lemmas.List.{append-nil, length-append}
-use Rattle.bson_codec.specs.Documents.{Dump, none, written, passed_over}
-use Rattle.bson_codec.specs.Documents.{DoneDocuments, EndsFor, EndsAt, HasNoLine, IsHandled, IsConversionFault, IsLine, IsOfBytes}
-use Rattle.bson_codec.specs.Documents.{IsPassedOver, IsUnhandled, IsUntold, DocumentsRun, TakesFront}
-use Rattle.bson_codec.specs.Streams.{WritesBeginning, front_of}
+use Rattle.bson_codec.specs.DumpRuns.{Dump, none, written, skipped_document}
+use Rattle.bson_codec.specs.DumpRuns.{CompletedRun, IsEndReason, EndsAt, HasNoLine, IsLineOrSkip, IsConversionFault, IsLine, IsFaultOfDocument}
+use Rattle.bson_codec.specs.DumpRuns.{IsSkipped, IsRunEnd, IsReportFailure, RunProgress, ConsumesPrefix}
+use Rattle.bson_codec.specs.Streams.{WritesBeginning, declared_prefix}
 use Rattle.bson_codec.specs.Diagnostics.{diagnostic_of}
 use Rattle.bson_codec.specs.declared.documents.Run.{Run}
 use Rattle.bson_codec.specs.declared.run_end.RunFault.{RunFault}
 use Rattle.bson_codec.specs.declared.run_end.RunFault.TheVariants.{Malformed, FiniteDouble, CannotRead, CannotWrite}
 use Rattle.bson_codec.specs.declared.run_end.RunFault.TheVariants.{OutOfMemory}
 
-pub run_begins : (run : Run) (before had reported : Option (List ℕ)) → DocumentsRun run before before had had reported reported 0 0 0
+pub run_begins : (run : Run) (before had reported : Option (List ℕ)) → RunProgress run before before had had reported reported 0 0 0
 run_begins run before had reported = record {
   done = [];
   output = [];
-  verdicts = [];
-  given = Consumes-nil before;
+  diagnostic_lines = [];
+  consumed_bytes = Consumes-nil before;
   documents = none;
   place = refl;
   written = Appends-nil had;
@@ -35,37 +35,37 @@ appends_kept (Some x) (Some y) (Some z) bs p q = q ∙ p
 
 pub run_goes_on : (run : Run) (before mid after had holds after_holds reported reports after_tells : Option (List ℕ))
     (number refused start n following : ℕ) (bytes : List ℕ)
-    → DocumentsRun run before mid had holds reported reports number refused start → Consumes mid after bytes
-    → IsHandled n run (number + 1) start bytes holds after_holds reports after_tells → following ≡ start + length bytes
-    → DocumentsRun run before after had after_holds reported after_tells (number + 1) (refused + n) following
-run_goes_on run before mid after had holds after_holds reported reports after_tells number refused start n following bytes r taken (inl g) place =
+    → RunProgress run before mid had holds reported reports number refused start → Consumes mid after bytes
+    → IsLineOrSkip n run (number + 1) start bytes holds after_holds reports after_tells → following ≡ start + length bytes
+    → RunProgress run before after had after_holds reported after_tells (number + 1) (refused + n) following
+run_goes_on run before mid after had holds after_holds reported reports after_tells number refused start n following bytes r bytes_read (inl g) place =
     let line = g.1.0.0 in
     let same : refused + n ≡ refused = omega (arith, g.0) in
     record {
       done = r.done ++ bytes;
       output = r.output ++ line;
-      verdicts = r.verdicts;
-      given = Consumes-trans before mid after r.done bytes r.given taken;
-      documents = subst (λ (k : ℕ). Dump run (r.done ++ bytes) (r.output ++ line) r.verdicts (number + 1) k) (sym same)
+      diagnostic_lines = r.diagnostic_lines;
+      consumed_bytes = Consumes-trans before mid after r.done bytes r.consumed_bytes bytes_read;
+      documents = subst (λ (k : ℕ). Dump run (r.done ++ bytes) (r.output ++ line) r.diagnostic_lines (number + 1) k) (sym same)
           (written bytes line r.documents g.1.0.1);
       place = omega (arith, place, r.place, length-append r.done bytes);
       written = Appends-trans had holds after_holds r.output line r.written g.1.0.2;
-      reports_appended = appends_kept reported reports after_tells r.verdicts r.reports_appended g.1.1;
+      reports_appended = appends_kept reported reports after_tells r.diagnostic_lines r.reports_appended g.1.1;
     }
-run_goes_on run before mid after had holds after_holds reported reports after_tells number refused start n following bytes r taken (inr g) place =
+run_goes_on run before mid after had holds after_holds reported reports after_tells number refused start n following bytes r bytes_read (inr g) place =
     let fault = g.1.1.0.0 in
     let one : refused + n ≡ refused + 1 = omega (arith, g.0) in
-    let said = diagnostic_of (number + 1) (length r.done) fault in
+    let partial_report = diagnostic_of (number + 1) (length r.done) fault in
     record {
       done = r.done ++ bytes;
       output = r.output;
-      verdicts = r.verdicts ++ said;
-      given = Consumes-trans before mid after r.done bytes r.given taken;
-      documents = subst (λ (k : ℕ). Dump run (r.done ++ bytes) r.output (r.verdicts ++ said) (number + 1) k) (sym one)
-          (passed_over bytes fault r.documents g.1.0 g.1.1.0.1);
+      diagnostic_lines = r.diagnostic_lines ++ partial_report;
+      consumed_bytes = Consumes-trans before mid after r.done bytes r.consumed_bytes bytes_read;
+      documents = subst (λ (k : ℕ). Dump run (r.done ++ bytes) r.output (r.diagnostic_lines ++ partial_report) (number + 1) k) (sym one)
+          (skipped_document bytes fault r.documents g.1.0 g.1.1.0.1);
       place = omega (arith, place, r.place, length-append r.done bytes);
       written = appends_kept had holds after_holds r.output r.written g.1.1.1;
-      reports_appended = Appends-trans reported reports after_tells r.verdicts said r.reports_appended
+      reports_appended = Appends-trans reported reports after_tells r.diagnostic_lines partial_report r.reports_appended
           (subst (λ (s : ℕ). Appends reports after_tells (diagnostic_of (number + 1) s fault)) r.place g.1.1.0.2);
     }
 
@@ -73,22 +73,22 @@ run_goes_on run before mid after had holds after_holds reported reports after_te
 
 pub cut_line : (run : Run) (number start : ℕ) (bytes line : List ℕ) (had holds reports : Option (List ℕ))
     → IsLine run bytes line → WritesBeginning had holds line
-    → IsUnhandled CannotWrite run number start bytes had holds reports reports
+    → IsRunEnd CannotWrite run number start bytes had holds reports reports
 cut_line run number start bytes line had holds reports is cut =
     (cut.beginning, [], inl ((line, is, cut.starts), refl), (cut.written, Appends-nil reports))
 
 pub untold : (e : RunFault) (run : Run) (number start : ℕ) (bytes : List ℕ) (fault : RunFault)
-    (had reported reports : Option (List ℕ)) → HasNoLine fault run bytes → IsPassedOver run bytes
-    → IsUntold e number start fault reported reports → IsUnhandled e run number start bytes had had reported reports
+    (had reported reports : Option (List ℕ)) → HasNoLine fault run bytes → IsSkipped run bytes
+    → IsReportFailure e number start fault reported reports → IsRunEnd e run number start bytes had had reported reports
 untold e run number start bytes fault had reported reports bad over (inl p) =
-    subst (λ (it : RunFault). IsUnhandled it run number start bytes had had reported reports) (sym p.0)
+    subst (λ (it : RunFault). IsRunEnd it run number start bytes had had reported reports) (sym p.0)
     ([], [], (refl, refl), (Appends-nil had, appends_kept reported reported reports [] (Appends-nil reported) p.1))
 untold e run number start bytes fault had reported reports bad over (inr p) =
-    subst (λ (it : RunFault). IsUnhandled it run number start bytes had had reported reports) (sym p.0)
+    subst (λ (it : RunFault). IsRunEnd it run number start bytes had had reported reports) (sym p.0)
     ([], p.1.0, inr ((fault, bad, over, p.1.1), refl), (Appends-nil had, p.1.2))
 
 pub judged_ends : (e : RunFault) (run : Run) (number start : ℕ) (bytes : List ℕ) (had reported : Option (List ℕ))
-    → IsConversionFault e run bytes → (IsOfBytes e → IsPassedOver run bytes → ⊥) → IsUnhandled e run number start bytes had had reported reported
+    → IsConversionFault e run bytes → (IsFaultOfDocument e → IsSkipped run bytes → ⊥) → IsRunEnd e run number start bytes had had reported reported
 judged_ends (Malformed k n) run number start bytes had reported p last =
     ([], [], (p, last tt, refl, refl), (Appends-nil had, Appends-nil reported))
 judged_ends FiniteDouble run number start bytes had reported p last =
@@ -99,7 +99,7 @@ judged_ends OutOfMemory run number start bytes had reported p last =
     ([], [], (refl, refl), (Appends-nil had, Appends-nil reported))
 
 -- what is passed over has no line
-pub bad_bytes : (e : RunFault) (run : Run) (bytes : List ℕ) → IsOfBytes e → IsConversionFault e run bytes → HasNoLine e run bytes
+pub bad_bytes : (e : RunFault) (run : Run) (bytes : List ℕ) → IsFaultOfDocument e → IsConversionFault e run bytes → HasNoLine e run bytes
 bad_bytes (Malformed k n) run bytes is p = p
 bad_bytes FiniteDouble run bytes is p = p
 bad_bytes CannotRead run bytes is p = p
@@ -107,19 +107,19 @@ bad_bytes CannotWrite run bytes is p = p
 bad_bytes OutOfMemory run bytes is p = absurd is
 
 pub one_at_most : (n : ℕ) (run : Run) (number start : ℕ) (bytes : List ℕ) (had holds reported reports : Option (List ℕ))
-    → IsHandled n run number start bytes had holds reported reports → n ≤ 1
+    → IsLineOrSkip n run number start bytes had holds reported reports → n ≤ 1
 one_at_most n run number start bytes had holds reported reports (inl g) = omega (arith, g.0)
 one_at_most n run number start bytes had holds reported reports (inr g) = omega (arith, g.0)
 
 pub run_is_done : (run : Run) (before mid after had holds reported reports : Option (List ℕ)) (number refused start : ℕ)
-    (bytes : List ℕ) → DocumentsRun run before mid had holds reported reports number refused start → Consumes mid after bytes
-    → bytes ≡ [] → IsAtEnd after → DoneDocuments run before after had holds reported reports number refused
-run_is_done run before mid after had holds reported reports number refused start bytes r taken nothing end = record {
+    (bytes : List ℕ) → RunProgress run before mid had holds reported reports number refused start → Consumes mid after bytes
+    → bytes ≡ [] → IsAtEnd after → CompletedRun run before after had holds reported reports number refused
+run_is_done run before mid after had holds reported reports number refused start bytes r bytes_read nothing end = record {
   bytes = r.done;
   output = r.output;
-  verdicts = r.verdicts;
-  given = subst (Consumes before after) (append-nil r.done)
-      (Consumes-trans before mid after r.done [] r.given (subst (Consumes mid after) nothing taken));
+  diagnostic_lines = r.diagnostic_lines;
+  consumed_bytes = subst (Consumes before after) (append-nil r.done)
+      (Consumes-trans before mid after r.done [] r.consumed_bytes (subst (Consumes mid after) nothing bytes_read));
   at_end = end;
   documents = r.documents;
   written = r.written;
@@ -127,27 +127,27 @@ run_is_done run before mid after had holds reported reports number refused start
 }
 
 pub run_ends : (run : Run) (before mid after had holds after_holds reported reports after_tells : Option (List ℕ))
-    (count refused start number : ℕ) (fault : RunFault) (taken : List ℕ)
-    → (r : DocumentsRun run before mid had holds reported reports count refused start) → Consumes mid after taken
-    → number ≡ count + 1 → TakesFront fault before r.done taken
-    → IsUnhandled fault run number start taken holds after_holds reports after_tells
+    (count refused start number : ℕ) (fault : RunFault) (bytes_read : List ℕ)
+    → (r : RunProgress run before mid had holds reported reports count refused start) → Consumes mid after bytes_read
+    → number ≡ count + 1 → ConsumesPrefix fault before r.done bytes_read
+    → IsRunEnd fault run number start bytes_read holds after_holds reports after_tells
     → EndsAt run before after had after_holds reported after_tells fault number refused start
-run_ends run before mid after had holds after_holds reported reports after_tells count refused start number fault taken r given next front (more, said, why, (w, t)) = record {
+run_ends run before mid after had holds after_holds reported reports after_tells count refused start number fault bytes_read r consumed_bytes next front (more, partial_report, why, (w, t)) = record {
   done = r.done;
-  taken = taken;
+  bytes_read = bytes_read;
   output = r.output;
   more = more;
-  verdicts = r.verdicts;
-  said = said;
+  diagnostic_lines = r.diagnostic_lines;
+  partial_report = partial_report;
   count = count;
-  given = Consumes-trans before mid after r.done taken r.given given;
+  consumed_bytes = Consumes-trans before mid after r.done bytes_read r.consumed_bytes consumed_bytes;
   front = front;
   documents = r.documents;
   counted = next;
   place = r.place;
   reason = why;
   written = Appends-trans had holds after_holds r.output more r.written w;
-  reports_appended = Appends-trans reported reports after_tells r.verdicts said r.reports_appended t;
+  reports_appended = Appends-trans reported reports after_tells r.diagnostic_lines partial_report r.reports_appended t;
 }
 
 -- ---- the bytes of a document
@@ -157,17 +157,17 @@ some_taken bytes n e tested = λ none.
     let zero : n ≡ 0 = e ∙ ap length none in
     let yes = ap (λ (k : ℕ). k == 0) zero in absurd cc
 
-unread_front : (fault : RunFault) (before : Option (List ℕ)) (done taken : List ℕ)
-    → (fault ≡ CannotRead) ⊎ (fault ≡ OutOfMemory) → TakesFront fault before done taken
-unread_front fault before done taken (inl e) = subst (λ (f : RunFault). TakesFront f before done taken) (sym e) tt
-unread_front fault before done taken (inr e) = subst (λ (f : RunFault). TakesFront f before done taken) (sym e) tt
+unread_front : (fault : RunFault) (before : Option (List ℕ)) (done bytes_read : List ℕ)
+    → (fault ≡ CannotRead) ⊎ (fault ≡ OutOfMemory) → ConsumesPrefix fault before done bytes_read
+unread_front fault before done bytes_read (inl e) = subst (λ (f : RunFault). ConsumesPrefix f before done bytes_read) (sym e) tt
+unread_front fault before done bytes_read (inr e) = subst (λ (f : RunFault). ConsumesPrefix f before done bytes_read) (sym e) tt
 
-unread_ends : (fault : RunFault) (run : Run) (number start : ℕ) (taken : List ℕ)
-    → (fault ≡ CannotRead) ⊎ (fault ≡ OutOfMemory) → EndsFor fault run number start taken [] []
-unread_ends fault run number start taken (inl e) =
-    subst (λ (f : RunFault). EndsFor f run number start taken [] []) (sym e) (refl, refl)
-unread_ends fault run number start taken (inr e) =
-    subst (λ (f : RunFault). EndsFor f run number start taken [] []) (sym e) (refl, refl)
+unread_ends : (fault : RunFault) (run : Run) (number start : ℕ) (bytes_read : List ℕ)
+    → (fault ≡ CannotRead) ⊎ (fault ≡ OutOfMemory) → IsEndReason fault run number start bytes_read [] []
+unread_ends fault run number start bytes_read (inl e) =
+    subst (λ (f : RunFault). IsEndReason f run number start bytes_read [] []) (sym e) (refl, refl)
+unread_ends fault run number start bytes_read (inr e) =
+    subst (λ (f : RunFault). IsEndReason f run number start bytes_read [] []) (sym e) (refl, refl)
 
 pub same_rest : (a b c d : List ℕ) → a ++ b ≡ c ++ d → length a ≡ length c → b ≡ d
 same_rest [] b [] d e l = e
@@ -186,36 +186,36 @@ left (Some xs) (Some ys) done rest e c =
     let f : done ++ rest ≡ done ++ ys = cc in
     let g : rest ≡ ys = same_rest done rest done ys f refl in cc
 
-given_front : (fault : RunFault) (before mid : Option (List ℕ)) (done taken : List ℕ) → Consumes before mid done → taken ≢ []
-    → ((all : List ℕ) → mid ≡ Some all → taken ≡ front_of all) → TakesFront fault before done taken
-given_front (Malformed k n) before mid done taken c some h = (some, λ rest e. h rest (left before mid done rest e c))
-given_front FiniteDouble before mid done taken c some h = (some, λ rest e. h rest (left before mid done rest e c))
-given_front CannotRead before mid done taken c some h = tt
-given_front CannotWrite before mid done taken c some h = (some, λ rest e. h rest (left before mid done rest e c))
-given_front OutOfMemory before mid done taken c some h = tt
+given_front : (fault : RunFault) (before mid : Option (List ℕ)) (done bytes_read : List ℕ) → Consumes before mid done → bytes_read ≢ []
+    → ((all : List ℕ) → mid ≡ Some all → bytes_read ≡ declared_prefix all) → ConsumesPrefix fault before done bytes_read
+given_front (Malformed k n) before mid done bytes_read c some h = (some, λ rest e. h rest (left before mid done rest e c))
+given_front FiniteDouble before mid done bytes_read c some h = (some, λ rest e. h rest (left before mid done rest e c))
+given_front CannotRead before mid done bytes_read c some h = tt
+given_front CannotWrite before mid done bytes_read c some h = (some, λ rest e. h rest (left before mid done rest e c))
+given_front OutOfMemory before mid done bytes_read c some h = tt
 
 pub run_ends_unread : (run : Run) (before mid after had holds reported reports : Option (List ℕ))
-    (count refused start number : ℕ) (fault : RunFault) (taken : List ℕ)
-    → DocumentsRun run before mid had holds reported reports count refused start → Consumes mid after taken → number ≡ count + 1
+    (count refused start number : ℕ) (fault : RunFault) (bytes_read : List ℕ)
+    → RunProgress run before mid had holds reported reports count refused start → Consumes mid after bytes_read → number ≡ count + 1
     → (fault ≡ CannotRead) ⊎ (fault ≡ OutOfMemory)
     → EndsAt run before after had holds reported reports fault number refused start
-run_ends_unread run before mid after had holds reported reports count refused start number fault taken r given next why =
-    run_ends run before mid after had holds holds reported reports reports count refused start number fault taken r given next
-    (unread_front fault before r.done taken why)
-    ([], [], unread_ends fault run number start taken why, (Appends-nil holds, Appends-nil reports))
+run_ends_unread run before mid after had holds reported reports count refused start number fault bytes_read r consumed_bytes next why =
+    run_ends run before mid after had holds holds reported reports reports count refused start number fault bytes_read r consumed_bytes next
+    (unread_front fault before r.done bytes_read why)
+    ([], [], unread_ends fault run number start bytes_read why, (Appends-nil holds, Appends-nil reports))
 
 pub run_ends_at : (run : Run) (before mid after had holds after_holds reported reports after_tells : Option (List ℕ))
-    (count refused start number : ℕ) (fault : RunFault) (taken : List ℕ)
-    → DocumentsRun run before mid had holds reported reports count refused start → Consumes mid after taken → number ≡ count + 1
-    → taken ≢ [] → ((all : List ℕ) → mid ≡ Some all → taken ≡ front_of all)
-    → IsUnhandled fault run number start taken holds after_holds reports after_tells
+    (count refused start number : ℕ) (fault : RunFault) (bytes_read : List ℕ)
+    → RunProgress run before mid had holds reported reports count refused start → Consumes mid after bytes_read → number ≡ count + 1
+    → bytes_read ≢ [] → ((all : List ℕ) → mid ≡ Some all → bytes_read ≡ declared_prefix all)
+    → IsRunEnd fault run number start bytes_read holds after_holds reports after_tells
     → EndsAt run before after had after_holds reported after_tells fault number refused start
-run_ends_at run before mid after had holds after_holds reported reports after_tells count refused start number fault taken r given next some front why =
-    run_ends run before mid after had holds after_holds reported reports after_tells count refused start number fault taken r
-    given next (given_front fault before mid r.done taken r.given some front) why
+run_ends_at run before mid after had holds after_holds reported reports after_tells count refused start number fault bytes_read r consumed_bytes next some front why =
+    run_ends run before mid after had holds after_holds reported reports after_tells count refused start number fault bytes_read r
+    consumed_bytes next (given_front fault before mid r.done bytes_read r.consumed_bytes some front) why
 
 pub run_stops_between : (run : Run) (before mid had holds reported reports : Option (List ℕ))
-    (count refused start number : ℕ) → DocumentsRun run before mid had holds reported reports count refused start
+    (count refused start number : ℕ) → RunProgress run before mid had holds reported reports count refused start
     → number ≡ count + 1 → EndsAt run before mid had holds reported reports CannotRead number refused start
 run_stops_between run before mid had holds reported reports count refused start number r next =
     run_ends_unread run before mid mid had holds reported reports count refused start number CannotRead [] r (Consumes-nil mid) next

@@ -4,21 +4,21 @@ use Rattle.std.proofs.Common.{None, Some, Result, Ok, Err, OnOk, Bool, true, fal
 use Rattle.std.specs.Int.{w32}
 use Rattle.std.specs.Io.KnownBytes.{Consumes, IsAtEnd}
 use Rattle.std.proofs.KnownBytes.{Consumes-trans}
-use Rattle.std.proofs.lemmas.Bool.{le-ltb, ltb-false}
+use Rattle.std.proofs.lemmas.Bool.{little_endian-ltb, ltb-false}
 use Rattle.std.proofs.lemmas.List.{take_all, take_at, length-append, append-nil}
 use Rattle.bson_model.specs.Value.{Pairs}
-use Rattle.bson_bytes.specs.Grammar.{le, IsDocument, is_document}
-use Rattle.bson_bytes.specs.Laws.{IsRead, IsFront}
-use Rattle.bson_bytes.specs.Reading.{size_at}
+use Rattle.bson_bytes.specs.Grammar.{little_endian, IsDocument, is_document}
+use Rattle.bson_bytes.specs.ReadDocuments.{IsRead, IsFirstDocument}
+use Rattle.bson_bytes.specs.Reading.{read_length}
 use Rattle.bson_bytes.specs.declared.fault.Fault.{Fault}
-use Rattle.bson_bytes.specs.declared.keys.DuplicateKeys.{DuplicateKeys}
-use Rattle.bson_bytes.proofs.Offered.{length-le, wide32, size_again}
-use Rattle.bson_codec.specs.Streams.{IsConsumed, front_of, promised, most}
+use Rattle.bson_bytes.specs.declared.duplicate_keys.DuplicateKeys.{DuplicateKeys}
+use Rattle.bson_bytes.proofs.Offered.{length-little_endian, wide32, size_again}
+use Rattle.bson_codec.specs.Streams.{BytesAdded, declared_prefix, declared_length, most}
 
 -- the bytes of a document begin with their number
 pub record Sized (bytes : List ℕ) : Type 0 where
   pub body : List ℕ
-  pub whole : bytes ≡ le w32 (length bytes) ++ body
+  pub whole : bytes ≡ little_endian w32 (length bytes) ++ body
   pub least : 5 ≤ length bytes
   pub small : length bytes < 2 ^ 31
 
@@ -26,12 +26,12 @@ pub sized : {keys : DuplicateKeys} {d : ℕ} {bytes : List ℕ} {ps : Pairs} →
 sized (is_document d list ps ws lt) =
     let body = list ++ 0 ∷ [] in
     let n = length list + 5 in
-    let count : length (le w32 n ++ body) ≡ n =
-    length-append (le w32 n) body ∙ ap (λ (k : ℕ). k + length body) (length-le w32 (2 ^ 32) wide32 n)
+    let count : length (little_endian w32 n ++ body) ≡ n =
+    length-append (little_endian w32 n) body ∙ ap (λ (k : ℕ). k + length body) (length-little_endian w32 (2 ^ 32) wide32 n)
     ∙ ap (λ (k : ℕ). 4 + k) (length-append list (0 ∷ [])) ∙ omega arith in
     record {
       body = body;
-      whole = ap (λ (k : ℕ). le w32 k ++ body) (sym count);
+      whole = ap (λ (k : ℕ). little_endian w32 k ++ body) (sym count);
       least = omega (arith, count);
       small = omega (arith, count, lt);
     }
@@ -62,71 +62,71 @@ least : (n : ℕ) (r : Result (ℕ × List ℕ) Fault) → n ≤ most n r
 least n (Ok x) = picked n x.0 (ltb x.0 n) refl
 least n (Err f) = omega arith
 
-promised_is : (n : ℕ) → 5 ≤ n → n < 2 ^ 31 → promised (le w32 n) ≡ n
+promised_is : (n : ℕ) → 5 ≤ n → n < 2 ^ 31 → declared_length (little_endian w32 n) ≡ n
 promised_is n least small =
-    let read : size_at (le w32 n) ≡ Ok (n, []) = ap size_at (sym (append-nil (le w32 n))) ∙ size_again n [] small in
-    let four : length (le w32 n) ≡ 4 = length-le w32 (2 ^ 32) wide32 n in
-    let no : ltb n (length (le w32 n)) ≡ false = le-ltb n (length (le w32 n)) (omega (arith, least, four)) in
-    ap (most (length (le w32 n))) read ∙ rw no refl
+    let read : read_length (little_endian w32 n) ≡ Ok (n, []) = ap read_length (sym (append-nil (little_endian w32 n))) ∙ size_again n [] small in
+    let four : length (little_endian w32 n) ≡ 4 = length-little_endian w32 (2 ^ 32) wide32 n in
+    let no : ltb n (length (little_endian w32 n)) ≡ false = little_endian-ltb n (length (little_endian w32 n)) (omega (arith, least, four)) in
+    ap (most (length (little_endian w32 n))) read ∙ rw no refl
 
-pub front_none : front_of [] ≡ []
+pub front_none : declared_prefix [] ≡ []
 front_none = take_all _ [] (omega arith)
 
 -- a document at the front of bytes is that front
-pub front_read : (d : ℕ) (all : List ℕ) (ps : Pairs) (rest : List ℕ) → IsFront d all ps rest → IsRead d (front_of all) ps
+pub front_read : (d : ℕ) (all : List ℕ) (ps : Pairs) (rest : List ℕ) → IsFirstDocument d all ps rest → IsRead d (declared_prefix all) ps
 front_read d all ps rest h =
     let s = sized h.read.grammar in
     let n = length h.front in
-    let begins : all ≡ le w32 n ++ (s.body ++ rest) =
-    h.parts ∙ ap (λ (x : List ℕ). x ++ rest) s.whole ∙ append_assoc (le w32 n) s.body rest in
-    let first : take 4 all ≡ le w32 n =
-    ap (take 4) begins ∙ take_at (le w32 n) (s.body ++ rest) 4 (length-le w32 (2 ^ 32) wide32 n) in
-    let says : promised (take 4 all) ≡ n = ap promised first ∙ promised_is n s.least s.small in
-    let same : front_of all ≡ h.front =
+    let begins : all ≡ little_endian w32 n ++ (s.body ++ rest) =
+    h.parts ∙ ap (λ (x : List ℕ). x ++ rest) s.whole ∙ append_assoc (little_endian w32 n) s.body rest in
+    let first : take 4 all ≡ little_endian w32 n =
+    ap (take 4) begins ∙ take_at (little_endian w32 n) (s.body ++ rest) 4 (length-little_endian w32 (2 ^ 32) wide32 n) in
+    let says : declared_length (take 4 all) ≡ n = ap declared_length first ∙ promised_is n s.least s.small in
+    let same : declared_prefix all ≡ h.front =
     ap (λ (k : ℕ). take k all) says ∙ ap (take n) h.parts ∙ take_at h.front rest n refl in
     subst (λ (bytes : List ℕ). IsRead d bytes ps) (sym same) h.read
 
-taken : (before after : Option (List ℕ)) (new : List ℕ) → IsConsumed before after [] new → Consumes before after new
-taken before after new t = subst (Consumes before after) (sym t.1) t.2
+bytes_read : (before after : Option (List ℕ)) (new : List ℕ) → BytesAdded before after [] new → Consumes before after new
+bytes_read before after new t = subst (Consumes before after) (sym t.1) t.2
 
-pub took_whole : (before mid after : Option (List ℕ)) (one two : List ℕ) → IsConsumed before mid [] one
-    → IsConsumed mid after one two → Consumes before after two
+pub took_whole : (before mid after : Option (List ℕ)) (one two : List ℕ) → BytesAdded before mid [] one
+    → BytesAdded mid after one two → Consumes before after two
 took_whole before mid after one two first second =
     subst (Consumes before after) (sym second.1)
-    (Consumes-trans before mid after one second.0 (taken before mid one first) second.2)
+    (Consumes-trans before mid after one second.0 (bytes_read before mid one first) second.2)
 
 -- the length, or the end
 length_first : (all start one : List ℕ) (before mid : Option (List ℕ)) → before ≡ Some all → start ≡ []
-    → IsConsumed before mid start one → (length one ≡ 4) ⊎ IsAtEnd mid → length one ≤ 4
-    → IsConsumed (Some all) mid [] one × (one ≡ take 4 all)
+    → BytesAdded before mid start one → (length one ≡ 4) ⊎ IsAtEnd mid → length one ≤ 4
+    → BytesAdded (Some all) mid [] one × (one ≡ take 4 all)
 length_first all start one before mid known empty first e b =
-    let from_none : IsConsumed before mid [] one = subst (λ (s : List ℕ). IsConsumed before mid s one) empty first in
-    let from_all : IsConsumed (Some all) mid [] one =
-    subst (λ (x : Option (List ℕ)). IsConsumed x mid [] one) known from_none in
-    (from_all, counted 4 all one mid (left_of all one mid (taken (Some all) mid one from_all)) e b)
+    let from_none : BytesAdded before mid [] one = subst (λ (s : List ℕ). BytesAdded before mid s one) empty first in
+    let from_all : BytesAdded (Some all) mid [] one =
+    subst (λ (x : Option (List ℕ)). BytesAdded x mid [] one) known from_none in
+    (from_all, counted 4 all one mid (left_of all one mid (bytes_read (Some all) mid one from_all)) e b)
 
 -- the length, and then as many bytes as it says
 pub take_front : (all start one two : List ℕ) (before mid after : Option (List ℕ)) (size : ℕ) → before ≡ Some all
-    → start ≡ [] → IsConsumed before mid start one → (length one ≡ 4) ⊎ IsAtEnd mid → length one ≤ 4
-    → size ≡ promised one → IsConsumed mid after one two → (length two ≡ size) ⊎ IsAtEnd after → length two ≤ size
-    → two ≡ front_of all
+    → start ≡ [] → BytesAdded before mid start one → (length one ≡ 4) ⊎ IsAtEnd mid → length one ≤ 4
+    → size ≡ declared_length one → BytesAdded mid after one two → (length two ≡ size) ⊎ IsAtEnd after → length two ≤ size
+    → two ≡ declared_prefix all
 take_front all start one two before mid after size known empty first e b says second f c =
     let mark = length_first all start one before mid known empty first e b in
     let r = left_of all two after (took_whole (Some all) mid after one two mark.0 second) in
-    counted size all two after r f c ∙ ap (λ (k : ℕ). take k all) (says ∙ ap promised mark.1)
+    counted size all two after r f c ∙ ap (λ (k : ℕ). take k all) (says ∙ ap declared_length mark.1)
 
 -- fewer bytes than a length are all
 pub take_short : (all start one : List ℕ) (before mid : Option (List ℕ)) → before ≡ Some all → start ≡ []
-    → IsConsumed before mid start one → (length one ≡ 4) ⊎ IsAtEnd mid → length one ≤ 4 → length one < 4
-    → one ≡ front_of all
+    → BytesAdded before mid start one → (length one ≡ 4) ⊎ IsAtEnd mid → length one ≤ 4 → length one < 4
+    → one ≡ declared_prefix all
 take_short all start one before mid known empty first (inl e) b few = absurd (omega (arith, e, few))
 take_short all start one before mid known empty first (inr end) b few =
     let mark = length_first all start one before mid known empty first (inr end) b in
-    let l = left_of all one mid (taken (Some all) mid one mark.0) in
+    let l = left_of all one mid (bytes_read (Some all) mid one mark.0) in
     let whole : all ≡ one = l.parts ∙ ap (λ (r : List ℕ). one ++ r) (l.none end) ∙ append-nil one in
-    let long : length one ≤ promised one = least (length one) (size_at one) in
-    sym (ap (λ (k : ℕ). take k all) (sym (ap promised mark.1)) ∙ ap (take (promised one)) whole
-    ∙ take_all (promised one) one long)
+    let long : length one ≤ declared_length one = least (length one) (read_length one) in
+    sym (ap (λ (k : ℕ). take k all) (sym (ap declared_length mark.1)) ∙ ap (take (declared_length one)) whole
+    ∙ take_all (declared_length one) one long)
 
 pub on_three : {X E A B C D : Type 0} (r : Result X E) → OnOk r A → OnOk r B → OnOk r C → (A → B → C → D) → OnOk r D
 on_three (Ok x) a b c f = f a b c
@@ -134,7 +134,7 @@ on_three (Err e) a b c f = tt
 
 -- where something came, something is there
 pub on_some : {X E : Type 0} (r : Result X E) (before after : Option (List ℕ)) (one two : List ℕ) (P : Type 0)
-    → OnOk r (IsConsumed before after one two) → 4 ≤ length one → OnOk r (two ≡ [] → P)
-on_some (Ok x) before after one two P t le =
-    λ nothing. absurd (omega (arith, le, ap length nothing, ap length t.1, length-append one t.0))
-on_some (Err e) before after one two P t le = tt
+    → OnOk r (BytesAdded before after one two) → 4 ≤ length one → OnOk r (two ≡ [] → P)
+on_some (Ok x) before after one two P t little_endian =
+    λ nothing. absurd (omega (arith, little_endian, ap length nothing, ap length t.1, length-append one t.0))
+on_some (Err e) before after one two P t little_endian = tt

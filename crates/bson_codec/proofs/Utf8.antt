@@ -8,7 +8,7 @@ use Rattle.json.proofs.Printed.Utf8.{IsUtf8-are_ascii}
 use Rattle.std.proofs.lemmas.Bool.{lt-ltb}
 use Rattle.bson_bytes.specs.declared.fault.FaultKind.{FaultKind}
 use Rattle.bson_bytes.specs.declared.fault.FaultKind.TheVariants as kind
-use Rattle.bson_codec.specs.Documents.{Dump, none, written, passed_over}
+use Rattle.bson_codec.specs.DumpRuns.{Dump, none, written, skipped_document}
 use Rattle.bson_codec.specs.Diagnostics.{newline, place_text, diagnostic_of, fault_kind_message, run_fault_message}
 use Rattle.bson_codec.specs.declared.documents.Run.{Run}
 use Rattle.bson_codec.specs.declared.run_end.RunFault.{RunFault}
@@ -65,8 +65,8 @@ diagnostic_utf8 number start fault =
     let at = IsUtf8-append _ _ first (IsUtf8-are_ascii (codes " at byte ") refl) in
     let placed = IsUtf8-append _ _ at (decimal_utf8 start) in
     let before = IsUtf8-append _ _ placed (IsUtf8-are_ascii (codes ": ") refl) in
-    let said = IsUtf8-append _ _ before (words_utf8 fault) in
-    let whole = IsUtf8-append _ _ said (place_utf8 fault) in
+    let partial_report = IsUtf8-append _ _ before (words_utf8 fault) in
+    let whole = IsUtf8-append _ _ partial_report (place_utf8 fault) in
     IsUtf8-append _ _ whole (IsUtf8-are_ascii newline refl)
 
 pub dump_utf8 : {run : Run} {bytes output reported : List ℕ} {number refused : ℕ} → Dump run bytes output reported number refused
@@ -74,5 +74,5 @@ pub dump_utf8 : {run : Run} {bytes output reported : List ℕ} {number refused :
 dump_utf8 none = (IsUtf8-nil, IsUtf8-nil)
 dump_utf8 (written {output = output} bytes line d is) =
     let before = dump_utf8 d in (IsUtf8-append output line before.0 is.utf8, before.1)
-dump_utf8 (passed_over {reported = reported} bytes fault d over bad) =
+dump_utf8 (skipped_document {reported = reported} bytes fault d over bad) =
     let before = dump_utf8 d in (before.0, IsUtf8-append reported _ before.1 (diagnostic_utf8 _ _ fault))

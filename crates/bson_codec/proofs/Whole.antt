@@ -3,14 +3,14 @@ use Rattle.std.proofs.Common.{◌≡◌, suc, List, ℕ, [], Ok, sym, subst}
 use Rattle.bson_scalar.specs.declared.form.Doubles.{Doubles}
 use Rattle.bson_model.specs.Value.{Pairs, document}
 use Rattle.bson_model.specs.OrderedTexts.{HasMeaningInOrder}
-use Rattle.bson_bytes.specs.Laws.{IsRead}
-use Rattle.bson_bytes.specs.Putting.{put_document}
-use Rattle.bson_bytes.specs.Writing.{as_written}
+use Rattle.bson_bytes.specs.ReadDocuments.{IsRead}
+use Rattle.bson_bytes.specs.PutSteps.{put_document}
+use Rattle.bson_bytes.specs.Writing.{as_read_back}
 use Rattle.bson_bytes.proofs.Offered.{told_ok, written_read}
-use Rattle.bson_codec.specs.Packed.{IsPackedText, PutFramed}
+use Rattle.bson_codec.specs.PackedText.{IsPackedText, DocumentPut}
 
 pub text_packed : (D : Doubles) (text bytes old : List ℕ) (ps : Pairs) → HasMeaningInOrder D text (document ps)
-    → PutFramed ps old bytes → old ≡ [] → IsPackedText D text bytes
+    → DocumentPut ps old bytes → old ≡ [] → IsPackedText D text bytes
 text_packed D text bytes old ps means (typed, put, grows) none =
     let reported = told_ok ps bytes (subst (λ l. put_document ps l ≡ Ok bytes) none put) in
     record {
@@ -18,6 +18,6 @@ text_packed D text bytes old ps means (typed, put, grows) none =
       meaning = means;
       fits = reported.0;
       canonical = reported.1;
-      back = λ d nests. subst (λ b. IsRead (suc d) b (as_written ps)) (sym reported.1)
+      back = λ d nests. subst (λ b. IsRead (suc d) b (as_read_back ps)) (sym reported.1)
           (written_read d ps reported.0 typed nests);
     }

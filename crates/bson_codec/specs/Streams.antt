@@ -4,10 +4,10 @@ use Rattle.std.specs.Io.{StartsWith}
 use Rattle.std.specs.Io.KnownBytes.{Appends, Consumes, Keeps}
 use Rattle.bson_model.specs.Value.{Pairs}
 use Rattle.bson_bytes.specs.declared.fault.Fault.{Fault}
-use Rattle.bson_bytes.specs.Reading.{reads_bytes, size_at}
+use Rattle.bson_bytes.specs.Reading.{reads_bytes, read_length}
 use Rattle.bson_bytes.specs.Writing.{document_bytes, FitsDocument}
-use Rattle.bson_codec.specs.Errors.{IsPlacedFault}
-use Rattle.bson_codec.specs.Writing.{IsRefusal}
+use Rattle.bson_codec.specs.ReadErrors.{IsFaultAtOffset}
+use Rattle.bson_codec.specs.WriteErrors.{IsWriteErrorFor}
 use Rattle.bson_bytes.specs.declared.error.Error.TheVariants as errors
 use Rattle.bson_codec.specs.declared.stream.ReaderError.{ReaderError}
 use Rattle.bson_codec.specs.declared.stream.ReaderError.TheVariants as read_errors
@@ -23,17 +23,17 @@ pub record WritesBeginning (had holds : Option (List ℕ)) (bytes : List ℕ) : 
 -- ---- reading
 
 -- the reader failed, or memory ran out
-abbrev pub IsHindrance : ReaderError → Type 0
-IsHindrance read_errors.CannotRead = Unit {0}
-IsHindrance read_errors.OutOfMemory = Unit {0}
-IsHindrance (read_errors.Malformed k n) = ⊥
+abbrev pub IsReaderOrMemoryFailure : ReaderError → Type 0
+IsReaderOrMemoryFailure read_errors.CannotRead = Unit {0}
+IsReaderOrMemoryFailure read_errors.OutOfMemory = Unit {0}
+IsReaderOrMemoryFailure (read_errors.Malformed k n) = ⊥
 
 -- the error is that of the bytes that were read; or the reader failed, or memory ran out
-abbrev pub IsRefusedInput : ℕ → (before after : Option (List ℕ)) → ReaderError → Type 0
-IsRefusedInput d before after read_errors.CannotRead = Unit {0}
-IsRefusedInput d before after read_errors.OutOfMemory = Unit {0}
-IsRefusedInput d before after (read_errors.Malformed k n) =
-    (bytes : List ℕ) × Consumes before after bytes × IsPlacedFault k n bytes (reads_bytes d bytes)
+abbrev pub IsReaderErrorFor : ℕ → (before after : Option (List ℕ)) → ReaderError → Type 0
+IsReaderErrorFor d before after read_errors.CannotRead = Unit {0}
+IsReaderErrorFor d before after read_errors.OutOfMemory = Unit {0}
+IsReaderErrorFor d before after (read_errors.Malformed k n) =
+    (bytes : List ℕ) × Consumes before after bytes × IsFaultAtOffset k n bytes (reads_bytes d bytes)
 
 -- ---- writing
 
@@ -44,7 +44,7 @@ IsSystemFailure (write_errors.NoBytes e) = e ≡ errors.OutOfMemory
 
 -- a document that has no bytes writes none; a writer that fails accepted a prefix
 abbrev pub IsWriteFailure : WriterError → Pairs → (had holds : Option (List ℕ)) → Type 0
-IsWriteFailure (write_errors.NoBytes e) ps had holds = IsRefusal e ps × Keeps had holds
+IsWriteFailure (write_errors.NoBytes e) ps had holds = IsWriteErrorFor e ps × Keeps had holds
 IsWriteFailure write_errors.CannotWrite ps had holds = FitsDocument ps × WritesBeginning had holds (document_bytes ps)
 
 -- ---- the front of bytes
@@ -55,15 +55,15 @@ most n (Ok x) = cond (nat_lt x.0 n) n x.0
 most n (Err f) = n
 
 -- how many bytes the document has that begins with these, no fewer than they are
-abbrev pub promised : List ℕ → ℕ
-promised bytes = most (length bytes) (size_at bytes)
+abbrev pub declared_length : List ℕ → ℕ
+declared_length bytes = most (length bytes) (read_length bytes)
 
 -- as many bytes as the first four of them, a length, say; all bytes if there are fewer
-abbrev pub front_of : List ℕ → List ℕ
-front_of bytes = take (promised (take 4 bytes)) bytes
+abbrev pub declared_prefix : List ℕ → List ℕ
+declared_prefix bytes = take (declared_length (take 4 bytes)) bytes
 
 -- ---- for private clauses
 
 -- the bytes that were read from the reader were added
-abbrev pub IsConsumed : (before after : Option (List ℕ)) (old new : List ℕ) → Type 0
-IsConsumed before after old new = (more : List ℕ) × (new ≡ old ++ more) × Consumes before after more
+abbrev pub BytesAdded : (before after : Option (List ℕ)) (old new : List ℕ) → Type 0
+BytesAdded before after old new = (more : List ℕ) × (new ≡ old ++ more) × Consumes before after more

@@ -1,21 +1,21 @@
 //! Documents from bytes.
 ghost use Rattle.std.specs.Prelude.{◌≡◌, ◌↔◌, ◌-◌, IfOk, IfErr, OnOk, OnErr, IsTrue, false, length};
 ghost use Rattle.bson_model.specs.Value.{Pairs, no_pairs};
-ghost use Rattle.bson_bytes.specs.Laws.{IsRead, IsReadIn, IsFront, IsFrontIn, IsCanonical};
-ghost use Rattle.bson_bytes.specs.Reading.{document_at, document_in, reads_bytes, reads_bytes_in, settled, none_before};
+ghost use Rattle.bson_bytes.specs.ReadDocuments.{IsRead, IsReadIn, IsFirstDocument, IsFirstDocumentIn, IsCanonical};
+ghost use Rattle.bson_bytes.specs.Reading.{read_first_document, read_document_in, reads_bytes, reads_bytes_in, insert_pairs_read, no_earlier_keys};
 ghost use Rattle.bson_bytes.specs.declared.error.Error.TheVariants as causes;
-ghost use Rattle.bson_bytes.specs.declared.keys.DuplicateKeys.TheVariants.{Replace};
+ghost use Rattle.bson_bytes.specs.declared.duplicate_keys.DuplicateKeys.TheVariants.{Replace};
 ghost use Rattle.bson.specs.View.{document_view};
-ghost use Rattle.bson_codec.specs.Errors.{IsReadFault, IsFaultAlone, StandsIn, located};
+ghost use Rattle.bson_codec.specs.ReadErrors.{IsReadFault, IsFaultWithoutMemory, IsInBytes, error_with_offset};
 ghost use Rattle.bson_codec.specs.declared.de.Error.TheVariants as errors;
 
-use crate::read::{document_at, read_document};
+use crate::read_to_memory::{read_first_document, read_document};
 use crate::ser;
 use crate::ser::to_vec;
 use bson::Document;
 pub use bson_bytes::fault::FaultKind;
-pub use bson_bytes::keys::DuplicateKeys;
-use bson_bytes::nothing;
+pub use bson_bytes::duplicate_keys::DuplicateKeys;
+use bson_bytes::nothing_sink;
 use bson_bytes::stop::Stop;
 use std::alloc::{AllocError, Global};
 
@@ -134,7 +134,7 @@ pub fn from_bytes(alloc: Global, options: ReadOptions, bytes: &[u8]) -> Result<D
 {
     match read_document(alloc, bytes, options.depth, options.duplicate_keys) {
         Ok(document) => Ok(document),
-        Err(stop) => Err(locate(stop, bytes)),
+        Err(stop) => Err(add_offset(stop, bytes)),
     }
 }
 
@@ -148,12 +148,12 @@ pub fn from_bytes(alloc: Global, options: ReadOptions, bytes: &[u8]) -> Result<D
 /// - `OutOfMemory`: a request for memory was refused.
 pub fn front(alloc: Global, bytes: &[u8], depth: usize) -> Result<(Document, &[u8])>
     // What is read is in the grammar.
-    ensures ok { IfOk result (λ x. IsFront depth bytes.now (document_view x.0) x.1.now) }
+    ensures ok { IfOk result (λ x. IsFirstDocument depth bytes.now (document_view x.0) x.1.now) }
     // What is in the grammar is read as its one document, unless memory runs out.
-    ensures only { (ps : Pairs) (rest : _) → IsFront depth bytes.now ps rest
+    ensures only { (ps : Pairs) (rest : _) → IsFirstDocument depth bytes.now ps rest
         → IfOk result (λ x. (document_view x.0 ≡ ps) × (x.1.now ≡ rest)) × IfErr result (λ e. e ≡ errors.OutOfMemory) }
     // Which fault it is, and where.
-    ensures fault { IfErr result (λ e. IsReadFault e bytes.now (settled no_pairs (document_at depth bytes.now))) }
+    ensures fault { IfErr result (λ e. IsReadFault e bytes.now (insert_pairs_read no_pairs (read_first_document depth bytes.now))) }
 {
     let options = ReadOptions {
         depth,
@@ -177,17 +177,17 @@ pub fn front_of_bytes(
 ) -> Result<(Document, &[u8])>
     // What is read is in the grammar, and has no duplicate key if the options reject those.
     ensures ok { IfOk result
-        (λ x. IsFrontIn options.duplicate_keys options.depth bytes.now (document_view x.0) x.1.now) }
+        (λ x. IsFirstDocumentIn options.duplicate_keys options.depth bytes.now (document_view x.0) x.1.now) }
     // Each such document is read, unless memory runs out.
-    ensures only { (ps : Pairs) (rest : _) → IsFrontIn options.duplicate_keys options.depth bytes.now ps rest
+    ensures only { (ps : Pairs) (rest : _) → IsFirstDocumentIn options.duplicate_keys options.depth bytes.now ps rest
         → IfOk result (λ x. (document_view x.0 ≡ ps) × (x.1.now ≡ rest)) × IfErr result (λ e. e ≡ errors.OutOfMemory) }
     // Which fault it is, and where.
-    ensures fault { IfErr result (λ e. IsReadFault e bytes.now (settled no_pairs
-        (document_in options.duplicate_keys options.depth (none_before options.duplicate_keys) bytes.now))) }
+    ensures fault { IfErr result (λ e. IsReadFault e bytes.now (insert_pairs_read no_pairs
+        (read_document_in options.duplicate_keys options.depth (no_earlier_keys options.duplicate_keys) bytes.now))) }
 {
-    match document_at(alloc, bytes, options.depth, options.duplicate_keys) {
+    match read_first_document(alloc, bytes, options.depth, options.duplicate_keys) {
         Ok((document, rest)) => Ok((document, rest)),
-        Err(stop) => Err(locate(stop, bytes)),
+        Err(stop) => Err(add_offset(stop, bytes)),
     }
 }
 
@@ -210,11 +210,11 @@ pub fn is_document(bytes: &[u8], depth: usize) -> Result<()>
     // What is in the grammar is never refused.
     ensures only { OnErr result ((ps : Pairs) → IsRead depth bytes.now ps → ⊥) }
     // Which fault it is, and where.
-    ensures fault { IfErr result (λ e. IsFaultAlone e bytes.now (reads_bytes depth bytes.now)) }
+    ensures fault { IfErr result (λ e. IsFaultWithoutMemory e bytes.now (reads_bytes depth bytes.now)) }
 {
     match nothing::is_document(bytes, depth) {
         Ok(()) => Ok(()),
-        Err(fault) => Err(locate(Stop::Fault(fault), bytes)),
+        Err(fault) => Err(add_offset(Stop::Fault(fault), bytes)),
     }
 }
 
@@ -251,9 +251,9 @@ fn is_unwritable(error: ser::Error) -> Result<bool, AllocError>
 }
 
 // Returns the error with its offset in the bytes.
-pub(crate) fn locate(stop: Stop, bytes: &[u8]) -> Error
-    requires { StandsIn stop bytes.now }
-    ensures { result ≡ located stop bytes.now }
+pub(crate) fn add_offset(stop: Stop, bytes: &[u8]) -> Error
+    requires { IsInBytes stop bytes.now }
+    ensures { result ≡ error_with_offset stop bytes.now }
 {
     match stop {
         Stop::Fault(fault) => Error::Malformed {

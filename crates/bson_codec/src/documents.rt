@@ -3,26 +3,26 @@ ghost use Rattle.std.specs.Prelude.{◌≡◌, ◌⊎◌, ◌↔◌, ℕ, List, 
 ghost use Rattle.std.specs.Io.KnownBytes.{Appends};
 ghost use Rattle.bson_model.specs.Displayed.{display_text};
 ghost use Rattle.bson_model.specs.Value as model;
-ghost use Rattle.bson_bytes.specs.Laws.{IsRead};
+ghost use Rattle.bson_bytes.specs.ReadDocuments.{IsRead};
 ghost use Rattle.bson.specs.View.{document_view};
 ghost use Rattle.bson.specs.Doubles.TheVariants.{Special};
 ghost use Rattle.bson.specs.Form.TheVariants.{Canonical};
 ghost use Rattle.bson.specs.declared.extjson.key_order.KeyOrder.TheVariants.{AsGiven, Ascending};
-ghost use Rattle.bson_codec.specs.Documents.{BeginsWithLength, DoneDocuments, EndsAt, IsHandled, IsConversionFault};
-ghost use Rattle.bson_codec.specs.Documents.{IsJustified, IsLine, IsOfBytes, IsUnhandled, IsUntold, IsLineFault};
-ghost use Rattle.bson_codec.specs.Documents.{WritesLine, run_fault};
+ghost use Rattle.bson_codec.specs.DumpRuns.{BeginsWithLength, CompletedRun, EndsAt, IsLineOrSkip, IsConversionFault};
+ghost use Rattle.bson_codec.specs.DumpRuns.{IsJustified, IsLine, IsFaultOfDocument, IsRunEnd, IsReportFailure, IsLineFault};
+ghost use Rattle.bson_codec.specs.DumpRuns.{WritesLine, run_fault};
 ghost use Rattle.bson_codec.specs.Diagnostics.{newline, diagnostic_of};
 ghost use Rattle.bson_codec.specs.declared.documents.Line.TheVariants.{Text};
 ghost use Rattle.bson_codec.specs.declared.documents.Run.{Run};
 ghost use Rattle.bson_codec.specs.declared.run_end.RunFault.TheVariants.{CannotRead, OutOfMemory};
 
 use crate::de::{DEPTH, Error, from_slice, is_document};
-use crate::run_end::{RunEnd, RunFault, verdict};
-use crate::stream::{ReaderError, take_document, write_whole};
+use crate::run_end::{RunEnd, RunFault, diagnostic_line};
+use crate::stream::{ReaderError, read_document_bytes, write_whole};
 use crate::text::decode_text;
 use bson::extjson::{Doubles, Form, KeyOrder, Options, WriteError};
 use bson::{Bson, Document};
-use bson_bytes::parts::size_at;
+use bson_bytes::read_parts::read_length;
 use std::alloc::Global;
 use std::io::{Read, Write};
 
@@ -30,7 +30,7 @@ use std::io::{Read, Write};
 const BLOCK: usize = 65536;
 
 /// The greatest number of documents in one run.
-const MOST: u64 = u64::MAX - 1;
+const MAX_DOCUMENTS: u64 = u64::MAX - 1;
 
 /// What a run over documents writes for each of them.
 ///
@@ -140,7 +140,7 @@ pub fn run_documents<R: Read, W: Write, T: Write>(
     writer: &mut W,
     report: &mut T,
 ) -> Result<DocumentCounts, RunEnd>
-    ensures done { IfOk result (λ counts. DoneDocuments run (R.remaining reader.old) (R.remaining reader.new)
+    ensures done { IfOk result (λ counts. CompletedRun run (R.remaining reader.old) (R.remaining reader.new)
         (W.contents writer.old) (W.contents writer.new) (T.contents report.old) (T.contents report.new)
         counts.documents counts.refused) }
     ensures fails { IfErr result (λ e. EndsAt run (R.remaining reader.old) (R.remaining reader.new)
@@ -153,9 +153,9 @@ pub fn run_documents<R: Read, W: Write, T: Write>(
     let mut block = [0u8; BLOCK];
     let mut refused: u64 = 0;
     let mut start: u64 = 0;
-    for documents in 0..MOST {
+    for documents in 0..MAX_DOCUMENTS {
         let number = documents + 1;
-        if let Err(error) = take_document(reader, &mut block, &mut bytes) {
+        if let Err(error) = read_document_bytes(reader, &mut block, &mut bytes) {
             let fault = fault_of_reader(error);
             return Err(RunEnd {
                 fault,
@@ -176,7 +176,7 @@ pub fn run_documents<R: Read, W: Write, T: Write>(
             });
         };
         let bytes = bytes.as_slice();
-        let passed = match give(alloc, run, number, start, bytes, writer, report) {
+        let passed = match write_or_skip(alloc, run, number, start, bytes, writer, report) {
             Ok(passed) => passed,
             Err(fault) => {
                 return Err(RunEnd {
@@ -200,7 +200,7 @@ pub fn run_documents<R: Read, W: Write, T: Write>(
 }
 
 // Writes the line of a document and returns 0, or reports and skips the document and returns 1.
-fn give<W: Write, T: Write>(
+fn write_or_skip<W: Write, T: Write>(
     alloc: Global,
     run: Run,
     number: u64,
@@ -209,9 +209,9 @@ fn give<W: Write, T: Write>(
     writer: &mut W,
     report: &mut T,
 ) -> Result<u64, RunFault>
-    ensures ok { IfOk result (λ n. IsHandled n run number start bytes.now (W.contents writer.old)
+    ensures ok { IfOk result (λ n. IsLineOrSkip n run number start bytes.now (W.contents writer.old)
         (W.contents writer.new) (T.contents report.old) (T.contents report.new)) }
-    ensures fault { IfErr result (λ e. IsUnhandled e run number start bytes.now (W.contents writer.old)
+    ensures fault { IfErr result (λ e. IsRunEnd e run number start bytes.now (W.contents writer.old)
         (W.contents writer.new) (T.contents report.old) (T.contents report.new)) }
 {
     match line_of(alloc, run, bytes) {
@@ -222,8 +222,8 @@ fn give<W: Write, T: Write>(
             Ok(0)
         }
         Err(fault) => {
-            if run.keep_going && may_pass(fault, bytes) {
-                return match tell(alloc, number, start, fault, report) {
+            if run.keep_going && may_skip(fault, bytes) {
+                return match report_skipped(alloc, number, start, fault, report) {
                     Ok(()) => Ok(1),
                     Err(error) => Err(error),
                 };
@@ -335,7 +335,7 @@ fn end_line(text: String) -> Result<Vec<u8>, RunFault>
 }
 
 // Reports a document that is skipped.
-fn tell<T: Write>(
+fn report_skipped<T: Write>(
     alloc: Global,
     number: u64,
     start: u64,
@@ -343,9 +343,9 @@ fn tell<T: Write>(
     report: &mut T,
 ) -> Result<(), RunFault>
     ensures ok { OnOk result (Appends (T.contents report.old) (T.contents report.new) (diagnostic_of number start fault)) }
-    ensures fault { IfErr result (λ e. IsUntold e number start fault (T.contents report.old) (T.contents report.new)) }
+    ensures fault { IfErr result (λ e. IsReportFailure e number start fault (T.contents report.old) (T.contents report.new)) }
 {
-    let Ok(reported) = verdict(alloc, number, start, fault) else {
+    let Ok(reported) = diagnostic_line(alloc, number, start, fault) else {
         return Err(RunFault::OutOfMemory);
     };
     match write_whole(report, reported.as_bytes()) {
@@ -355,8 +355,8 @@ fn tell<T: Write>(
 }
 
 // Whether a run with `keep_going` skips a rejected document.
-fn may_pass(fault: RunFault, bytes: &[u8]) -> bool
-    ensures { IsTrue result ↔ IsOfBytes fault × BeginsWithLength bytes.now }
+fn may_skip(fault: RunFault, bytes: &[u8]) -> bool
+    ensures { IsTrue result ↔ IsFaultOfDocument fault × BeginsWithLength bytes.now }
 {
     match fault {
         RunFault::Malformed { .. } => has_length(bytes),
@@ -371,7 +371,7 @@ fn may_pass(fault: RunFault, bytes: &[u8]) -> bool
 fn has_length(bytes: &[u8]) -> bool
     ensures { IsTrue result ↔ BeginsWithLength bytes.now }
 {
-    match size_at(bytes) {
+    match read_length(bytes) {
         Ok((size, _)) => size == bytes.len(),
         Err(_) => false,
     }

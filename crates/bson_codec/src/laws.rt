@@ -1,7 +1,7 @@
 //! Laws of the definitions.
 ghost use Rattle.std.specs.Prelude.{◌≡◌, ℕ, List, Option, Some, IsUtf8};
 ghost use Rattle.std.specs.Io.KnownBytes.{Appends};
-ghost use Rattle.bson_codec.specs.Documents.{Dump, EndsAt, EndsInside, IsOfBytes};
+ghost use Rattle.bson_codec.specs.DumpRuns.{Dump, EndsAt, EndsInside, IsFaultOfDocument};
 ghost use Rattle.bson_codec.specs.declared.documents.Run.{Run};
 ghost use Rattle.bson_codec.specs.declared.run_end.RunFault.{RunFault};
 
@@ -35,7 +35,7 @@ pub fn one_end()
 pub fn ends_are_inside()
     ensures { (run : Run) (all : List ℕ) (after had holds reported reports : Option (List ℕ)) (fault : RunFault)
         (number refused start : ℕ) → EndsAt run (Some all) after had holds reported reports fault number refused start
-        → IsOfBytes fault → (output : List ℕ) × (verdicts : List ℕ)
-        × EndsInside run all output verdicts fault number refused start
-        × Appends had holds output × Appends reported reports verdicts }
+        → IsFaultOfDocument fault → (output : List ℕ) × (diagnostic_lines : List ℕ)
+        × EndsInside run all output diagnostic_lines fault number refused start
+        × Appends had holds output × Appends reported reports diagnostic_lines }
 {}

@@ -5,18 +5,18 @@
 
 pub mod de;
 pub mod documents;
-mod elements;
+mod element_writer;
 pub mod laws;
 pub mod pack;
 mod pair_list;
-mod read;
+mod read_to_memory;
 pub mod run_end;
-mod scalars;
+mod put_scalars;
 pub mod ser;
 pub mod stream;
 pub mod text;
-mod values;
-mod write;
+mod value_sink;
+mod put_values;
 
 pub use de::{
     ReadOptions, from_bytes, from_slice, front, front_of_bytes, is_canonical, is_document,

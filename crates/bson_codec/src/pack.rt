@@ -1,8 +1,8 @@
 //! From text to bytes, token by token.
 ghost use Rattle.std.specs.Prelude.{IfOk};
-ghost use Rattle.bson_codec.specs.Packed.{IsPackedText};
+ghost use Rattle.bson_codec.specs.PackedText.{IsPackedText};
 
-use crate::elements::ElementWriter;
+use crate::element_writer::ElementWriter;
 use bson_scalar::form::Doubles;
 use bson_text::stop::Stop;
 use bson_text::traversal::write_document_text;
@@ -12,7 +12,7 @@ use json::Scratch;
 use std::alloc::Global;
 
 // A longer text is read with memory of its own, which is freed with its reader.
-const LONG: usize = 1 << 16;
+const LONG_TEXT: usize = 1 << 16;
 
 /// Encodes the document that the text denotes as canonical bytes, with its keys in the order of the
 /// text, at every depth, and the last value of a duplicate key at its first position: they are
@@ -46,7 +46,7 @@ fn pack_normalized(
 ) -> Result<Vec<u8>, Stop>
     ensures ok { IfOk result (λ out. IsPackedText doubles text.now out.items) }
 {
-    let normalized = normalize_text(alloc, Arrangement::FirstPlaces, text)?;
+    let normalized = normalize_text(alloc, Arrangement::FirstPositions, text)?;
     write_packed(alloc, doubles, normalized.as_str(), scratch)
 }
 
@@ -59,7 +59,7 @@ fn write_packed(
 ) -> Result<Vec<u8>, Stop>
     ensures ok { IfOk result (λ out. IsPackedText doubles text.now out.items) }
 {
-    if text.len() > LONG {
+    if text.len() > LONG_TEXT {
         return write_long(alloc, doubles, text);
     }
     write_whole(alloc, doubles, text, scratch)

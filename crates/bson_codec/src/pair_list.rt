@@ -2,17 +2,17 @@
 ghost use Rattle.std.specs.Prelude.{◌≡◌, ◌≤◌, true, [], IfOk, OnOk, length, string_bytes};
 ghost use Rattle.bson.specs.View.{bson_view, document_view, contents};
 ghost use Rattle.bson_bytes.specs.Fault.{ReturnsReading};
-ghost use Rattle.bson_bytes.specs.Grammar.{one_each};
-ghost use Rattle.bson_bytes.specs.Reading.{key_at};
-ghost use Rattle.bson_bytes.specs.declared.keys.DuplicateKeys.{DuplicateKeys};
-ghost use Rattle.bson_bytes.specs.declared.keys.DuplicateKeys.TheVariants.{Replace, Refuse};
-ghost use Rattle.bson_codec.specs.Reading.{entries_view, AreKeys};
+ghost use Rattle.bson_bytes.specs.Grammar.{deduplicated};
+ghost use Rattle.bson_bytes.specs.Reading.{read_key};
+ghost use Rattle.bson_bytes.specs.declared.duplicate_keys.DuplicateKeys.{DuplicateKeys};
+ghost use Rattle.bson_bytes.specs.declared.duplicate_keys.DuplicateKeys.TheVariants.{Replace, Refuse};
+ghost use Rattle.bson_codec.specs.ReadToMemory.{entries_view, HaveKeys};
 ghost use Rattle.bson_model.specs.Value.{Pairs, no_pairs};
-ghost use Rattle.bson_bytes.specs.Source.{keys_back, keys_before, with_pair};
+ghost use Rattle.bson_bytes.specs.Source.{reversed_keys, earlier_keys, with_pair};
 
 use bson::{Bson, Document};
 use bson_bytes::fault::{Fault, FaultKind, fault_at};
-use bson_bytes::parts::name_at;
+use bson_bytes::read_parts::read_name;
 use bson_store::Pair;
 use std::alloc::{AllocError, Global};
 
@@ -22,27 +22,27 @@ pub(crate) trait PairList: Drop {
     ghost keys: { DuplicateKeys };
 
     // The list has these elements.
-    ghost holds: { Pairs → Self → Type 0 };
+    ghost list_has: { Pairs → Self → Type 0 };
 
     /// Returns a list without pairs.
     fn new(alloc: Global) -> Self
-        ensures { holds no_pairs result };
+        ensures { list_has no_pairs result };
 
     /// Reads the key at the front of the bytes, which may be the next one of the list.
-    fn key_at<'b>(&self, bytes: &'b [u8]) -> Result<(&'b str, &'b [u8]), Fault>
-        ensures given { (ps : Pairs) → holds ps self.now
-            → ReturnsReading (λ x. (x.0.now, x.1.now)) result (key_at (keys_before keys true ps) bytes.now) }
+    fn read_key<'b>(&self, bytes: &'b [u8]) -> Result<(&'b str, &'b [u8]), Fault>
+        ensures outcome { (ps : Pairs) → list_has ps self.now
+            → ReturnsReading (λ x. (x.0.now, x.1.now)) result (read_key (earlier_keys keys true ps) bytes.now) }
         ensures shorter { IfOk result (λ x. length x.1.now ≤ length bytes.now) };
 
     /// Adds a pair.
     fn put(&mut self, key: String, value: Bson) -> Result<(), AllocError>
-        ensures { OnOk result ((ps : Pairs) → holds ps self.old
-            → holds (with_pair ps (string_bytes key) (bson_view value)) self.new) };
+        ensures { OnOk result ((ps : Pairs) → list_has ps self.old
+            → list_has (with_pair ps (string_bytes key) (bson_view value)) self.new) };
 
     /// Converts the list to a document. If a key is duplicated, its last value wins, at its first
     /// position.
     fn into_document(self, alloc: Global) -> Result<Document, AllocError>
-        ensures { IfOk result (λ d. (ps : Pairs) → holds ps self → document_view d ≡ one_each ps) };
+        ensures { IfOk result (λ d. (ps : Pairs) → list_has ps self → document_view d ≡ deduplicated ps) };
 }
 
 /// Pairs in the order of the bytes, whose keys may be duplicated.
@@ -54,7 +54,7 @@ pub(crate) struct AnyPairs {
 impl PairList for AnyPairs {
     ghost keys = { Replace };
 
-    ghost holds = { λ ps list. entries_view list.entries.items ≡ ps };
+    ghost list_has = { λ ps list. entries_view list.entries.items ≡ ps };
 
     fn new(alloc: Global) -> AnyPairs {
         AnyPairs {
@@ -62,8 +62,8 @@ impl PairList for AnyPairs {
         }
     }
 
-    fn key_at<'b>(&self, bytes: &'b [u8]) -> Result<(&'b str, &'b [u8]), Fault> {
-        name_at(bytes)
+    fn read_key<'b>(&self, bytes: &'b [u8]) -> Result<(&'b str, &'b [u8]), Fault> {
+        read_name(bytes)
     }
 
     fn put(&mut self, key: String, value: Bson) -> Result<(), AllocError> {
@@ -78,37 +78,37 @@ impl PairList for AnyPairs {
 /// Pairs without a duplicate key.
 #[derive(Drop)]
 pub(crate) struct DistinctPairs {
-    found: Document,
+    inserted: Document,
 }
 
 impl PairList for DistinctPairs {
     ghost keys = { Refuse };
 
-    ghost holds = { λ ps list. (document_view list.found ≡ one_each ps)
-        × AreKeys (keys_back ps []) (contents list.found) };
+    ghost list_has = { λ ps list. (document_view list.inserted ≡ deduplicated ps)
+        × HaveKeys (reversed_keys ps []) (contents list.inserted) };
 
     fn new(alloc: Global) -> DistinctPairs {
         DistinctPairs {
-            found: Document::new(alloc),
+            inserted: Document::new(alloc),
         }
     }
 
-    fn key_at<'b>(&self, bytes: &'b [u8]) -> Result<(&'b str, &'b [u8]), Fault> {
-        let (name, rest) = name_at(bytes)?;
-        if self.found.contains_key(name) {
+    fn read_key<'b>(&self, bytes: &'b [u8]) -> Result<(&'b str, &'b [u8]), Fault> {
+        let (name, rest) = read_name(bytes)?;
+        if self.inserted.contains_key(name) {
             return Err(fault_at(FaultKind::DuplicateKey, bytes));
         }
         Ok((name, rest))
     }
 
     fn put(&mut self, key: String, value: Bson) -> Result<(), AllocError> {
-        match self.found.insert(key, value) {
+        match self.inserted.insert(key, value) {
             Ok(_) => Ok(()),
             Err(_) => Err(AllocError),
         }
     }
 
     fn into_document(self, _alloc: Global) -> Result<Document, AllocError> {
-        Ok(self.found)
+        Ok(self.inserted)
     }
 }

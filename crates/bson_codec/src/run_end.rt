@@ -65,12 +65,12 @@ impl RunEnd {
     pub fn to_line(&self, alloc: Global) -> Result<String, AllocError>
         ensures { IfOk result (λ reported. string_bytes reported ≡ diagnostic_of self.now.number self.now.start self.now.fault) }
     {
-        verdict(alloc, self.number, self.start, self.fault)
+        diagnostic_line(alloc, self.number, self.start, self.fault)
     }
 }
 
 /// Returns the diagnostic of a document and its fault, and a newline.
-pub(crate) fn verdict(
+pub(crate) fn diagnostic_line(
     alloc: Global,
     number: u64,
     start: u64,
@@ -79,11 +79,11 @@ pub(crate) fn verdict(
     ensures { IfOk result (λ reported. string_bytes reported ≡ diagnostic_of number start fault) }
 {
     let place = fault.place(alloc)?;
-    at_place(alloc, number, start, fault, place.as_str())
+    with_place(alloc, number, start, fault, place.as_str())
 }
 
 // Returns the diagnostic with the document, the message of the fault, and its offset.
-fn at_place(
+fn with_place(
     alloc: Global,
     number: u64,
     start: u64,
@@ -102,7 +102,7 @@ impl RunFault {
         ensures { result.now ≡ run_fault_message self }
     {
         match self {
-            RunFault::Malformed { kind, .. } => words_for(kind),
+            RunFault::Malformed { kind, .. } => fault_message(kind),
             RunFault::FiniteDouble => "a finite double",
             RunFault::CannotRead => "cannot read",
             RunFault::CannotWrite => "cannot write",
@@ -125,7 +125,7 @@ impl RunFault {
 }
 
 // Returns the message for a kind of error.
-fn words_for(kind: FaultKind) -> &'static str
+fn fault_message(kind: FaultKind) -> &'static str
     ensures { result.now ≡ fault_kind_message kind }
 {
     match kind {

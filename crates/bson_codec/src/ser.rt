@@ -1,12 +1,12 @@
 //! Bytes of documents.
 ghost use Rattle.std.specs.Prelude.{◌≡◌, ℕ, suc, IfOk, OnOk, IfErr};
-ghost use Rattle.bson_bytes.specs.Laws.{IsRead};
-ghost use Rattle.bson_bytes.specs.Writing.{document_bytes, as_written, FitsDocument, IsWellTypedDocument, NestsPairs};
+ghost use Rattle.bson_bytes.specs.ReadDocuments.{IsRead};
+ghost use Rattle.bson_bytes.specs.Writing.{document_bytes, as_read_back, FitsDocument, IsWellTypedDocument, PairsNestUpTo};
 ghost use Rattle.bson_bytes.specs.declared.error.Error.TheVariants as errors;
 ghost use Rattle.bson.specs.View.{document_view};
-ghost use Rattle.bson_codec.specs.Writing.{IsRefusal};
+ghost use Rattle.bson_codec.specs.WriteErrors.{IsWriteErrorFor};
 
-use crate::write::put_document;
+use crate::put_values::put_document;
 use bson::Document;
 pub use bson_bytes::error::Error;
 use std::alloc::Global;
@@ -41,12 +41,12 @@ pub fn to_vec(alloc: Global, document: &Document) -> Result<Vec<u8>>
     // Its texts are UTF-8, its numbers are in range, and it has no duplicate key, at any depth.
     ensures typed { OnOk result (IsWellTypedDocument (document_view document.now)) }
     // They are read back as the document, each binary under the subtype that its byte names.
-    ensures back { IfOk result (λ out. (d : ℕ) → NestsPairs (document_view document.now) d
-        → IsRead (suc d) out.items (as_written (document_view document.now))) }
+    ensures back { IfOk result (λ out. (d : ℕ) → PairsNestUpTo (document_view document.now) d
+        → IsRead (suc d) out.items (as_read_back (document_view document.now))) }
     // If each part fits, only memory can fail.
     ensures only { FitsDocument (document_view document.now) → IfErr result (λ e. e ≡ errors.OutOfMemory) }
     // It is the cause of the first part, in the order of writing, that has no bytes.
-    ensures cause { IfErr result (λ e. IsRefusal e (document_view document.now)) }
+    ensures cause { IfErr result (λ e. IsWriteErrorFor e (document_view document.now)) }
 {
     let mut out = Vec::new(alloc);
     put_document(&mut out, document)?;

@@ -2,11 +2,11 @@
 ghost use Rattle.std.specs.Prelude.{◌≡◌, ◌<◌, ◌≤◌, ◌⊎◌, ℕ, List, [], Some, length, vec_len, IfOk, IfErr, OnOk};
 ghost use Rattle.std.specs.Io.KnownBytes.{Appends, Consumes, IsAtEnd};
 ghost use Rattle.bson_model.specs.Value.{Pairs};
-ghost use Rattle.bson_bytes.specs.Laws.{IsRead, IsFront};
+ghost use Rattle.bson_bytes.specs.ReadDocuments.{IsRead, IsFirstDocument};
 ghost use Rattle.bson_bytes.specs.Writing.{document_bytes, FitsDocument};
 ghost use Rattle.bson.specs.View.{document_view};
-ghost use Rattle.bson_codec.specs.Streams.{IsRefusedInput, IsHindrance, IsWriteFailure, IsSystemFailure, IsConsumed, WritesBeginning};
-ghost use Rattle.bson_codec.specs.Streams.{front_of, promised};
+ghost use Rattle.bson_codec.specs.Streams.{IsReaderErrorFor, IsReaderOrMemoryFailure, IsWriteFailure, IsSystemFailure, BytesAdded, WritesBeginning};
+ghost use Rattle.bson_codec.specs.Streams.{declared_prefix, declared_length};
 ghost use Rattle.bson_codec.specs.declared.stream.ReaderError.TheVariants as read_errors;
 ghost use Rattle.bson_codec.specs.declared.stream.WriterError.TheVariants as write_errors;
 
@@ -15,7 +15,7 @@ use crate::ser;
 use crate::ser::to_vec;
 use bson::Document;
 use bson_bytes::fault::FaultKind;
-use bson_bytes::parts::size_at;
+use bson_bytes::read_parts::read_length;
 use std::alloc::Global;
 use std::io::{Read, Write};
 
@@ -23,7 +23,7 @@ use std::io::{Read, Write};
 const BLOCK: usize = 4096;
 
 /// The length that begins a document.
-const LENGTH: usize = 4;
+const LENGTH_BYTES: usize = 4;
 
 /// Why no document is read from a reader.
 ///
@@ -98,14 +98,14 @@ pub fn from_reader<R: Read>(
         × IsRead depth bytes (document_view d)) }
     // A document at the front is read, and no byte after it.
     ensures only { (all : List ℕ) (ps : Pairs) (rest : List ℕ) → R.remaining reader.old ≡ Some all
-        → IsFront depth all ps rest → IfErr result (λ e. IsHindrance e) }
+        → IsFirstDocument depth all ps rest → IfErr result (λ e. IsReaderOrMemoryFailure e) }
     // Which error of the bytes it is, and where.
     ensures fault { IfErr result
-        (λ e. IsRefusedInput depth (R.remaining reader.old) (R.remaining reader.new) e) }
+        (λ e. IsReaderErrorFor depth (R.remaining reader.old) (R.remaining reader.new) e) }
 {
     let mut bytes = Vec::new(alloc);
     let mut block = [0u8; BLOCK];
-    take_document(reader, &mut block, &mut bytes)?;
+    read_document_bytes(reader, &mut block, &mut bytes)?;
     match from_slice(alloc, bytes.as_slice(), depth) {
         Ok(document) => Ok(document),
         Err(Error::Malformed { kind, offset }) => Err(ReaderError::Malformed { kind, offset }),
@@ -143,29 +143,29 @@ pub fn to_writer<W: Write>(
 
 /// Reads the bytes of a document, as many as its length says, or fewer if the reader ends. At most a
 /// block is requested from the reader at once.
-pub(crate) fn take_document<R: Read>(
+pub(crate) fn read_document_bytes<R: Read>(
     reader: &mut R,
     block: &mut [u8],
     bytes: &mut Vec<u8>,
 ) -> Result<(), ReaderError>
     requires { 0 < length block.old }
-    ensures taken { OnOk result (Consumes (R.remaining reader.old) (R.remaining reader.new) bytes.new.items) }
-    ensures front { (all : List ℕ) → R.remaining reader.old ≡ Some all → OnOk result (bytes.new.items ≡ front_of all) }
+    ensures bytes_read { OnOk result (Consumes (R.remaining reader.old) (R.remaining reader.new) bytes.new.items) }
+    ensures front { (all : List ℕ) → R.remaining reader.old ≡ Some all → OnOk result (bytes.new.items ≡ declared_prefix all) }
     ensures end { OnOk result (bytes.new.items ≡ [] → IsAtEnd (R.remaining reader.new)) }
     ensures some { (more : List ℕ) × Consumes (R.remaining reader.old) (R.remaining reader.new) more }
     ensures fault { IfErr result (λ e. (e ≡ read_errors.CannotRead) ⊎ (e ≡ read_errors.OutOfMemory)) }
 {
     bytes.clear();
-    fill(reader, block, bytes, LENGTH)?;
-    if bytes.len() < LENGTH {
+    fill_to(reader, block, bytes, LENGTH_BYTES)?;
+    if bytes.len() < LENGTH_BYTES {
         return Ok(());
     }
-    let size = promised_size(bytes.as_slice());
-    fill(reader, block, bytes, size)
+    let size = declared_size(bytes.as_slice());
+    fill_to(reader, block, bytes, size)
 }
 
 // Reads bytes until there are `count` of them, or the reader has no more.
-fn fill<R: Read>(
+fn fill_to<R: Read>(
     reader: &mut R,
     block: &mut [u8],
     bytes: &mut Vec<u8>,
@@ -173,8 +173,8 @@ fn fill<R: Read>(
 ) -> Result<(), ReaderError>
     requires room { 0 < length block.old }
     requires fewer { vec_len bytes.old ≤ count }
-    ensures taken { OnOk result
-        (IsConsumed (R.remaining reader.old) (R.remaining reader.new) bytes.old.items bytes.new.items) }
+    ensures bytes_read { OnOk result
+        (BytesAdded (R.remaining reader.old) (R.remaining reader.new) bytes.old.items bytes.new.items) }
     ensures end { OnOk result ((length bytes.new.items ≡ count) ⊎ IsAtEnd (R.remaining reader.new)) }
     ensures bound { OnOk result (length bytes.new.items ≤ count) }
     ensures some { (more : List ℕ) × Consumes (R.remaining reader.old) (R.remaining reader.new) more }
@@ -188,13 +188,13 @@ fn fill<R: Read>(
             block.len()
         };
         let span = &mut block[..room];
-        let Ok(given) = reader.read(span) else {
+        let Ok(count_read) = reader.read(span) else {
             return Err(ReaderError::CannotRead);
         };
-        if given == 0 {
+        if count_read == 0 {
             return Ok(());
         }
-        let Ok(()) = bytes.extend_from_slice(&span[..given]) else {
+        let Ok(()) = bytes.extend_from_slice(&span[..count_read]) else {
             return Err(ReaderError::OutOfMemory);
         };
     }
@@ -202,11 +202,11 @@ fn fill<R: Read>(
 }
 
 // Returns the length that the document declares in these bytes, or their number if that is greater.
-fn promised_size(bytes: &[u8]) -> usize
-    ensures value { result ≡ promised bytes.now }
+fn declared_size(bytes: &[u8]) -> usize
+    ensures value { result ≡ declared_length bytes.now }
     ensures least { length bytes.now ≤ result }
 {
-    match size_at(bytes) {
+    match read_length(bytes) {
         Ok((size, _)) => {
             if size < bytes.len() {
                 bytes.len()

@@ -1,17 +1,17 @@
 //! The text of a document's bytes.
 ghost use Rattle.std.specs.Prelude.{◌≡◌, IfOk, IfErr, string_bytes};
-ghost use Rattle.bson_bytes.specs.Laws.{IsRead};
+ghost use Rattle.bson_bytes.specs.ReadDocuments.{IsRead};
 ghost use Rattle.bson_bytes.specs.Reading.{reads_bytes};
-ghost use Rattle.bson_codec.specs.Errors.{IsReadFault};
-ghost use Rattle.bson_codec.specs.Texts.{IsDocumentTextOf};
+ghost use Rattle.bson_codec.specs.ReadErrors.{IsReadFault};
+ghost use Rattle.bson_codec.specs.DocumentText.{IsDocumentTextOf};
 ghost use Rattle.bson_codec.specs.declared.de.Error.TheVariants as errors;
 ghost use Rattle.bson_model.specs.Value.{Pairs};
 
-use crate::de::{Error, from_slice, locate};
+use crate::de::{Error, from_slice, add_offset};
 use bson::Bson;
 use bson::extjson::{Doubles, Form, KeyOrder, Options, WriteError};
 use bson_bytes::stop::Stop;
-use bson_bytes::text::document_text;
+use bson_bytes::text_sink::document_text;
 use std::alloc::Global;
 
 /// Reads all of the bytes as a document (BSON 1.1), and returns its compact text in the form (MongoDB
@@ -39,7 +39,7 @@ pub fn decode_text(alloc: Global, form: Form, bytes: &[u8], depth: usize) -> Res
 {
     match document_text(alloc, form, bytes, depth) {
         Ok(text) => Ok(text),
-        Err(Stop::Fault(fault)) => Err(locate(Stop::Fault(fault), bytes)),
+        Err(Stop::Fault(fault)) => Err(add_offset(Stop::Fault(fault), bytes)),
         Err(Stop::OutOfMemory) => Err(Error::OutOfMemory),
         Err(Stop::PossibleDuplicate) => decode_by_value(alloc, form, bytes, depth),
     }

@@ -6,7 +6,7 @@
 ghost use Rattle.std.specs.Prelude.{◌≡◌, IfOk, IfErr, IsUtf8, OnOk, ℕ, List, string_bytes};
 ghost use Rattle.serde_json.specs.Read.{read};
 ghost use Rattle.bson_tokens.specs.Normalized.{IsNormalizedText};
-ghost use Rattle.bson_tokens.specs.Parts.{InvalidMeansNone};
+ghost use Rattle.bson_tokens.specs.ReadOutcomes.{InvalidIfNotRead};
 ghost use Rattle.bson_convert.specs.Convert.{IsAccepted, IsConvertedText, IsRefusedIn, IsTried, IsUtf8Tried};
 ghost use Rattle.bson.specs.declared.extjson.options.Options.{Options};
 
@@ -163,7 +163,7 @@ pub fn refuse(alloc: Global, options: Options, text: &str) -> Result<(), Error>
 
 // The fault of a text of which no tree was read.
 fn no_tree(error: json::Error) -> Error
-    ensures { (options : Options) (bytes : List ℕ) → InvalidMeansNone (read bytes) error → IsRefusedIn options result bytes }
+    ensures { (options : Options) (bytes : List ℕ) → InvalidIfNotRead (read bytes) error → IsRefusedIn options result bytes }
 {
     match error {
         json::Error::Invalid => Error::NotJson,

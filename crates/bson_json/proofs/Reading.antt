@@ -10,7 +10,7 @@ use Rattle.json.proofs.Grammar.{left_some}
 use Rattle.json.proofs.Nesting.{value-depth}
 use Rattle.json.proofs.Printed.Trees.{value-json_tokens}
 use Rattle.json.proofs.Unique.Spelling.{value-json_tokens_back}
-use Rattle.bson_tokens.specs.Double.{json_of}
+use Rattle.bson_tokens.specs.DuplicateKeys.{json_of}
 use Rattle.bson_json.specs.Grammar.{IsJson, IsJsonText, IsJsonOf}
 use Rattle.bson_json.proofs.Back.{text_back}
 use Rattle.bson_json.proofs.Forward.{text_tokens}

@@ -13,7 +13,7 @@ ghost use Rattle.bson_scalar.specs.declared.form.Doubles.{Doubles};
 ghost use Rattle.bson_model.specs.Laws.{HasMeaningIn};
 ghost use Rattle.bson_model.specs.Value.{Value};
 ghost use Rattle.bson_model.specs.OrderedTexts.{MeansByDefault};
-ghost use Rattle.bson_tokens.specs.Double.{json_of};
+ghost use Rattle.bson_tokens.specs.DuplicateKeys.{json_of};
 ghost use Rattle.bson_json.specs.Characters.{IsUnescapedCharacter};
 ghost use Rattle.bson_json.specs.Corners.{AcceptedCorners, RejectedCorners};
 ghost use Rattle.bson_json.specs.Sequence.{AreTexts, texts_in};

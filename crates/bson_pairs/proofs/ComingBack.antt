@@ -16,15 +16,15 @@ use Rattle.bson.specs.Value.{Value, scalar, code_scope, array, document, Values,
 use Rattle.bson.specs.WrittenInOrder.{WrittenInOrder}
 use Rattle.bson.specs.Options.{mongodb_options}
 use Rattle.bson.specs.declared.extjson.key_order.KeyOrder.TheVariants.{AsGiven}
-use Rattle.bson_codec.specs.Canonical.{NestsPairs, as_written, by_byte, document_bytes}
-use Rattle.bson_codec.specs.Laws.{IsRead}
+use Rattle.bson_codec.specs.Canonical.{PairsNestUpTo, as_read_back, with_written_subtype, document_bytes}
+use Rattle.bson_codec.specs.ReadDocuments.{IsRead}
 use Rattle.bson_run.specs.Encode.{Encodes}
 use Rattle.bson_scalar.specs.Normal.{normal_scalar}
 use Rattle.bson_pairs.specs.Again.{RoundTrips, NestsAtMost}
 
 -- ---- what is in normal form has the subtypes that its bytes name
 
-scalar_again : (x : Scalar) → normal_scalar x ≡ x → by_byte x ≡ x
+scalar_again : (x : Scalar) → normal_scalar x ≡ x → with_written_subtype x ≡ x
 scalar_again null h = refl
 scalar_again undefined h = refl
 scalar_again min_key h = refl
@@ -45,21 +45,21 @@ scalar_again (decimal b) h = refl
 scalar_again (db_pointer s id) h = refl
 
 mutual
-  value_again : (v : Value) → map_scalars normal_scalar v ≡ v → map_scalars by_byte v ≡ v
+  value_again : (v : Value) → map_scalars normal_scalar v ≡ v → map_scalars with_written_subtype v ≡ v
   value_again (scalar x) h = ap scalar (scalar_again x cc)
   value_again (code_scope s ps) h = ap (code_scope s) (pairs_again ps cc)
   value_again (array vs) h = ap array (items_again vs cc)
   value_again (document ps) h = ap document (pairs_again ps cc)
 
-  items_again : (vs : Values) → map_scalars_of_items normal_scalar vs ≡ vs → map_scalars_of_items by_byte vs ≡ vs
+  items_again : (vs : Values) → map_scalars_of_items normal_scalar vs ≡ vs → map_scalars_of_items with_written_subtype vs ≡ vs
   items_again no_values h = refl
   items_again (value v vs) h = ap₂ value (value_again v cc) (items_again vs cc)
 
-  pairs_again : (ps : Pairs) → map_scalars_of_pairs normal_scalar ps ≡ ps → map_scalars_of_pairs by_byte ps ≡ ps
+  pairs_again : (ps : Pairs) → map_scalars_of_pairs normal_scalar ps ≡ ps → map_scalars_of_pairs with_written_subtype ps ≡ ps
   pairs_again no_pairs h = refl
   pairs_again (pair k v ps) h = ap₂ (pair k) (value_again v cc) (pairs_again ps cc)
 
-written_again : (ps : Pairs) → RoundTrips ps → as_written ps ≡ ps
+written_again : (ps : Pairs) → RoundTrips ps → as_read_back ps ≡ ps
 written_again ps back =
     let h : document (map_scalars_of_pairs normal_scalar ps) ≡ document ps = back.is_normal in
     pairs_again ps cc
@@ -105,7 +105,7 @@ module _ (ps : Pairs) (text : List ℕ) (is : IsTextInOrder Finite Canonical (do
       → IsRead depth out ps
   decoded_again out depth e nests =
       let same = meant e.pairs e.meaning.1 in
-      let deep : NestsPairs e.pairs nests.0 = subst (λ qs. NestsPairs qs nests.0) (sym same) nests.2 in
-      let read : IsRead (suc nests.0) out (as_written e.pairs) = e.back nests.0 deep in
+      let deep : PairsNestUpTo e.pairs nests.0 = subst (λ qs. PairsNestUpTo qs nests.0) (sym same) nests.2 in
+      let read : IsRead (suc nests.0) out (as_read_back e.pairs) = e.back nests.0 deep in
       subst (λ n. IsRead n out ps) (sym nests.1)
-      (subst (IsRead (suc nests.0) out) (ap as_written same ∙ written_again ps back) read)
+      (subst (IsRead (suc nests.0) out) (ap as_read_back same ∙ written_again ps back) read)

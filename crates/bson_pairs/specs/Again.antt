@@ -8,7 +8,7 @@ use Rattle.bson.specs.Normal.{normal_form, plain}
 use Rattle.bson.specs.Value.{Pairs, document}
 use Rattle.bson.specs.WriteError.TheVariants as write_errors
 use Rattle.bson.specs.WrittenInOrder.{WrittenInOrder}
-use Rattle.bson_codec.specs.Canonical.{NestsPairs}
+use Rattle.bson_codec.specs.Canonical.{PairsNestUpTo}
 use Rattle.bson_codec.specs.declared.de.Error.TheVariants as read_errors
 use Rattle.bson_convert.specs.declared.error.Error.TheVariants as errors
 use Rattle.bson_pairs.specs.declared.again.NotAgain.{NotAgain}
@@ -22,7 +22,7 @@ pub record RoundTrips (ps : Pairs) : Type 0 where
 
 -- documents, arrays and scopes nest at most so deep, with the document itself counted
 abbrev pub NestsAtMost : ℕ → Pairs → Type 0
-NestsAtMost depth ps = (d : ℕ) × (depth ≡ suc d) × NestsPairs ps d
+NestsAtMost depth ps = (d : ℕ) × (depth ≡ suc d) × PairsNestUpTo ps d
 
 -- an allocation failed
 abbrev pub IsWant : NotAgain → Type 0

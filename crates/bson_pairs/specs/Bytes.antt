@@ -3,7 +3,7 @@ use Rattle.std.specs.Prelude.{◌≡◌, ℕ, List}
 use Rattle.bson.specs.TextMeaning.{HasTextMeaning, IsTextFault}
 use Rattle.bson.specs.Value.{Pairs, Value, document}
 use Rattle.bson.specs.declared.extjson.text_error.TextError.TheVariants as text_errors
-use Rattle.bson_codec.specs.Writing.{IsRefusal}
+use Rattle.bson_codec.specs.WriteErrors.{IsWriteErrorFor}
 use Rattle.bson_codec.specs.declared.de.Error.TheVariants as errors
 use Rattle.bson_codec.specs.Unwritten.TheVariants as causes
 use Rattle.bson_pairs.specs.declared.bytes.NoBytes.{NoBytes}
@@ -25,7 +25,7 @@ TextIsNotDocument text = (v : Value) × HasTextMeaning text v × ((ps : Pairs) �
 abbrev pub GivesNoBytes : List ℕ → NoBytes → Type 0
 GivesNoBytes text (refusals.NoValue e) = IsTextFault text e
 GivesNoBytes text refusals.NoDocument = TextIsNotDocument text
-GivesNoBytes text (refusals.NoBytes e) = (ps : Pairs) × HasTextMeaning text (document ps) × IsRefusal e ps
+GivesNoBytes text (refusals.NoBytes e) = (ps : Pairs) × HasTextMeaning text (document ps) × IsWriteErrorFor e ps
 
 -- an allocation failed while a text was converted to bytes
 abbrev pub IsWantOfBytes : NoBytes → Type 0

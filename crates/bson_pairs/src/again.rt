@@ -7,7 +7,7 @@ ghost use Rattle.bson.specs.Options.{mongodb_options};
 ghost use Rattle.bson.specs.Texts.{IsTextInOrder};
 ghost use Rattle.bson.specs.Value.{Pairs, document};
 ghost use Rattle.bson_codec.specs.Canonical.{FitsDocument};
-ghost use Rattle.bson_codec.specs.Laws.{IsCanonical, IsRead};
+ghost use Rattle.bson_codec.specs.ReadDocuments.{IsCanonical, IsRead};
 ghost use Rattle.bson_pairs.specs.Again.{RoundTrips, IsWant, NestsAtMost};
 
 use bson::Bson;

@@ -3,7 +3,7 @@ use Rattle.std.proofs.Common.{◌≡◌, inr, ℕ, ◌+◌, List, [], ◌++◌, 
 use Rattle.std.proofs.Common.{refl, sym, ap, subst, ◌∙◌}
 use Rattle.std.proofs.lemmas.List.{append-nil}
 use Rattle.std.specs.Io.KnownBytes.{Appends, Keeps, append_known}
-use Rattle.bson_codec.specs.Documents.{EndsAt, IsOfBytes}
+use Rattle.bson_codec.specs.DumpRuns.{EndsAt, IsFaultOfDocument}
 use Rattle.bson_codec.specs.Diagnostics.{diagnostic_of}
 use Rattle.bson_codec.specs.declared.documents.Run.{Run}
 use Rattle.bson_codec.specs.declared.run_end.RunFault.{RunFault}
@@ -35,7 +35,7 @@ flushed had mid holds first last bytes e f h k =
 pub cut_dump : (run : Run) (before after had mid holds reported said reports : Option (List ℕ)) (first last : List ℕ)
     (fault : RunFault) (number left start documents refused : ℕ)
     → EndsAt run before after (append_known had first) mid reported said fault number left start → first ≡ [] → last ≡ []
-    → Keeps mid (append_known holds last) → run.keep_going ≡ true → IsOfBytes fault
+    → Keeps mid (append_known holds last) → run.keep_going ≡ true → IsFaultOfDocument fault
     → Appends said reports (diagnostic_of number start fault) → documents ≡ number → refused ≡ left + 1
     → IsDoneDump run before after had holds reported reports documents refused
 cut_dump run before after had mid holds reported said reports first last fault number left start documents refused h e f k going is reports_appended same counted =

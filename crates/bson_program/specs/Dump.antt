@@ -1,7 +1,7 @@
 -- A run over the documents of a file.
 use Rattle.std.specs.Prelude.{◌≡◌, ◌⊎◌, ◌+◌, ℕ, List, Option, true}
 use Rattle.std.specs.Io.KnownBytes.{Appends}
-use Rattle.bson_codec.specs.Documents.{DoneDocuments, EndsAt, IsOfBytes}
+use Rattle.bson_codec.specs.DumpRuns.{CompletedRun, EndsAt, IsFaultOfDocument}
 use Rattle.bson_codec.specs.Diagnostics.{diagnostic_of}
 use Rattle.bson_codec.specs.declared.documents.Run.{Run}
 use Rattle.bson_codec.specs.declared.run_end.RunFault.{RunFault}
@@ -15,7 +15,7 @@ pub record IsCutDump (run : Run) (before after had holds reported reports : Opti
   pub start : ℕ
   pub said : Option (List ℕ)
   pub keeps_going : run.keep_going ≡ true
-  pub of_bytes : IsOfBytes fault
+  pub of_bytes : IsFaultOfDocument fault
   pub ended : EndsAt run before after had holds reported said fault documents left start
   pub reports_appended : Appends said reports (diagnostic_of documents start fault)
   pub counted : refused ≡ left + 1
@@ -23,5 +23,5 @@ pub record IsCutDump (run : Run) (before after had holds reported reports : Opti
 -- all documents were done; or a run that keeps going ended at one
 abbrev pub IsDoneDump : Run → (before after had holds reported reports : Option (List ℕ)) → (documents refused : ℕ) → Type 0
 IsDoneDump run before after had holds reported reports documents refused =
-    DoneDocuments run before after had holds reported reports documents refused
+    CompletedRun run before after had holds reported reports documents refused
     ⊎ IsCutDump run before after had holds reported reports documents refused

@@ -2,7 +2,7 @@
 ghost use Rattle.std.specs.Prelude.{◌≡◌, ◌+◌, ◌↔◌, [], false, IfErr, IfOk, IsTrue};
 ghost use Rattle.std.specs.Io.Buffered.{writer_buffer, writer_inner};
 ghost use Rattle.std.specs.Io.KnownBytes.{Appends};
-ghost use Rattle.bson_codec.specs.Documents.{EndsAt, IsOfBytes};
+ghost use Rattle.bson_codec.specs.DumpRuns.{EndsAt, IsFaultOfDocument};
 ghost use Rattle.bson_codec.specs.Diagnostics.{diagnostic_of};
 ghost use Rattle.bson_program.specs.Dump.{IsDoneDump};
 ghost use Rattle.bson_program.specs.Stops.{document_line};
@@ -118,7 +118,7 @@ fn run_whole<R: Read, W: Write + Drop, T: Write>(
     ensures done { IfOk result (λ counts. IsDoneDump run (R.remaining reader.old) (R.remaining reader.new)
         (W.contents (writer_inner writer.old)) (W.contents (writer_inner writer.new))
         (T.contents report.old) (T.contents report.new) counts.documents counts.refused) }
-    ensures ended { IfErr result (λ end. IsOfBytes end.fault → (run.keep_going ≡ false)
+    ensures ended { IfErr result (λ end. IsFaultOfDocument end.fault → (run.keep_going ≡ false)
         × EndsAt run (R.remaining reader.old) (R.remaining reader.new)
         (W.contents (writer_inner writer.old)) (W.contents (writer_inner writer.new))
         (T.contents report.old) (T.contents report.new) end.fault end.number end.refused end.start) }
@@ -140,10 +140,10 @@ fn report_end<T: Write>(
     end: RunEnd,
     report: &mut T,
 ) -> Result<DocumentCounts, RunEnd>
-    ensures reports_appended { IfOk result (λ counts. IsOfBytes end.fault
+    ensures reports_appended { IfOk result (λ counts. IsFaultOfDocument end.fault
         × Appends (T.contents report.old) (T.contents report.new) (diagnostic_of end.number end.start end.fault)
         × (counts.documents ≡ end.number) × (counts.refused ≡ end.refused + 1)) }
-    ensures fails { IfErr result (λ it. IsOfBytes it.fault → ⊥) }
+    ensures fails { IfErr result (λ it. IsFaultOfDocument it.fault → ⊥) }
 {
     match end.fault {
         RunFault::Malformed { .. } | RunFault::FiniteDouble => {}

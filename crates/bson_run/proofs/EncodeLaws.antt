@@ -14,7 +14,7 @@ use Rattle.bson_model.specs.Means.{MeansIn}
 use Rattle.bson_model.specs.Value.{Value, Pairs, document}
 use Rattle.bson_model.specs.OrderedTrees.{read_in_order}
 use Rattle.bson_model.specs.OrderedMeans.{MeansInOrder}
-use Rattle.bson_codec.specs.Packed.{IsPackedText}
+use Rattle.bson_codec.specs.PackedText.{IsPackedText}
 use Rattle.bson_convert.specs.Convert.{IsRefusedIn}
 use Rattle.bson_run.specs.Encode.{Encodes, FailsAlone, FailsFor, IsBytesOf, IsUnencodedBy, IsUnencodedFor}
 use Rattle.bson_run.specs.LinesSteps.{Options, Error, CannotRead, NotJson, NotExtendedJson, NoBytes, OutOfMemory}

@@ -11,9 +11,9 @@ use Rattle.serde_json.specs.Data.{Data, null, boolean, number, string, array, ob
 use Rattle.serde_json.specs.Data.{no_members, put}
 use Rattle.serde_json.specs.Read.{max_depth, of_json, of_items, of_members, read}
 use Rattle.bson.specs.TextMeaning.{IsTextOf}
-use Rattle.bson_tokens.specs.Normalized.{normalized, HasNumbers, ItemsHaveNumbers, MembersHaveNumbers, IsNormalizedText}
-use Rattle.bson_tokens.specs.Double.{DuplicateAt, json_of}
-use Rattle.bson_tokens.specs.declared.arrangement.Arrangement.TheVariants.{FirstPlaces}
+use Rattle.bson_tokens.specs.Normalized.{normalized, HasNumbersInRange, ItemsHaveNumbersInRange, MembersHaveNumbersInRange, IsNormalizedText}
+use Rattle.bson_tokens.specs.DuplicateKeys.{DuplicateAt, json_of}
+use Rattle.bson_tokens.specs.declared.arrangement.Arrangement.TheVariants.{FirstPositions}
 use Rattle.bson_v1.specs.Upgraded.{upgraded}
 use Rattle.bson_v1.specs.Text.{IsUpgradedText}
 use Rattle.bson_tree.specs.Place.{PathSegment, path_of}
@@ -26,7 +26,7 @@ use Rattle.bson_run.specs.declared.order.Preprocessing.TheVariants.{Distinct, Le
 -- ---- a JSON text each of whose numbers is in range is read
 
 mutual
-  tree_read : (j : json.Json) → HasNumbers j → (d : Data) × (of_json j ≡ Some d)
+  tree_read : (j : json.Json) → HasNumbersInRange j → (d : Data) × (of_json j ≡ Some d)
   tree_read json.null h = (null, refl)
   tree_read (json.boolean b) h = (boolean b, refl)
   tree_read (json.number s) h = (number h.0, ap (option_map number) h.1)
@@ -38,7 +38,7 @@ mutual
       let ds = members_read ms no_members h in
       (object ds.0, ap (option_map object) ds.1)
 
-  items_read : (js : json.Items) → ItemsHaveNumbers js → (ds : Items) × (of_items js ≡ Some ds)
+  items_read : (js : json.Items) → ItemsHaveNumbersInRange js → (ds : Items) × (of_items js ≡ Some ds)
   items_read json.no_items h = (no_items, refl)
   items_read (json.item j js) h =
       let d = tree_read j h.0 in
@@ -47,7 +47,7 @@ mutual
         ap (option_and_then (λ x. option_map (item x) (of_items js))) d.1 ∙ ap (option_map (item d.0)) ds.1,
       )
 
-  members_read : (ms : json.Members) (found : Members) → MembersHaveNumbers ms
+  members_read : (ms : json.Members) (found : Members) → MembersHaveNumbersInRange ms
       → (ds : Members) × (of_members ms found ≡ Some ds)
   members_read json.no_members found h = (found, refl)
   members_read (json.member k j ms) found h =
@@ -55,7 +55,7 @@ mutual
       let ds = members_read ms (put k d.0 found) h.1 in
       (ds.0, ap (option_and_then (λ x. of_members ms (put k x found))) d.1 ∙ ds.1)
 
-pub is_read : (text written : List ℕ) → IsNormalizedText FirstPlaces text written → (d : Data) × (read text ≡ Some d)
+pub is_read : (text written : List ℕ) → IsNormalizedText FirstPositions text written → (d : Data) × (read text ≡ Some d)
 is_read text written is =
     let d = tree_read is.tree is.numbers in
     (d.0, ap (option_and_then of_json) is.is_tree ∙ d.1)
@@ -67,7 +67,7 @@ one_upgraded text a b x y =
     let i : json_of text ≡ Some x.is_resolved.tree = x.is_resolved.is_tree in
     let j : json_of text ≡ Some y.is_resolved.tree = y.is_resolved.is_tree in
     let trees : x.is_resolved.tree ≡ y.is_resolved.tree = cc in
-    x.compact ∙ (ap (λ t. print (json_tokens (upgraded (normalized FirstPlaces t)))) trees ∙ sym y.compact)
+    x.compact ∙ (ap (λ t. print (json_tokens (upgraded (normalized FirstPositions t)))) trees ∙ sym y.compact)
 
 not_json : (text a : List ℕ) → IsUtf8 text → IsUpgradedText text a → IsNoJson text → ⊥
 not_json text a utf8 x none =

@@ -6,7 +6,7 @@ use Rattle.serde_json.specs.Read.{read}
 use Rattle.bson.specs.TextMeaning.{HasTextMeaningBy, IsNoText, IsTextOf}
 use Rattle.bson.specs.declared.extjson.options.Options.{Options}
 use Rattle.bson_codec.specs.Canonical.{Cause, DocumentFails, FitsDocument}
-use Rattle.bson_tokens.specs.Double.{DuplicateAt}
+use Rattle.bson_tokens.specs.DuplicateKeys.{DuplicateAt}
 use Rattle.bson_model.specs.Value.{Pairs}
 use Rattle.bson_tree.specs.Place.{PathSegment, path_of}
 use Rattle.bson_tree.specs.declared.place.Place.{Place}

@@ -17,7 +17,7 @@ use Rattle.bson.specs.Texts.{IsTextInOrder}
 use Rattle.bson.specs.declared.extjson.options.Options.{Options}
 use Rattle.bson_tokens.proofs.Offered.{meant_in_order}
 use Rattle.bson_tokens.specs.Normalized.{IsNormalizedText}
-use Rattle.bson_tokens.specs.declared.arrangement.Arrangement.TheVariants.{FirstPlaces}
+use Rattle.bson_tokens.specs.declared.arrangement.Arrangement.TheVariants.{FirstPositions}
 use Rattle.bson_text.specs.Filtered.{IsFilteredText}
 use Rattle.bson_convert.specs.Convert.{newline}
 use Rattle.bson_run.specs.InOrder.{ConvertsInOrder, IsConvertedTextInOrder, IsOutputInOrder, IsTextInOrderFor}
@@ -71,7 +71,7 @@ module _ (o : Options) where
 
   -- the output of the normalized text is that of the text
   pub outputs_alike : (mode : Mode) (text normalized output : List ℕ) → IsUtf8 text
-      → IsNormalizedText FirstPlaces text normalized → ConvertsInOrder o mode normalized output
+      → IsNormalizedText FirstPositions text normalized → ConvertsInOrder o mode normalized output
       → ConvertsInOrder o mode text output
   outputs_alike mode text normalized output utf8 is x = record {
     value = x.value;
@@ -82,7 +82,7 @@ module _ (o : Options) where
 
   -- the text of the normalized text is that of the text
   pub converted_alike : (mode : Mode) (text normalized written : List ℕ) → IsUtf8 text
-      → IsNormalizedText FirstPlaces text normalized → IsConvertedTextInOrder o mode normalized written
+      → IsNormalizedText FirstPositions text normalized → IsConvertedTextInOrder o mode normalized written
       → IsConvertedTextInOrder o mode text written
   converted_alike mode text normalized written utf8 is (v, valid, meaning, of) =
       (v, utf8, (meant_in_order o.doubles text normalized v is).0 meaning, of)

@@ -6,7 +6,7 @@ use Rattle.json.specs.Json.{Json}
 use Rattle.json.specs.Strict.{HasUniqueKeys}
 use Rattle.serde_json.specs.Data.{Data}
 use Rattle.serde_json.specs.Read.{read}
-use Rattle.bson_tokens.specs.Double.{json_of, HasDuplicateKey}
+use Rattle.bson_tokens.specs.DuplicateKeys.{json_of, HasDuplicateKey}
 use Rattle.bson_v1.specs.Text.{IsUpgradedText}
 use Rattle.bson_tree.specs.Place.{path_of}
 use Rattle.bson_tree.specs.declared.place.Place.{Place}

@@ -114,7 +114,7 @@ fn accept_in_order(
         Some(written) => Ok(Accepted::Output(end_line(written)?)),
         None => {
             refuse(alloc, options, text)?;
-            let normalized = normalize(alloc, Arrangement::FirstPlaces, text)?;
+            let normalized = normalize(alloc, Arrangement::FirstPositions, text)?;
             Ok(Accepted::Normalized(mode, normalized))
         }
     }

@@ -177,7 +177,7 @@ fn normalized_text(
     ensures utf8 { IfOk result (λ written. IsUtf8 written.items) }
     ensures fault { IfErr result (λ fault. IsRefusedIn options fault text.now) }
 {
-    let normalized = normalize(alloc, Arrangement::FirstPlaces, text)?;
+    let normalized = normalize(alloc, Arrangement::FirstPositions, text)?;
     text_of_distinct(alloc, options, mode, normalized.as_str())
 }
 

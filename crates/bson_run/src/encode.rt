@@ -4,7 +4,7 @@ ghost use Rattle.bson_model.specs.Value.{Pairs, document};
 ghost use Rattle.bson.specs.View.{bson_view};
 ghost use Rattle.bson.specs.TextMeaning.{MeansBy};
 ghost use Rattle.bson_codec.specs.Canonical.{FitsDocument};
-ghost use Rattle.bson_codec.specs.Writing.{IsRefusal};
+ghost use Rattle.bson_codec.specs.WriteErrors.{IsWriteErrorFor};
 ghost use Rattle.bson_codec.specs.Unwritten.TheVariants as errors;
 ghost use Rattle.bson_run.specs.Encode.{Encodes, FailsAlone, IsBytesOf, IsUnencodedBy, IsUnencodedFor};
 
@@ -126,7 +126,7 @@ fn bytes_of(alloc: Global, value: Bson) -> Result<Vec<u8>, Error>
 
 // The fault of a document that has no bytes.
 fn write_fault(error: ser::Error) -> Error
-    ensures cause { (ps : Pairs) → IsRefusal error ps → FailsAlone result ps }
+    ensures cause { (ps : Pairs) → IsWriteErrorFor error ps → FailsAlone result ps }
     ensures memory { error ≡ errors.OutOfMemory → result ≡ Error.OutOfMemory }
     ensures only { result ≡ Error.OutOfMemory → error ≡ errors.OutOfMemory }
 {

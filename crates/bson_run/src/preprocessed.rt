@@ -5,7 +5,7 @@ ghost use Rattle.bson_run.specs.declared.order.Preprocessing.TheVariants.{Distin
 
 use crate::order::Preprocessing;
 use bson_convert::error::Error;
-use bson_tokens::walk::first_duplicate_key;
+use bson_tokens::find_duplicate::first_duplicate_key;
 use bson_tree::place::{Place, Reason};
 use bson_v1::upgraded::upgraded_text;
 use std::alloc::Global;

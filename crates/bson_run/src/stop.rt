@@ -135,7 +135,7 @@ fn has_tree(alloc: Global, text: &str) -> Result<bool, AllocError>
     ensures yes { IfOk result (λ has. IsTrue has → HasTree text.now) }
     ensures no { IfOk result (λ has. has ≡ false → IsNoText text.now) }
 {
-    match normalize_text(alloc, Arrangement::FirstPlaces, text) {
+    match normalize_text(alloc, Arrangement::FirstPositions, text) {
         Ok(_) => Ok(true),
         Err(json::Error::Invalid) => Ok(false),
         Err(_) => Err(AllocError),

@@ -8,7 +8,7 @@ use Rattle.json.specs.Token.{Token}
 use Rattle.bson_scalar.specs.Normal.{writable_scalar_in}
 use Rattle.bson_scalar.specs.Scalar.{Scalar, code}
 use Rattle.bson_scalar.specs.declared.form.Doubles.{Doubles}
-use Rattle.bson_tokens.specs.PutSpans.{KeysAscendAfter}
+use Rattle.bson_tokens.specs.PutMembers.{KeysAscendFrom}
 use Rattle.bson_tree.specs.declared.place.Place.{Place}
 use Rattle.bson_text.specs.Exact.{EndDenied, EndsSome}
 use Rattle.bson_text.specs.Placed.{At}
@@ -45,7 +45,7 @@ quiet_code Leaves s t e P same = quiet_at Leaves (code s) e P
 
 pub quiet_end : (Leaves : Doubles → Type 0) (Sorts : Type 0) (ks : List (List ℕ)) (e : Stop) (P : Place → Type 0)
     → MayStopAtEnd Leaves Sorts ks e → At e P
-quiet_end Leaves Sorts ks = silent (AreDistinct ks) ((Sorts → KeysAscendAfter None ks) → (D : Doubles) → Leaves D)
+quiet_end Leaves Sorts ks = silent (AreDistinct ks) ((Sorts → KeysAscendFrom None ks) → (D : Doubles) → Leaves D)
 
 -- of what it gives up this is so: the writer does not leave it, and nothing else gives it up
 by_writer : {U G : Type 0} (e : Stop) (P V M : Type 0) → (V → U) → (G → P → ⊥) → IsStopBy U G e → Denied e P V M → ⊥
@@ -80,7 +80,7 @@ gives_up {X} {o} Leaves e D P V M = lacks_by_writer {U = Unit {0}} {G = (E : Dou
     (λ y r. (Leaves D → ⊥) × P y r) V M (λ y r is once. tt) (λ y r is give d. d.0 (give D))
 
 pub ends_in : (Leaves : Doubles → Type 0) (Sorts : Type 0) (ks : List (List ℕ)) (e : Stop) (D : Doubles)
-    → MayStopAtEnd Leaves Sorts ks e → IsStopBy (AreDistinct ks) ((Sorts → KeysAscendAfter None ks) → Leaves D) e
+    → MayStopAtEnd Leaves Sorts ks e → IsStopBy (AreDistinct ks) ((Sorts → KeysAscendFrom None ks) → Leaves D) e
 ends_in Leaves Sorts ks e D = weaker_stop e (λ u. u) (λ give ascend. give ascend D)
 
 -- ---- seen from further out

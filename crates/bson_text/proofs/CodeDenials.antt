@@ -26,8 +26,8 @@ use Rattle.bson_model.specs.Value.{Pairs}
 use Rattle.bson_model.specs.OrderedTrees.{kept_items, kept_members, tree_sorted_by_key}
 use Rattle.bson_model.specs.OrderedReading.{reads_in_order, members_in_order, scope_in_order}
 use Rattle.bson_model.proofs.OfferedInOrder.{forgotten}
-use Rattle.bson_tokens.specs.Held.{IsHeldAs}
-use Rattle.bson_tokens.specs.Parts.{InvalidMeansNone}
+use Rattle.bson_tokens.specs.WrapperContent.{IsWrapperContent}
+use Rattle.bson_tokens.specs.ReadOutcomes.{InvalidIfNotRead}
 use Rattle.bson_tokens.proofs.Offered.{was_read as from_tree}
 use Rattle.bson_text.specs.Walked.{inside, from_key, ScopeMeans}
 use Rattle.bson_text.proofs.Objects.{begins}
@@ -62,7 +62,7 @@ module _ (D : Doubles) (L S : Type 0) where
   -- ---- wrappers
 
   pub held_broken : (err : Error) (depth : ℕ) (k : List ℕ) (ts : List Token)
-      → InvalidMeansNone (converted of_json (value depth ts)) err → ObjectDenied D L S (stop_of err) (from_key depth (Some k) ts)
+      → InvalidIfNotRead (converted of_json (value depth ts)) err → ObjectDenied D L S (stop_of err) (from_key depth (Some k) ts)
   held_broken json_error.OutOfMemory depth k ts broken ms r is d = d
   held_broken json_error.TooLong depth k ts broken ms r is d = d
   held_broken json_error.DuplicateKey depth k ts broken ms r is d = d
@@ -76,14 +76,14 @@ module _ (D : Doubles) (L S : Type 0) where
       let none : converted of_json (value depth ts) ≡ None = broken refl in cc
 
   pub no_second : (e : Stop) (depth : ℕ) (k : List ℕ) (ts r : List Token) (held : Data)
-      → IsHeldAs (converted of_json (value depth ts)) held r → read_key r ≡ None
+      → IsWrapperContent (converted of_json (value depth ts)) held r → read_key r ≡ None
       → ObjectDenied D L S e (from_key depth (Some k) ts)
   no_second e depth k ts r held read none =
       let j = held_is depth ts r held read in
       none_lacks (from_key depth (Some k) ts) _ (no_key_behind D (value depth) (length ts) k ts r j.0 j.1 none)
 
   alone_denied : (f : Fault) (depth : ℕ) (k : List ℕ) (w : Wrapper) (ts r s : List Token) (held : Data)
-      → wrapper_of k ≡ Some w → IsHeldAs (converted of_json (value depth ts)) held r → read_key r ≡ Some (None, s)
+      → wrapper_of k ≡ Some w → IsWrapperContent (converted of_json (value depth ts)) held r → read_key r ≡ Some (None, s)
       → wrapper_read_in D w held ≡ Err f → ObjectDenied D L S stop.Syntax (from_key depth (Some k) ts)
   alone_denied f depth k w ts r s held named read end wrong ms rest is d =
       let h = held_is depth ts r held read in
@@ -97,7 +97,7 @@ module _ (D : Doubles) (L S : Type 0) where
       h.4 D (Some w) ∙ subst (λ t. wrapper_read_in D w (tree_sorted_by_key t) ≡ Ok m.1) same m.3 in cc
 
   pub scalar_denied : (cause : ReadError) (depth : ℕ) (k : List ℕ) (w : Wrapper) (ts r s : List Token) (held : Data)
-      → wrapper_of k ≡ Some w → IsHeldAs (converted of_json (value depth ts)) held r → read_key r ≡ Some (None, s)
+      → wrapper_of k ≡ Some w → IsWrapperContent (converted of_json (value depth ts)) held r → read_key r ≡ Some (None, s)
       → IsReadError cause (wrapper_read_in D w held) → ObjectDenied D L S (read_stop cause) (from_key depth (Some k) ts)
   scalar_denied read_error.OutOfMemory depth k w ts r s held named read end wrong = λ ms rest is d. d
   scalar_denied (read_error.DeserializationError m) depth k w ts r s held named read end wrong =
@@ -123,7 +123,7 @@ module _ (D : Doubles) (L S : Type 0) where
       )
 
   pub strange_denied : (depth : ℕ) (k l : List ℕ) (w : Wrapper) (ts r q : List Token) (held : Data)
-      → wrapper_of k ≡ Some w → IsHeldAs (converted of_json (value depth ts)) held r → read_key r ≡ Some (Some l, q)
+      → wrapper_of k ≡ Some w → IsWrapperContent (converted of_json (value depth ts)) held r → read_key r ≡ Some (Some l, q)
       → (bytes_eq k (codes "$code") && bytes_eq l (codes "$scope")) ≡ false
       → ObjectDenied D L S stop.Syntax (from_key depth (Some k) ts)
   strange_denied depth k l w ts r q held named read key are ms rest is d =
@@ -134,7 +134,7 @@ module _ (D : Doubles) (L S : Type 0) where
       let yes : (bytes_eq k (codes "$code") && bytes_eq l (codes "$scope")) ≡ true = rw (c.first, c.second) refl in cc
 
   pub textless_denied : (depth : ℕ) (k l : List ℕ) (w : Wrapper) (ts r q : List Token) (held : Data)
-      → wrapper_of k ≡ Some w → IsHeldAs (converted of_json (value depth ts)) held r → read_key r ≡ Some (Some l, q)
+      → wrapper_of k ≡ Some w → IsWrapperContent (converted of_json (value depth ts)) held r → read_key r ≡ Some (Some l, q)
       → as_str held ≡ None → ObjectDenied D L S stop.Syntax (from_key depth (Some k) ts)
   textless_denied depth k l w ts r q held named read key none ms rest is d =
       let h = held_is depth ts r held read in
@@ -145,7 +145,7 @@ module _ (D : Doubles) (L S : Type 0) where
       let text : as_str held ≡ Some c.text = h.5 ∙ subst (λ t. as_str (tree_sorted_by_key t) ≡ Some c.text) same c.code_text in cc
 
   pub code_denied : (e : Stop) (depth : ℕ) (k l : List ℕ) (w : Wrapper) (ts r q : List Token) (held : Data)
-      → wrapper_of k ≡ Some w → IsHeldAs (converted of_json (value depth ts)) held r → read_key r ≡ Some (Some l, q)
+      → wrapper_of k ≡ Some w → IsWrapperContent (converted of_json (value depth ts)) held r → read_key r ≡ Some (Some l, q)
       → CodeDenied D L S e false (value depth q) → ObjectDenied D L S e (from_key depth (Some k) ts)
   code_denied e depth k l w ts r q held named read key nothing ms rest is d =
       let h = held_is depth ts r held read in

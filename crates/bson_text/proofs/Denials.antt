@@ -27,7 +27,7 @@ use Rattle.bson_text.specs.Walked.{keys_of}
 use Rattle.bson_text.proofs.Becoming.{lacks_by_writer}
 use Rattle.bson_text.proofs.Objects.{step_more, Key, texts, append_none}
 use Rattle.bson_text.proofs.Walking.{ToGo}
-use Rattle.bson_tokens.specs.PutSpans.{KeysAscendAfter}
+use Rattle.bson_tokens.specs.PutMembers.{KeysAscendFrom}
 use Rattle.bson_text.specs.Stops.{Denied, Lacks, IsStopBy}
 use Rattle.bson_text.specs.Exact.{as_they_stand, IsMeaningful, ItemsMeanSome, MembersMeanSome}
 use Rattle.bson_text.specs.Exact.{ValueClaim, ItemsClaim, MembersClaim}
@@ -99,7 +99,7 @@ mapped f (Some a) b h = (a, refl, sym (same_Some (f a) b h))
 pub later_apart : (k : List ℕ) (ks : List (List ℕ)) → AreDistinct (k ∷ ks) → AreDistinct ks
 later_apart k ks h = λ i j d less within e. h (suc i) (suc j) d (omega (arith, less)) (omega (arith, within)) e
 
-pub later_ascend : (k : List ℕ) (ks : List (List ℕ)) → KeysAscendAfter None (k ∷ ks) → KeysAscendAfter None ks
+pub later_ascend : (k : List ℕ) (ks : List (List ℕ)) → KeysAscendFrom None (k ∷ ks) → KeysAscendFrom None ks
 later_ascend k [] h = tt
 later_ascend k (l ∷ ks) h = (tt, h.1.1)
 
@@ -268,9 +268,9 @@ module _ (D : Doubles) (L S : Type 0) where
 
   pub ended_stopped : (e : Stop) (b : Bool) (whole : Option (json.Members × List Token)) (all : json.Members)
       (s : List Token) (ks : List (List ℕ)) → whole ≡ Some (all, s) → keys all ≡ ks
-      → IsStopBy (AreDistinct ks) ((S → KeysAscendAfter None ks) → L) e → MembersDenied D L S e b whole
+      → IsStopBy (AreDistinct ks) ((S → KeysAscendFrom None ks) → L) e → MembersDenied D L S e b whole
   ended_stopped e b whole all s ks read are =
       let same : (ms : json.Members) (r : List Token) → whole ≡ Some (ms, r) → keys ms ≡ ks = λ ms r is.
       ap (λ p. keys p.0) (sym (same_Some {A = json.Members × List Token} (all, s) (ms, r) (sym read ∙ is))) ∙ are in
       lacks_by_writer e whole _ _ _ (λ ms r is once. subst AreDistinct (same ms r is) once.0)
-      (λ ms r is give d. d.0 (give (λ sorts. subst (KeysAscendAfter None) (same ms r is) (d.1.0 sorts))))
+      (λ ms r is give d. d.0 (give (λ sorts. subst (KeysAscendFrom None) (same ms r is) (d.1.0 sorts))))

@@ -1,4 +1,4 @@
--- The first fault from where it was found to the whole, where keys ascend.
+-- The first fault from where it was fault_in_tree to the whole, where keys ascend.
 use Rattle.std.proofs.Common.{◌≡◌, ℕ, zero, suc, ◌+◌, ◌-◌, ◌<◌, List, Option, Some, None}
 use Rattle.std.proofs.Common.{Ok, Err, Bool, true, false, option_map, option_and_then, refl, sym, ap, ◌∙◌, subst}
 use Rattle.std.proofs.Common.{codes, ◌&&◌, ◌||◌, bytes_eq, is_some, cond}
@@ -27,7 +27,7 @@ use Rattle.bson_model.proofs.OfferedInOrder.{forgotten, forgets, means_from, joi
 use Rattle.bson_tree.specs.Place.{PathSegment, key, element, IsReason, FaultAtIn, HasValueIn}
 use Rattle.bson_tree.specs.declared.place.Place.{Place}
 use Rattle.bson_tree.proofs.Offered.{fault_to}
-use Rattle.bson_tokens.specs.FirstFault.{Verdict, found, found_items, found_members, found_wrapper, or, within, here}
+use Rattle.bson_tokens.specs.FirstFault.{FaultAndPath, fault_in_tree, first_item_fault, first_member_fault, wrapper_fault, or, add_segment, wrong_shape_here}
 use Rattle.bson_tokens.proofs.Offered.{Is, is_found}
 use Rattle.bson_text.proofs.Objects.{step_more}
 use Rattle.bson_text.proofs.Denials.{mapped_parse, then_parsed, split_kept, mapped}
@@ -40,15 +40,15 @@ use Rattle.bson_text.proofs.Passing.{at_map}
 -- ---- places
 
 -- seen from one segment further out
-pub placed_within : (v w : Verdict) (s : PathSegment) (x : Verdict) (p q : Place) → IsOf v p → IsPlaceWithin s p q
-    → w ≡ or (within s v) x → IsOf w q
+pub placed_within : (v w : FaultAndPath) (s : PathSegment) (x : FaultAndPath) (p q : Place) → IsOf v p → IsPlaceWithin s p q
+    → w ≡ or (add_segment s v) x → IsOf w q
 placed_within v w s x p q is (path, reason) e = record {
   fault = is.fault;
-  path = e ∙ ap (λ y. or (within s y) x) is.path ∙ ap (λ y. Some (is.fault, y)) (sym path);
+  path = e ∙ ap (λ y. or (add_segment s y) x) is.path ∙ ap (λ y. Some (is.fault, y)) (sym path);
   reason = subst (IsReason is.fault) (sym reason) is.reason;
 }
 
-pub placed_here : (w : Verdict) (q : Place) → IsShapeFault q → w ≡ here → IsOf w q
+pub placed_here : (w : FaultAndPath) (q : Place) → IsShapeFault q → w ≡ wrong_shape_here → IsOf w q
 placed_here w q (path, reason) e = record {
   fault = wrong_shape;
   path = e ∙ ap (λ y. Some (wrong_shape, y)) (sym path);
@@ -58,17 +58,17 @@ placed_here w q (path, reason) e = record {
 -- ---- what is sound has no fault
 
 module _ (D : Doubles) where
-  none_at : (t : Data) (v : Value) (w : Verdict) → reads_in D t ≡ Ok v → found D t ≡ w
-      → Is (HasValueIn D t) (λ f path. FaultAtIn D f t path) w → found D t ≡ None
+  none_at : (t : Data) (v : Value) (w : FaultAndPath) → reads_in D t ≡ Ok v → fault_in_tree D t ≡ w
+      → Is (HasValueIn D t) (λ f path. FaultAtIn D f t path) w → fault_in_tree D t ≡ None
   none_at t v None reads is h = is
   none_at t v (Some f) reads is h = let bad = fault_to D h in let never : Ok v ≡ Err f.0 = sym reads ∙ bad in cc
 
   pub sound : (j : json.Json) (t0 t : Data) (v : Value) → kept j ≡ Some t0 → reads_in_order D t0 ≡ Ok v
-      → of_json j ≡ Some t → found D t ≡ None
+      → of_json j ≡ Some t → fault_in_tree D t ≡ None
   sound j t0 t v is reads of =
       let same : tree_sorted_by_key t0 ≡ t = same_Some (tree_sorted_by_key t0) t (sym (forgotten j ∙ ap (option_map tree_sorted_by_key) is) ∙ of) in
       let m = means_to_in D (forgets D (means_from D t0 v reads)) in
-      subst (λ x. found D x ≡ None) same (none_at (tree_sorted_by_key t0) _ (found D (tree_sorted_by_key t0)) m refl (is_found D (tree_sorted_by_key t0)))
+      subst (λ x. fault_in_tree D x ≡ None) same (none_at (tree_sorted_by_key t0) _ (fault_in_tree D (tree_sorted_by_key t0)) m refl (is_found D (tree_sorted_by_key t0)))
 
 -- ---- arrays
 
@@ -86,10 +86,10 @@ items_step_at p n ts going = ap (items_step p (items p n) ts) going
 
 module _ (D : Doubles) where
   abbrev pub ItemsFrom : Option (json.Items × List Token) → Option (json.Items × List Token) → ℕ → Type 0
-  ItemsFrom whole here n = (js : json.Items) (r : List Token) (ts : Items) → whole ≡ Some (js, r) → ItemsRise js
+  ItemsFrom whole wrong_shape_here n = (js : json.Items) (r : List Token) (ts : Items) → whole ≡ Some (js, r) → ItemsRise js
       → of_items js ≡ Some ts
-      → (ks : json.Items) × (us : Items) × (here ≡ Some (ks, r)) × ItemsRise ks × (of_items ks ≡ Some us)
-      × (found_items D 0 ts ≡ found_items D n us)
+      → (ks : json.Items) × (us : Items) × (wrong_shape_here ≡ Some (ks, r)) × ItemsRise ks × (of_items ks ≡ Some us)
+      × (first_item_fault D 0 ts ≡ first_item_fault D n us)
 
   pub items_from : (whole : Option (json.Items × List Token)) → ItemsFrom whole whole 0
   items_from whole js r ts is rise of = (js, ts, is, rise, of, refl)
@@ -109,8 +109,8 @@ module _ (D : Doubles) where
         more.1,
         rises.1,
         a.3,
-        g.5 ∙ ap (found_items D place) a.4
-            ∙ ap (λ x. or (within (element place) x) (found_items D (place + 1) a.1)) none,
+        g.5 ∙ ap (first_item_fault D place) a.4
+            ∙ ap (λ x. or (add_segment (element place) x) (first_item_fault D (place + 1) a.1)) none,
       )
 
   pub items_placed : (e f : Stop) (whole : Option (json.Items × List Token)) (depth n place : ℕ) (ts mid rest : List Token)
@@ -127,12 +127,12 @@ module _ (D : Doubles) where
       let b = then_parsed json.item (items P n) (P ts) g.0 r mark in
       let rises = subst ItemsRise b.5 g.3 in
       let a = split_kept item (of_json b.0) (of_items b.2) g.1 (subst (λ x. of_items x ≡ Some g.1) b.5 g.4) in
-      let here = subst (λ x. ValuePlaced D x (P ts) mid) is at in
-      let h = here b.0 b.1 a.0 b.3 rises.0 a.2 in
+      let wrong_shape_here = subst (λ x. ValuePlaced D x (P ts) mid) is at in
+      let h = wrong_shape_here b.0 b.1 a.0 b.3 rises.0 a.2 in
       let gone = passed n b.2 r (subst (λ x. items P n x ≡ Some (b.2, r)) (sym h.0) b.4) in (
         gone,
-        placed_within (found D a.0) (found_items D 0 ds) (element place) (found_items D (place + 1) a.1) p.value q h.1 further
-            (g.5 ∙ ap (found_items D place) a.4),
+        placed_within (fault_in_tree D a.0) (first_item_fault D 0 ds) (element place) (first_item_fault D (place + 1) a.1) p.value q h.1 further
+            (g.5 ∙ ap (first_item_fault D place) a.4),
       )) out
 
   pub array_placed : (e : Stop) (o : Option (json.Items × List Token)) (rest : List Token) → ItemsPlaced D e o rest
@@ -141,31 +141,31 @@ module _ (D : Doubles) where
       let g = mapped_parse json.array o j r is in
       let a = mapped tree.array (of_items g.0) t (subst (λ x. of_json x ≡ Some t) g.2 of) in
       let h = at g.0 r a.0 g.1 (subst Rises g.2 rise) a.1 in
-      (h.0, subst (λ x. IsOf (found D x) q) (sym a.2) h.1))
+      (h.0, subst (λ x. IsOf (fault_in_tree D x) q) (sym a.2) h.1))
 
 -- ---- trees of members whose keys ascend
 
-below_key : (l : List ℕ) (found : Members) (k : List ℕ) (d : Data) (ms : Members)
-    → IsBelow l (joined found (member k d ms)) → slice_cmp nat_cmp l k ≡ Less
+below_key : (l : List ℕ) (fault_in_tree : Members) (k : List ℕ) (d : Data) (ms : Members)
+    → IsBelow l (joined fault_in_tree (member k d ms)) → slice_cmp nat_cmp l k ≡ Less
 below_key l no_members k d ms h = h.0
-below_key l (member a e found) k d ms h = below_key l found k d ms h.1
+below_key l (member a e fault_in_tree) k d ms h = below_key l fault_in_tree k d ms h.1
 
-put_later : (found : Members) (k : List ℕ) (d : Data) (ms : Members) → Ascends (joined found (member k d ms))
-    → put k d found ≡ joined found (member k d no_members)
+put_later : (fault_in_tree : Members) (k : List ℕ) (d : Data) (ms : Members) → Ascends (joined fault_in_tree (member k d ms))
+    → put k d fault_in_tree ≡ joined fault_in_tree (member k d no_members)
 put_later no_members k d ms h = refl
-put_later (member l e found) k d ms h =
-    rw (flipped l k Less (below_key l found k d ms h.0)) (ap (member l e) (put_later found k d ms h.1))
+put_later (member l e fault_in_tree) k d ms h =
+    rw (flipped l k Less (below_key l fault_in_tree k d ms h.0)) (ap (member l e) (put_later fault_in_tree k d ms h.1))
 
 abbrev put_all : Members → Members → Members
-put_all no_members found = found
-put_all (member k d ms) found = put_all ms (put k d found)
+put_all no_members fault_in_tree = fault_in_tree
+put_all (member k d ms) fault_in_tree = put_all ms (put k d fault_in_tree)
 
-put_in_order : (ms found : Members) → Ascends (joined found ms) → put_all ms found ≡ joined found ms
-put_in_order no_members found h = sym (joined_none found)
-put_in_order (member k d ms) found h =
-    let again = joined_again found k d ms in
-    ap (put_all ms) (put_later found k d ms h)
-    ∙ put_in_order ms (joined found (member k d no_members)) (subst Ascends (sym again) h) ∙ again
+put_in_order : (ms fault_in_tree : Members) → Ascends (joined fault_in_tree ms) → put_all ms fault_in_tree ≡ joined fault_in_tree ms
+put_in_order no_members fault_in_tree h = sym (joined_none fault_in_tree)
+put_in_order (member k d ms) fault_in_tree h =
+    let again = joined_again fault_in_tree k d ms in
+    ap (put_all ms) (put_later fault_in_tree k d ms h)
+    ∙ put_in_order ms (joined fault_in_tree (member k d no_members)) (subst Ascends (sym again) h) ∙ again
 
 and_some : {A B : Type 0} (f : A → Option B) (x : Option A) (b : B) → option_and_then f x ≡ Some b
     → (a : A) × (x ≡ Some a) × (f a ≡ Some b)
@@ -176,12 +176,12 @@ join_trees : {A B C : Type 0} (f : A → B → C) (x : Option A) (y : Option B) 
     → option_and_then (λ c. option_map (f c) y) x ≡ Some (f a b)
 join_trees f x y a b h g = rw (h, g) refl
 
-trees_stand : (js : json.Members) (found all : Members) → of_members js found ≡ Some all
-    → (ms : Members) × (trees_of js ≡ Some ms) × (all ≡ put_all ms found)
-trees_stand json.no_members found all is = (no_members, refl, sym (same_Some found all is))
-trees_stand (json.member k j js) found all is =
-    let a = and_some (λ d. of_members js (put k d found)) (of_json j) all is in
-    let g = trees_stand js (put k a.0 found) all a.2 in
+trees_stand : (js : json.Members) (fault_in_tree all : Members) → of_members js fault_in_tree ≡ Some all
+    → (ms : Members) × (trees_of js ≡ Some ms) × (all ≡ put_all ms fault_in_tree)
+trees_stand json.no_members fault_in_tree all is = (no_members, refl, sym (same_Some fault_in_tree all is))
+trees_stand (json.member k j js) fault_in_tree all is =
+    let a = and_some (λ d. of_members js (put k d fault_in_tree)) (of_json j) all is in
+    let g = trees_stand js (put k a.0 fault_in_tree) all a.2 in
     (member k a.0 g.0, join_trees (member k) (of_json j) (trees_of js) a.0 g.0 a.1 g.1, g.2)
 
 under_trees : (k : List ℕ) (js : json.Members) (ts : Members) → trees_of js ≡ Some ts → IsUnder k js → IsBelow k ts
@@ -221,13 +221,13 @@ no_code k plain = not_true (bytes_eq k (codes "$code")) (λ yes.
     subst (λ x. wrapper_of x ≡ None) ((bytes_eq-Decides k (codes "$code")).0 yes) plain in cc)
 
 module _ (D : Doubles) where
-  cond_false : (b c : Bool) (v : Verdict) → b ≡ false → cond (b && c) v here ≡ here
+  cond_false : (b c : Bool) (v : FaultAndPath) → b ≡ false → cond (b && c) v wrong_shape_here ≡ wrong_shape_here
   cond_false true c v is = cc
   cond_false false c v is = refl
 
   -- a wrapper's key behind one that is none
   shape_found : (k : List ℕ) (d : Data) (ts : Members) → wrapper_of k ≡ None → has_wrapper (member k d ts) ≡ true
-      → found_wrapper D (member k d ts) ≡ here
+      → wrapper_fault D (member k d ts) ≡ wrong_shape_here
   shape_found k d no_members plain has =
       let never : (is_some (wrapper_of k) || false) ≡ false = ap (λ o. is_some o || false) plain in cc
   shape_found k d (member l e no_members) plain has =
@@ -235,24 +235,24 @@ module _ (D : Doubles) where
   shape_found k d (member l e (member m f ts)) plain has = refl
 
   pub wrapped : (js : json.Members) (ts : Members) → trees_of js ≡ Some ts → FirstPlain js → has_wrapper ts ≡ true
-      → found D (object ts) ≡ here
+      → fault_in_tree D (object ts) ≡ wrong_shape_here
   wrapped json.no_members ts is plain has =
       let none : has_wrapper ts ≡ false = ap has_wrapper (sym (same_Some no_members ts is)) in cc
   wrapped (json.member k j js) ts is plain has =
       let a = split_kept (member k) (of_json j) (trees_of js) ts is in
       let h = subst (λ x. has_wrapper x ≡ true) a.4 has in
-      subst (λ x. found D (object x) ≡ here) (sym a.4)
-      (subst (λ b. cond b (found_wrapper D (member k a.0 a.1)) (found_members D (member k a.0 a.1)) ≡ here) (sym h)
+      subst (λ x. fault_in_tree D (object x) ≡ wrong_shape_here) (sym a.4)
+      (subst (λ b. cond b (wrapper_fault D (member k a.0 a.1)) (first_member_fault D (member k a.0 a.1)) ≡ wrong_shape_here) (sym h)
       (shape_found k a.0 a.1 plain h))
 
-  free : (ts : Members) → has_wrapper ts ≡ false → found D (object ts) ≡ found_members D ts
-  free ts h = ap (λ b. cond b (found_wrapper D ts) (found_members D ts)) h
+  free : (ts : Members) → has_wrapper ts ≡ false → fault_in_tree D (object ts) ≡ first_member_fault D ts
+  free ts h = ap (λ b. cond b (wrapper_fault D ts) (first_member_fault D ts)) h
 
   abbrev pub MembersFrom : Bool → Option (json.Members × List Token) → Option (json.Members × List Token) → Type 0
   MembersFrom b whole now = (ms : json.Members) (r : List Token) (ts : Members) → whole ≡ Some (ms, r) → MembersRise ms
       → trees_of ms ≡ Some ts
       → (ns : json.Members) × (us : Members) × (now ≡ Some (ns, r)) × MembersRise ns × (trees_of ns ≡ Some us)
-      × (found_members D ts ≡ found_members D us) × (b ≡ true → has_wrapper ts ≡ has_wrapper us)
+      × (first_member_fault D ts ≡ first_member_fault D us) × (b ≡ true → has_wrapper ts ≡ has_wrapper us)
 
   pub members_from : (b : Bool) (whole : Option (json.Members × List Token)) → MembersFrom b whole whole
   members_from b whole ms r ts is rise of = (ms, ts, is, rise, of, refl, λ yes. refl)
@@ -274,20 +274,20 @@ module _ (D : Doubles) where
         more.1,
         rises.2,
         a.3,
-        g.5 ∙ ap (found_members D) a.4 ∙ ap (λ x. or (within (key k) x) (found_members D a.1)) none,
+        g.5 ∙ ap (first_member_fault D) a.4 ∙ ap (λ x. or (add_segment (key k) x) (first_member_fault D a.1)) none,
         λ yes. g.6 yes ∙ ap has_wrapper a.4 ∙ ap (λ o. is_some o || has_wrapper a.1) (plain yes),
       )
 
   -- a fault at a key
   at_key : (b : Bool) (k : List ℕ) (js : json.Members) (ds us : Members) (d : Data) (has : Bool) (p q : Place)
-      → trees_of js ≡ Some ds → (b ≡ true → FirstPlain js) → found_members D ds ≡ found_members D (member k d us)
-      → (b ≡ true → has_wrapper ds ≡ has) → IsOf (found D d) p → AtKey (b && has) k p q → IsOf (verdict_of D b ds) q
+      → trees_of js ≡ Some ds → (b ≡ true → FirstPlain js) → first_member_fault D ds ≡ first_member_fault D (member k d us)
+      → (b ≡ true → has_wrapper ds ≡ has) → IsOf (fault_in_tree D d) p → AtKey (b && has) k p q → IsOf (verdict_of D b ds) q
   at_key false k js ds us d has p q of plain same wraps is at =
-      placed_within (found D d) (found_members D ds) (key k) (found_members D us) p q is at same
+      placed_within (fault_in_tree D d) (first_member_fault D ds) (key k) (first_member_fault D us) p q is at same
   at_key true k js ds us d true p q of plain same wraps is at =
-      placed_here (found D (object ds)) q at (wrapped js ds of (plain refl) (wraps refl))
+      placed_here (fault_in_tree D (object ds)) q at (wrapped js ds of (plain refl) (wraps refl))
   at_key true k js ds us d false p q of plain same wraps is at =
-      placed_within (found D d) (found D (object ds)) (key k) (found_members D us) p q is at (free ds (wraps refl) ∙ same)
+      placed_within (fault_in_tree D d) (fault_in_tree D (object ds)) (key k) (first_member_fault D us) p q is at (free ds (wraps refl) ∙ same)
 
   pub member_placed : (e f : Stop) (b : Bool) (whole : Option (json.Members × List Token)) (depth n : ℕ) (k : List ℕ)
       (ts mid rest : List Token) → (b ≡ true → wrapper_of k ≡ None)
@@ -304,7 +304,7 @@ module _ (D : Doubles) where
       let gone = passed n m.2 r (subst (λ x. members P n x ≡ Some (m.2, r)) (sym h.0) m.4) in
       let wraps : b ≡ true → has_wrapper ds ≡ has = λ yes. g.6 yes ∙ ap has_wrapper a.4
       ∙ ap (λ o. is_some o || has_wrapper a.1) (plain yes) ∙ any_is m.2 a.1 a.3 ∙ sym gone.1 in
-      (gone.0, at_key b k ms ds a.1 a.0 has p.value q of first (g.5 ∙ ap (found_members D) a.4) wraps h.1 seen)) out
+      (gone.0, at_key b k ms ds a.1 a.0 has p.value q of first (g.5 ∙ ap (first_member_fault D) a.4) wraps h.1 seen)) out
 
   pub object_placed : (e : Stop) (o : Option (json.Members × List Token)) (rest : List Token) → ObjectPlaced D e o rest
       → ValuePlaced D e (parse_map json.object o) rest
@@ -313,4 +313,4 @@ module _ (D : Doubles) where
       let a = mapped tree.object (of_members g.0 no_members) t (subst (λ x. of_json x ≡ Some t) g.2 of) in
       let rises = subst Rises g.2 rise in
       let h = at g.0 r a.0 g.1 rises (rising g.0 a.0 rises a.1) in
-      (h.0, subst (λ x. IsOf (found D x) q) (sym a.2) h.1))
+      (h.0, subst (λ x. IsOf (fault_in_tree D x) q) (sym a.2) h.1))

@@ -16,9 +16,9 @@ use Rattle.bson_model.specs.Value.{Value}
 use Rattle.bson_model.specs.OrderedTexts.{HasMeaningInOrder}
 use Rattle.bson_tree.specs.declared.place.Place.{Place}
 use Rattle.bson_tokens.proofs.Offered.{text_read}
-use Rattle.bson_tokens.specs.Normalized.{normalized, HasNumbers, ItemsHaveNumbers, MembersHaveNumbers, IsNormalizedText}
+use Rattle.bson_tokens.specs.Normalized.{normalized, HasNumbersInRange, ItemsHaveNumbersInRange, MembersHaveNumbersInRange, IsNormalizedText}
 use Rattle.bson_tokens.specs.declared.arrangement.Arrangement.TheVariants.{Ascending}
-use Rattle.bson_tokens.specs.TextPlaces.{IsTextPlaceIn}
+use Rattle.bson_tokens.specs.TextErrors.{IsTextPlaceIn}
 use Rattle.bson_text.proofs.Normalized.{normalized_rises}
 use Rattle.bson_text.specs.Placed.{TextPlaced}
 use Rattle.bson_text.specs.declared.stop.Stop.{Stop}
@@ -26,7 +26,7 @@ use Rattle.bson_text.specs.declared.stop.Stop.TheVariants.{Fault}
 
 -- JSON whose numbers are in range has a tree
 mutual
-  has_tree : (j : json.Json) → HasNumbers j → (t : Data) × (of_json j ≡ Some t)
+  has_tree : (j : json.Json) → HasNumbersInRange j → (t : Data) × (of_json j ≡ Some t)
   has_tree json.null has = (null, refl)
   has_tree (json.boolean b) has = (boolean b, refl)
   has_tree (json.number s) has = (number has.0, ap (option_map number) has.1)
@@ -34,14 +34,14 @@ mutual
   has_tree (json.array js) has = let t = has_items js has in (array t.0, ap (option_map array) t.1)
   has_tree (json.object ms) has = let t = has_members ms no_members has in (object t.0, ap (option_map object) t.1)
 
-  has_items : (js : json.Items) → ItemsHaveNumbers js → (ts : Items) × (of_items js ≡ Some ts)
+  has_items : (js : json.Items) → ItemsHaveNumbersInRange js → (ts : Items) × (of_items js ≡ Some ts)
   has_items json.no_items has = (no_items, refl)
   has_items (json.item j js) has =
       let t = has_tree j has.0 in
       let u = has_items js has.1 in
       (item t.0 u.0, rw (t.1, u.1) refl)
 
-  has_members : (ms : json.Members) (found : Members) → MembersHaveNumbers ms
+  has_members : (ms : json.Members) (found : Members) → MembersHaveNumbersInRange ms
       → (ts : Members) × (of_members ms found ≡ Some ts)
   has_members json.no_members found has = (found, refl)
   has_members (json.member k j ms) found has =

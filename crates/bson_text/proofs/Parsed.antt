@@ -20,7 +20,7 @@ use Rattle.bson_scalar.specs.Reading.{optional_wrapper_read_in}
 use Rattle.bson_scalar.specs.declared.form.Doubles.{Doubles}
 use Rattle.bson_scalar.specs.declared.wrapper.Wrapper.{Wrapper}
 use Rattle.bson_model.specs.OrderedTrees.{kept, tree_sorted_by_key}
-use Rattle.bson_tokens.specs.Held.{IsHeldAs}
+use Rattle.bson_tokens.specs.WrapperContent.{IsWrapperContent}
 use Rattle.bson_tokens.proofs.Offered.{was_read as from_tree}
 use Rattle.bson_text.specs.Walked.{from_key}
 use Rattle.bson_text.proofs.Objects.{kept_from}
@@ -92,7 +92,7 @@ ended p zero end rest is = cc
 ended p (suc n) end rest is = ends_at p n end rest (read_key end) refl is
 
 -- what a wrapper's tree stands for
-pub held_is : (depth : ℕ) (ts r : List Token) (held : Data) → IsHeldAs (converted of_json (value depth ts)) held r
+pub held_is : (depth : ℕ) (ts r : List Token) (held : Data) → IsWrapperContent (converted of_json (value depth ts)) held r
     → (j : json.Json) × (value depth ts ≡ Some (j, r)) × (d : Data) × (kept j ≡ Some d)
     × ((D : Doubles) (w : Option Wrapper) → optional_wrapper_read_in D w held ≡ optional_wrapper_read_in D w (tree_sorted_by_key d))
     × (as_str held ≡ as_str (tree_sorted_by_key d))

@@ -21,8 +21,8 @@ use Rattle.bson_scalar.specs.declared.form.Doubles.{Doubles}
 use Rattle.bson_scalar.specs.declared.wrapper.Wrapper.{Wrapper}
 use Rattle.bson_tree.specs.Place.{key}
 use Rattle.bson_tree.specs.declared.place.Place.{Place}
-use Rattle.bson_tokens.specs.FirstFault.{Verdict, found, found_members, found_scope, within, here, of_code}
-use Rattle.bson_tokens.specs.Held.{IsHeldAs}
+use Rattle.bson_tokens.specs.FirstFault.{FaultAndPath, fault_in_tree, first_member_fault, scope_fault, add_segment, wrong_shape_here, code_fault}
+use Rattle.bson_tokens.specs.WrapperContent.{IsWrapperContent}
 use Rattle.bson_tokens.proofs.Offered.{was_read as from_tree}
 use Rattle.bson_text.specs.Walked.{inside, from_key}
 use Rattle.bson_text.proofs.Denials.{mapped_parse, then_parsed, split_kept, mapped}
@@ -79,8 +79,8 @@ more_end depth n ts s rest r k ms named is passed =
 -- a value of one token
 one_token : (depth : ℕ) (i : json.Json) (ts r rest : List Token) → value depth ts ≡ Some (i, r) → MembersTo depth r rest
     → StepPassed depth ts rest
-one_token depth i ts r rest read passed = λ n l ms end here.
-    let g = then_parsed (json.member l) (members (value depth) n) (value depth ts) ms end here in
+one_token depth i ts r rest read passed = λ n l ms end wrong_shape_here.
+    let g = then_parsed (json.member l) (members (value depth) n) (value depth ts) ms end wrong_shape_here in
     let same = same_parse (value depth ts) g.0 i g.1 r g.3 read in
     passed n g.2 end (subst (λ x. members (value depth) n x ≡ Some (g.2, end)) same.1 g.4)
 
@@ -105,8 +105,8 @@ pub array_passed : (depth : ℕ) (ts r mid rest : List Token) → ts ≡ token.b
     → MembersTo depth mid rest → IsNoScope ts × StepPassed depth ts rest
 array_passed depth ts r mid rest starts left items_passed passed = (
   subst IsNoScope (sym starts) tt,
-  λ n l ms end here.
-      let g = then_parsed (json.member l) (members (value depth) n) (value depth ts) ms end here in
+  λ n l ms end wrong_shape_here.
+      let g = then_parsed (json.member l) (members (value depth) n) (value depth ts) ms end wrong_shape_here in
       let read : parse_map json.array (items (value (depth - 1)) (length r) r) ≡ Some (g.0, g.1) =
       sym (ap (value depth) starts ∙ value-begin_array depth r left) ∙ g.3 in
       let a = mapped_parse json.array (items (value (depth - 1)) (length r) r) g.0 g.1 read in
@@ -115,11 +115,11 @@ array_passed depth ts r mid rest starts left items_passed passed = (
 )
 
 module _ (D : Doubles) where
-  scope_found : (d : Data) (ds : tree.Items) → d ≡ tree.array ds → found_scope D d ≡ here
-  scope_found d ds is = ap (found_scope D) is
+  scope_found : (d : Data) (ds : tree.Items) → d ≡ tree.array ds → scope_fault D d ≡ wrong_shape_here
+  scope_found d ds is = ap (scope_fault D) is
 
   none_found : (depth : ℕ) (ts r : List Token) (j : json.Json) (d : Data) (a : Parse json.Items) (o : Parse json.Members)
-      → IsNoScope ts → value_with a o ts ≡ Some (j, r) → of_json j ≡ Some d → found_scope D d ≡ here
+      → IsNoScope ts → value_with a o ts ≡ Some (j, r) → of_json j ≡ Some d → scope_fault D d ≡ wrong_shape_here
   none_found depth [] r j d a o none is of = cc
   none_found depth (token.begin_object ∷ ts) r j d a o none is of = absurd none
   none_found depth (token.end_object ∷ ts) r j d a o none is of = cc
@@ -131,26 +131,26 @@ module _ (D : Doubles) where
   none_found depth (token.key s ∷ ts) r j d a o none is of = cc
   none_found depth (token.string s ∷ ts) r j d a o none is of =
       let same = same_parse (Some (json.string s, ts)) (json.string s) j ts r refl is in
-      let t = same_Some (tree.string s) d (subst (λ x. of_json x ≡ Some d) (sym same.0) of) in ap (found_scope D) (sym t)
+      let t = same_Some (tree.string s) d (subst (λ x. of_json x ≡ Some d) (sym same.0) of) in ap (scope_fault D) (sym t)
   none_found depth (token.number s ∷ ts) r j d a o none is of =
       let same = same_parse (Some (json.number s, ts)) (json.number s) j ts r refl is in
-      let b = mapped tree.number (number_of s) d (subst (λ x. of_json x ≡ Some d) (sym same.0) of) in ap (found_scope D) b.2
+      let b = mapped tree.number (number_of s) d (subst (λ x. of_json x ≡ Some d) (sym same.0) of) in ap (scope_fault D) b.2
   none_found depth (token.boolean b ∷ ts) r j d a o none is of =
       let same = same_parse (Some (json.boolean b, ts)) (json.boolean b) j ts r refl is in
-      let t = same_Some (tree.boolean b) d (subst (λ x. of_json x ≡ Some d) (sym same.0) of) in ap (found_scope D) (sym t)
+      let t = same_Some (tree.boolean b) d (subst (λ x. of_json x ≡ Some d) (sym same.0) of) in ap (scope_fault D) (sym t)
   none_found depth (token.null ∷ ts) r j d a o none is of = absurd none
   none_found depth (token.bad ∷ ts) r j d a o none is of = cc
 
   -- the verdict of a scope alone, and of one with more behind it
   scope_alone : (l : List ℕ) (e : Data) (us ws : Members) → us ≡ member l e ws → ws ≡ no_members
-      → code_verdict D us ≡ found_scope D e
+      → code_verdict D us ≡ scope_fault D e
   scope_alone l e us ws is none = ap (code_verdict D) (is ∙ ap (member l e) none)
 
-  more_here : (l : List ℕ) (e : Data) (ws : Members) → (ws ≡ no_members → ⊥) → code_verdict D (member l e ws) ≡ here
+  more_here : (l : List ℕ) (e : Data) (ws : Members) → (ws ≡ no_members → ⊥) → code_verdict D (member l e ws) ≡ wrong_shape_here
   more_here l e no_members more = absurd (more refl)
   more_here l e (member m f ws) more = refl
 
-  here_at : (l : List ℕ) (e : Data) (ws : Members) → found_scope D e ≡ here → code_verdict D (member l e ws) ≡ here
+  here_at : (l : List ℕ) (e : Data) (ws : Members) → scope_fault D e ≡ wrong_shape_here → code_verdict D (member l e ws) ≡ wrong_shape_here
   here_at l e no_members is = is
   here_at l e (member m f ws) is = refl
 
@@ -181,11 +181,11 @@ module _ (D : Doubles) where
       )) (out first)
 
   scope_seen : (os : json.Members) (ws ds : Members) (l : List ℕ) (p q : Place) → trees_of os ≡ Some ws
-      → IsOf (found_members D ds) p → ScopeSeen os p q → IsOf (code_verdict D (member l (object ds) ws)) q
+      → IsOf (first_member_fault D ds) p → ScopeSeen os p q → IsOf (code_verdict D (member l (object ds) ws)) q
   scope_seen json.no_members ws ds l p q of is seen =
-      placed_within (found_members D ds) (code_verdict D (member l (object ds) ws)) (key (codes "$scope")) None p q is seen
+      placed_within (first_member_fault D ds) (code_verdict D (member l (object ds) ws)) (key (codes "$scope")) None p q is seen
       (scope_alone l (object ds) (member l (object ds) ws) ws refl (sym (same_Some no_members ws of))
-      ∙ or_nothing (within (key (codes "$scope")) (found_members D ds)))
+      ∙ or_nothing (add_segment (key (codes "$scope")) (first_member_fault D ds)))
   scope_seen (json.member k j os) ws ds l p q of is seen = placed_here (code_verdict D (member l (object ds) ws)) q seen
       (more_here l (object ds) ws (λ none. let never = no_trees (json.member k j os) ws of none in cc))
 
@@ -218,13 +218,13 @@ module _ (D : Doubles) where
 
   code_found : (k l : List ℕ) (w : Wrapper) (s : List ℕ) (e : Data) (us : Members) → wrapper_of k ≡ Some w
       → (bytes_eq k (codes "$code") && bytes_eq l (codes "$scope")) ≡ true
-      → found D (object (member k (tree.string s) (member l e us))) ≡ code_verdict D (member l e us)
+      → fault_in_tree D (object (member k (tree.string s) (member l e us))) ≡ code_verdict D (member l e us)
   code_found k l w s e no_members named are = by_wrapper D k w (tree.string s) (member l e no_members) named
-      ∙ ap (λ b. cond b (of_code (tree.string s) (found_scope D e)) here) are
+      ∙ ap (λ b. cond b (code_fault (tree.string s) (scope_fault D e)) wrong_shape_here) are
   code_found k l w s e (member m f us) named are = by_wrapper D k w (tree.string s) (member l e (member m f us)) named
 
   pub code_placed : (e : Stop) (depth : ℕ) (k l s : List ℕ) (w : Wrapper) (ts r q rest : List Token) (held : Data)
-      → wrapper_of k ≡ Some w → IsHeldAs (converted of_json (value depth ts)) held r → read_key r ≡ Some (Some l, q)
+      → wrapper_of k ≡ Some w → IsWrapperContent (converted of_json (value depth ts)) held r → read_key r ≡ Some (Some l, q)
       → (bytes_eq k (codes "$code") && bytes_eq l (codes "$scope")) ≡ true → held ≡ tree.string s
       → CodePlaced D false depth e q rest → ObjectPlaced D e (from_key depth (Some k) ts) rest
   code_placed e depth k l s w ts r q rest held named read key_is are text at = at_map e _ _ (λ x h ms end ds parsed rise of.
@@ -238,13 +238,13 @@ module _ (D : Doubles) where
       let rises = subst MembersRise m.2 rise in
       let tree_is : a.0 ≡ read.0 = same_Some a.0 read.0 (sym a.2 ∙ j.2) in
       let string_is : a.0 ≡ tree.string s = tree_is ∙ a_text read.0 s (sym read.2.1 ∙ ap as_str text) in
-      let same : found D (object ds) ≡ code_verdict D a.1 =
-      ap (λ y. found D (object y)) (a.4 ∙ ap (λ y. member k y a.1) string_is ∙ ap (member k (tree.string s)) b.4)
+      let same : fault_in_tree D (object ds) ≡ code_verdict D a.1 =
+      ap (λ y. fault_in_tree D (object y)) (a.4 ∙ ap (λ y. member k y a.1) string_is ∙ ap (member k (tree.string s)) b.4)
       ∙ code_found k l w s b.0 b.1 named are ∙ ap (code_verdict D) (sym b.4) in
       let g = h o.0 l m.0 end a.1 o.1 rises.2 a.3 in
       (g.0, subst (λ v. IsOf v x) (sym same) g.1)) (at refl)
 
-  textless : (d : Data) (v : Verdict) → as_str d ≡ None → of_code d v ≡ here
+  textless : (d : Data) (v : FaultAndPath) → as_str d ≡ None → code_fault d v ≡ wrong_shape_here
   textless tree.null v is = refl
   textless (tree.boolean b) v is = refl
   textless (tree.number n) v is = refl
@@ -254,15 +254,15 @@ module _ (D : Doubles) where
 
   textless_found : (k l : List ℕ) (w : Wrapper) (d e : Data) (us : Members) (b : Bool) → wrapper_of k ≡ Some w
       → (bytes_eq k (codes "$code") && bytes_eq l (codes "$scope")) ≡ b → as_str d ≡ None
-      → found D (object (member k d (member l e us))) ≡ here
+      → fault_in_tree D (object (member k d (member l e us))) ≡ wrong_shape_here
   textless_found k l w d e no_members true named are none = by_wrapper D k w d (member l e no_members) named
-      ∙ ap (λ x. cond x (of_code d (found_scope D e)) here) are ∙ textless d (found_scope D e) none
+      ∙ ap (λ x. cond x (code_fault d (scope_fault D e)) wrong_shape_here) are ∙ textless d (scope_fault D e) none
   textless_found k l w d e no_members false named are none = by_wrapper D k w d (member l e no_members) named
-      ∙ ap (λ x. cond x (of_code d (found_scope D e)) here) are
+      ∙ ap (λ x. cond x (code_fault d (scope_fault D e)) wrong_shape_here) are
   textless_found k l w d e (member m f us) b named are none = by_wrapper D k w d (member l e (member m f us)) named
 
   pub textless_placed : (f : Stop) (depth : ℕ) (k l : List ℕ) (w : Wrapper) (ts r q rest : List Token) (held : Data)
-      → wrapper_of k ≡ Some w → IsHeldAs (converted of_json (value depth ts)) held r → read_key r ≡ Some (Some l, q)
+      → wrapper_of k ≡ Some w → IsWrapperContent (converted of_json (value depth ts)) held r → read_key r ≡ Some (Some l, q)
       → as_str held ≡ None → IsShapeFaultPassed depth q f rest → ObjectPlaced D f (from_key depth (Some k) ts) rest
   textless_placed f depth k l w ts r q rest held named read key_is none out = at_map f _ _ (λ x (shape, passed) ms end ds parsed rise of.
       let P = value depth in
@@ -274,7 +274,7 @@ module _ (D : Doubles) where
       let b = split_kept (member l) (of_json n.0) (trees_of n.2) a.1 (subst (λ y. trees_of y ≡ Some a.1) n.5 a.3) in
       let tree_is : a.0 ≡ read.0 = same_Some a.0 read.0 (sym a.2 ∙ j.2) in
       let is : as_str a.0 ≡ None = ap as_str tree_is ∙ sym read.2.1 ∙ none in
-      let same : found D (object ds) ≡ here =
-      ap (λ y. found D (object y)) (a.4 ∙ ap (member k a.0) b.4)
+      let same : fault_in_tree D (object ds) ≡ wrong_shape_here =
+      ap (λ y. fault_in_tree D (object y)) (a.4 ∙ ap (member k a.0) b.4)
       ∙ textless_found k l w a.0 b.0 b.1 (bytes_eq k (codes "$code") && bytes_eq l (codes "$scope")) named refl is in
-      (passed o.0 l m.0 end o.1, placed_here (found D (object ds)) x shape same)) out
+      (passed o.0 l m.0 end o.1, placed_here (fault_in_tree D (object ds)) x shape same)) out

@@ -5,7 +5,7 @@ use Rattle.std.specs.List.{flat_map}
 use Rattle.json.specs.Strict.{AreDistinct}
 use Rattle.serde_json.specs.Written.{comma_if}
 use Rattle.bson_tokens.specs.declared.arrangement.Arrangement.{Arrangement}
-use Rattle.bson_tokens.specs.declared.arrangement.Arrangement.TheVariants.{FirstPlaces}
+use Rattle.bson_tokens.specs.declared.arrangement.Arrangement.TheVariants.{FirstPositions}
 use Rattle.bson_model.specs.Displayed.{display_text, entry, entry_texts}
 use Rattle.bson_model.specs.Value.{Pairs, no_pairs, pair, document}
 use Rattle.bson_text.specs.ShownWritten.{member_front, separator_if, closing_brace, pairs_shown, value_shown}
@@ -48,7 +48,7 @@ record Behind (ps : Pairs) (old new : ShownWriter) : Type 0 where
   pub text : new.text.items ≡ old.text.items ++ members old.needs_comma ps
   pub needs_comma : new.needs_comma ≡ needs_comma_after old.needs_comma ps
 
-all_written : (ps : Pairs) (old new : ShownWriter) → old.arrangement ≡ FirstPlaces
+all_written : (ps : Pairs) (old new : ShownWriter) → old.arrangement ≡ FirstPositions
     → PairsWritten (λ a k v b. DisplayValueAdded a v b) DisplayKeyAdded ps old new → Behind ps old new
 all_written no_pairs old new in_order is = record {
   starts = [];
@@ -83,19 +83,19 @@ whole before front mid now new ps mark written ended =
     ∙ append_assoc before (front ++ codes "{") end
     ∙ ap (λ l. before ++ l) (append_assoc front (codes "{") end ∙ ap (λ l. front ++ l) (document_shown ps))
 
-as_they_came : (a : Arrangement) (ps : Pairs) → a ≡ FirstPlaces → AreDistinct (keys_of ps)
+as_they_came : (a : Arrangement) (ps : Pairs) → a ≡ FirstPositions → AreDistinct (keys_of ps)
     → ps ≡ pairs_shown a (each_key_once ps)
 as_they_came a ps is apart = sym (ap (λ o. pairs_shown o (each_key_once ps)) is ∙ once_is ps apart)
 
 -- the document's members, and the brace behind them
-pub document_added : (start mid now kept new : ShownWriter) (mark : Mark) (ps : Pairs) → now.arrangement ≡ FirstPlaces
+pub document_added : (start mid now kept new : ShownWriter) (mark : Mark) (ps : Pairs) → now.arrangement ≡ FirstPositions
     → DisplayBegun start mark mid → PairsWritten (λ a k v b. DisplayValueAdded a v b) DisplayKeyAdded ps mid now
     → AreDistinct (keys_of ps) → kept.text.items ≡ now.text.items → kept.arrangement ≡ now.arrangement
     → kept.starts.items ≡ take mark.held now.starts.items → DisplayAdded kept (closing_brace now.needs_comma) true new
     → DisplayPairsAdded start (each_key_once ps) new
 document_added start mid now kept new mark ps in_order (here, held, (off, order, starts, text)) written apart same
     also cut (needs_comma, ordered, left, ended) =
-    let first : mid.arrangement ≡ FirstPlaces = sym (same_order ps mid now written) ∙ in_order in
+    let first : mid.arrangement ≡ FirstPositions = sym (same_order ps mid now written) ∙ in_order in
     let all = all_written ps mid now first written in
     let brace : closing_brace now.needs_comma ≡ closing_brace (needs_comma_after false ps) =
     ap closing_brace (all.needs_comma ∙ ap (λ b. needs_comma_after b ps) off) in (

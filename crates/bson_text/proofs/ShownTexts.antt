@@ -5,7 +5,7 @@ use Rattle.std.specs.List.{flat_map}
 use Rattle.bson_scalar.specs.declared.form.Doubles.{Doubles}
 use Rattle.bson_model.specs.Displayed.{display_text, item_texts}
 use Rattle.bson_tokens.specs.declared.arrangement.Arrangement.{Arrangement}
-use Rattle.bson_tokens.specs.declared.arrangement.Arrangement.TheVariants.{FirstPlaces, Ascending}
+use Rattle.bson_tokens.specs.declared.arrangement.Arrangement.TheVariants.{FirstPositions, Ascending}
 use Rattle.bson_model.specs.Sorted.{sorted, sorted_items}
 use Rattle.bson_model.specs.Value as model
 use Rattle.bson_model.specs.Value.{Value, Values, no_values, code_scope, document}
@@ -17,7 +17,7 @@ use Rattle.bson_text.specs.Walked.{ItemsWritten}
 use Rattle.bson_text.specs.declared.shown_text.ShownWriter.{ShownWriter}
 
 -- what is shown in the order of keys, and with them ascending
-pub as_it_is : (v : Value) → value_shown FirstPlaces v ≡ v
+pub as_it_is : (v : Value) → value_shown FirstPositions v ≡ v
 as_it_is (model.scalar x) = refl
 as_it_is (code_scope s ps) = refl
 as_it_is (model.array vs) = refl
@@ -42,12 +42,12 @@ as_text a b s t needs_comma is h = subst (λ l. DisplayAdded a l needs_comma b) 
 -- ---- arrays
 
 no_items : (a : Arrangement) → items_shown a no_values ≡ no_values
-no_items FirstPlaces = refl
+no_items FirstPositions = refl
 no_items Ascending = refl
 
 one_item : (a : Arrangement) (v : Value) (vs : Values)
     → items_shown a (model.value v vs) ≡ model.value (value_shown a v) (items_shown a vs)
-one_item FirstPlaces v vs = ap (λ w. model.value w vs) (sym (as_it_is v))
+one_item FirstPositions v vs = ap (λ w. model.value w vs) (sym (as_it_is v))
 one_item Ascending v vs = ap (λ w. model.value w (sorted_items vs)) (sym (as_sorted v))
 
 -- the texts of elements, after another or at first
@@ -111,10 +111,10 @@ whole_shown old new v a (after, same, starts, shown) order first none =
 pub text_shown : (D : Doubles) (a : Arrangement) (text : List ℕ) (old new : ShownWriter)
     → (v : Value) × HasMeaningInOrder D text v × DisplayValueAdded old v new → old.arrangement ≡ a → old.needs_comma ≡ false
     → old.text.items ≡ [] → IsShownTextBy D a text new.text.items
-text_shown D FirstPlaces text old new (v, meaning, added) order first none = record {
+text_shown D FirstPositions text old new (v, meaning, added) order first none = record {
   value = v;
   meaning = meaning;
-  shown = whole_shown old new v FirstPlaces added order first none ∙ ap display_text (as_it_is v);
+  shown = whole_shown old new v FirstPositions added order first none ∙ ap display_text (as_it_is v);
 }
 text_shown D Ascending text old new (v, meaning, added) order first none = record {
   value = sorted v;

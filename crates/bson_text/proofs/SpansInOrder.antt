@@ -15,7 +15,7 @@ use Rattle.bson_model.specs.StableOrder.{insert_each, pairs_of}
 use Rattle.bson_model.specs.Value.{Value, Pairs, no_pairs}
 use Rattle.bson_model.proofs.Offered.{turned, put_ascending}
 use Rattle.bson_text.specs.MemberSpans.{span_key, span_text, open_text, members_text, object_text, Ascend}
-use Rattle.bson_tokens.specs.PutSpans.{Follows, KeysAscendAfter}
+use Rattle.bson_tokens.specs.PutMembers.{KeyFollows, KeysAscendFrom}
 use Rattle.bson_text.specs.MemberSpans.{last_ones, stands_again, IsOpenObject, IsObjectWritten, SpanValues, value_at, IsMemberSpan}
 use Rattle.bson_text.specs.MemberSpans.{spans_from}
 use Rattle.bson_text.specs.declared.spans.MemberSpan.{MemberSpan}
@@ -46,12 +46,12 @@ next_joined texts needs_comma p ps left old mid new is comma text =
     ∙ ap (λ l. old ++ members_text texts needs_comma l) (sym is)
 
 pub next_ascends : (last : Option (List ℕ)) (p : MemberSpan) (ps left : List MemberSpan) → left ≡ p ∷ ps
-    → Follows last (span_key p) → Ascend (Some (span_key p)) ps → Ascend last left
+    → KeyFollows last (span_key p) → Ascend (Some (span_key p)) ps → Ascend last left
 next_ascends last p ps left is follows up = subst (Ascend last) (sym is) (follows, up)
 
 -- pieces ascend whose keys do
 pub spans_ascend : (last : Option (List ℕ)) (ks : List (Bor (List ℕ))) (starts : List ℕ) (end : ℕ)
-    → KeysAscendAfter last (map (λ k. k.now) ks) → Ascend last (spans_from ks starts end)
+    → KeysAscendFrom last (map (λ k. k.now) ks) → Ascend last (spans_from ks starts end)
 spans_ascend last [] starts end up = tt
 spans_ascend last (k ∷ ks) [] end up = tt
 spans_ascend last (k ∷ ks) (s ∷ starts) end up = (up.0, spans_ascend (Some k.now) ks starts end up.1)

@@ -20,8 +20,8 @@ use Rattle.bson_tree.specs.Place.{key, PathSegment, path_of, FaultAtIn, HasValue
 use Rattle.bson_tree.proofs.Offered.{first_found}
 use Rattle.bson_tokens.proofs.Offered.{Is, is_found}
 use Rattle.bson_tree.specs.declared.place.Place.{Place}
-use Rattle.bson_tokens.specs.FirstFault.{Verdict, found, found_members, found_wrapper, or, within, here, of_scalar}
-use Rattle.bson_tokens.specs.Held.{IsHeldAs}
+use Rattle.bson_tokens.specs.FirstFault.{FaultAndPath, fault_in_tree, first_member_fault, wrapper_fault, or, add_segment, wrong_shape_here, scalar_fault}
+use Rattle.bson_tokens.specs.WrapperContent.{IsWrapperContent}
 use Rattle.bson_tokens.proofs.Offered.{was_read as from_tree}
 use Rattle.bson_text.specs.Walked.{inside, from_key}
 use Rattle.bson_text.proofs.Objects.{begins}
@@ -50,7 +50,7 @@ reader_stop json_error.OutOfMemory P = tt
 reader_stop json_error.TooLong P = tt
 reader_stop json_error.DuplicateKey P = tt
 
-pub or_nothing : (v : Verdict) → v ≡ or v None
+pub or_nothing : (v : FaultAndPath) → v ≡ or v None
 or_nothing None = refl
 or_nothing (Some f) = refl
 
@@ -86,7 +86,7 @@ module _ (D : Doubles) where
       let read : value depth ts ≡ Some (json.number s, r) = ap (value depth) starts ∙ value_is depth (token.number s ∷ r) in
       let same = same_parse (value depth ts) j (json.number s) rest r is read in
       let a = mapped tree.number (number_of s) t (subst (λ x. of_json x ≡ Some t) same.0 of) in
-      (sym same.1, subst (λ x. IsOf (found D x) q.value) (sym a.2) (at a.0 a.1))
+      (sym same.1, subst (λ x. IsOf (fault_in_tree D x) q.value) (sym a.2) (at a.0 a.1))
 
   -- ---- documents
 
@@ -107,22 +107,22 @@ module _ (D : Doubles) where
       let m = then_parsed (json.member k) (members (value depth) n) (value depth ts) g.0 r g.2 in
       let a = split_kept (member k) (of_json m.0) (trees_of m.2) g.1 (subst (λ x. trees_of x ≡ Some g.1) m.5 g.4) in
       let has : has_wrapper ds ≡ true = g.6 refl ∙ ap has_wrapper a.4 ∙ ap (λ x. x || has_wrapper a.1) bad in
-      (passed n k g.0 r g.2, placed_here (found D (object ds)) q shape (wrapped D ms ds of (first refl) has))) out
+      (passed n k g.0 r g.2, placed_here (fault_in_tree D (object ds)) q shape (wrapped D ms ds of (first refl) has))) out
 
   -- ---- wrappers
 
   pub by_wrapper : (k : List ℕ) (w : Wrapper) (d : Data) (us : Members) → wrapper_of k ≡ Some w
-      → found D (object (member k d us)) ≡ found_wrapper D (member k d us)
+      → fault_in_tree D (object (member k d us)) ≡ wrapper_fault D (member k d us)
   by_wrapper k w d us named =
-      ap (λ o. cond (is_some o || has_wrapper us) (found_wrapper D (member k d us)) (found_members D (member k d us))) named
+      ap (λ o. cond (is_some o || has_wrapper us) (wrapper_fault D (member k d us)) (first_member_fault D (member k d us))) named
 
   lone : (k : List ℕ) (w : Wrapper) (d : Data) → wrapper_of k ≡ Some w
-      → found D (object (member k d no_members)) ≡ within (key k) (of_scalar (wrapper_read_in D w d))
+      → fault_in_tree D (object (member k d no_members)) ≡ add_segment (key k) (scalar_fault (wrapper_read_in D w d))
   lone k w d named = by_wrapper k w d no_members named
-      ∙ ap (λ o. within (key k) (of_scalar (optional_wrapper_read_in D o d))) named
+      ∙ ap (λ o. add_segment (key k) (scalar_fault (optional_wrapper_read_in D o d))) named
 
   pub alone_placed : (e f : Stop) (depth : ℕ) (k : List ℕ) (w : Wrapper) (ts r s : List Token) (held : Data)
-      → wrapper_of k ≡ Some w → IsHeldAs (converted of_json (value depth ts)) held r → read_key r ≡ Some (None, s)
+      → wrapper_of k ≡ Some w → IsWrapperContent (converted of_json (value depth ts)) held r → read_key r ≡ Some (None, s)
       → IsScalarFault (wrapper_read_in D w held) e → Keyed k e f → ObjectPlaced D f (from_key depth (Some k) ts) s
   alone_placed e f depth k w ts r s held named read ended at out = at_map f _ _ (λ q (p, is, further) ms rest ds parsed rise of.
       let P = value depth in
@@ -135,25 +135,25 @@ module _ (D : Doubles) where
       let end : a.1 ≡ no_members = sym (same_Some no_members a.1 a.3) in
       let tree_is : a.0 ≡ read.0 = same_Some a.0 read.0 (sym a.2 ∙ j.2) in
       let now = subst (IsScalarFault (wrapper_read_in D w held)) is at in
-      let same : found D (object ds) ≡ within (key k) (of_scalar (wrapper_read_in D w held)) =
-      ap (λ x. found D (object x)) (a.4 ∙ ap (member k a.0) end ∙ ap (λ x. member k x no_members) tree_is)
-      ∙ lone k w read.0 named ∙ ap (λ x. within (key k) (of_scalar x)) (sym (read.2.0 D (Some w))) in (
+      let same : fault_in_tree D (object ds) ≡ add_segment (key k) (scalar_fault (wrapper_read_in D w held)) =
+      ap (λ x. fault_in_tree D (object x)) (a.4 ∙ ap (member k a.0) end ∙ ap (λ x. member k x no_members) tree_is)
+      ∙ lone k w read.0 named ∙ ap (λ x. add_segment (key k) (scalar_fault x)) (sym (read.2.0 D (Some w))) in (
         off.0,
-        placed_within (of_scalar (wrapper_read_in D w held)) (found D (object ds)) (key k) None p.value q now further
-            (same ∙ or_nothing (within (key k) (of_scalar (wrapper_read_in D w held)))),
+        placed_within (scalar_fault (wrapper_read_in D w held)) (fault_in_tree D (object ds)) (key k) None p.value q now further
+            (same ∙ or_nothing (add_segment (key k) (scalar_fault (wrapper_read_in D w held)))),
       )) out
 
-  cond_here : (b : Bool) (v : Verdict) → b ≡ false → cond b v here ≡ here
-  cond_here b v h = ap (λ x. cond x v here) h
+  cond_here : (b : Bool) (v : FaultAndPath) → b ≡ false → cond b v wrong_shape_here ≡ wrong_shape_here
+  cond_here b v h = ap (λ x. cond x v wrong_shape_here) h
 
   two_found : (k l : List ℕ) (w : Wrapper) (d e : Data) (us : Members) → wrapper_of k ≡ Some w
       → (bytes_eq k (codes "$code") && bytes_eq l (codes "$scope")) ≡ false
-      → found D (object (member k d (member l e us))) ≡ here
+      → fault_in_tree D (object (member k d (member l e us))) ≡ wrong_shape_here
   two_found k l w d e no_members named are = by_wrapper k w d (member l e no_members) named ∙ cond_here _ _ are
   two_found k l w d e (member m f us) named are = by_wrapper k w d (member l e (member m f us)) named
 
   pub strange_placed : (f : Stop) (depth : ℕ) (k l : List ℕ) (w : Wrapper) (ts r q rest : List Token) (held : Data)
-      → wrapper_of k ≡ Some w → IsHeldAs (converted of_json (value depth ts)) held r → read_key r ≡ Some (Some l, q)
+      → wrapper_of k ≡ Some w → IsWrapperContent (converted of_json (value depth ts)) held r → read_key r ≡ Some (Some l, q)
       → (bytes_eq k (codes "$code") && bytes_eq l (codes "$scope")) ≡ false → IsShapeFaultPassed depth q f rest
       → ObjectPlaced D f (from_key depth (Some k) ts) rest
   strange_placed f depth k l w ts r q rest held named read key_is are out = at_map f _ _ (λ x (shape, passed) ms end ds parsed rise of.
@@ -165,9 +165,9 @@ module _ (D : Doubles) where
       let all : ms ≡ json.member k j.0 (json.member l n.0 n.2) = m.2 ∙ ap (json.member k j.0) n.5 in
       let a = split_kept (member k) (of_json j.0) (trees_of (json.member l n.0 n.2)) ds (subst (λ y. trees_of y ≡ Some ds) all of) in
       let b = split_kept (member l) (of_json n.0) (trees_of n.2) a.1 a.3 in
-      let same : found D (object ds) ≡ here =
-      ap (λ y. found D (object y)) (a.4 ∙ ap (member k a.0) b.4) ∙ two_found k l w a.0 b.0 b.1 named are in
-      (passed o.0 l m.0 end o.1, placed_here (found D (object ds)) x shape same)) out
+      let same : fault_in_tree D (object ds) ≡ wrong_shape_here =
+      ap (λ y. fault_in_tree D (object y)) (a.4 ∙ ap (member k a.0) b.4) ∙ two_found k l w a.0 b.0 b.1 named are in
+      (passed o.0 l m.0 end o.1, placed_here (fault_in_tree D (object ds)) x shape same)) out
 
   -- ---- values
 
@@ -185,16 +185,16 @@ module _ (D : Doubles) where
 
   -- ---- the place of the verdict is that of the first fault
 
-  at_verdict : (t : Data) (v : Verdict) (f : Fault) (path : List PathSegment)
+  at_verdict : (t : Data) (v : FaultAndPath) (f : Fault) (path : List PathSegment)
       → Is (HasValueIn D t) (λ g p. FaultAtIn D g t p) v → v ≡ Some (f, path) → FaultAtIn D f t path
   at_verdict t None f path h is = cc
   at_verdict t (Some g) f path h is =
       subst (λ x. FaultAtIn D x.0 t x.1) (same_Some {A = Fault × List PathSegment} g (f, path) is) h
 
-  pub first_fault : (t : Data) (place : Place) → IsOf (found D t) place → IsFirstFaultIn D t place
+  pub first_fault : (t : Data) (place : Place) → IsOf (fault_in_tree D t) place → IsFirstFaultIn D t place
   first_fault t place is =
       first_found D t (Ok (Some place)) (record {
         fault = is.fault;
-        path = at_verdict t (found D t) is.fault (path_of place) (is_found D t) is.path;
+        path = at_verdict t (fault_in_tree D t) is.fault (path_of place) (is_found D t) is.path;
         reason = is.reason;
       })

@@ -23,7 +23,7 @@ use Rattle.bson_model.specs.Value as model
 use Rattle.bson_model.specs.Value.{Value, Pairs, scalar}
 use Rattle.bson_model.specs.OrderedTrees.{kept, tree_sorted_by_key}
 use Rattle.bson_model.specs.OrderedReading.{reads_in_order, scope_in_order}
-use Rattle.bson_tokens.specs.Held.{IsHeldAs}
+use Rattle.bson_tokens.specs.WrapperContent.{IsWrapperContent}
 use Rattle.bson_tokens.proofs.Offered.{was_read}
 use Rattle.bson_text.specs.Walked.{TreeMeans, ObjectMeans, MembersMean, ScopeMeans, CodeMeans, CodeEnds, kept_object}
 use Rattle.bson_text.specs.Walked.{inside, from_key}
@@ -56,7 +56,7 @@ module _ (D : Doubles) where
 
   pub single_means : (depth : ℕ) (k : List ℕ) (wrapper : Wrapper) (ts r s : List Token) (held : Data) (x : Scalar)
       (Wrote : Value → Type 0) → wrapper_of k ≡ Some wrapper
-      → IsHeldAs (converted of_json (value depth ts)) held r → length r < length ts
+      → IsWrapperContent (converted of_json (value depth ts)) held r → length r < length ts
       → read_key r ≡ Some (None, s) → wrapper_read_in D wrapper held ≡ Ok x → Wrote (scalar x)
       → ObjectMeans D (kept_object (from_key depth (Some k) ts)) s Wrote
   single_means depth k wrapper ts r s held x Wrote named read less ended single written =
@@ -123,7 +123,7 @@ module _ (D : Doubles) where
   behind_is s d scope means = rw means refl
 
   pub code_means : (depth : ℕ) (k l s : List ℕ) (ts r q rest : List Token) (held : Data) (Wrote : Value → Type 0)
-      → IsHeldAs (converted of_json (value depth ts)) held r → length r < length ts → read_key r ≡ Some (Some l, q)
+      → IsWrapperContent (converted of_json (value depth ts)) held r → length r < length ts → read_key r ≡ Some (Some l, q)
       → (bytes_eq k (codes "$code") && bytes_eq l (codes "$scope")) ≡ true → held ≡ string s
       → CodeMeans D depth s false q rest Wrote → ObjectMeans D (kept_object (from_key depth (Some k) ts)) rest Wrote
   code_means depth k l s ts r q rest held Wrote read less key are text

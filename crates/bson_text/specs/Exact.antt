@@ -14,7 +14,7 @@ use Rattle.bson_model.specs.Value.{Value, Values, Pairs}
 use Rattle.bson_model.specs.OrderedTrees.{kept, kept_items}
 use Rattle.bson_model.specs.OrderedReading.{reads_in_order, items_in_order, members_in_order, scope_in_order}
 use Rattle.bson_text.specs.Walked.{inside}
-use Rattle.bson_tokens.specs.PutSpans.{KeysAscendAfter}
+use Rattle.bson_tokens.specs.PutMembers.{KeysAscendFrom}
 use Rattle.bson_text.specs.Refused.{CodeFirst, ItemsCodeFirst, MembersCodeFirst, IsShallowJson}
 use Rattle.bson_text.specs.Refused.{Streams, ItemsStream, MembersStream}
 use Rattle.bson_text.specs.Stops.{Denied, Lacks}
@@ -40,7 +40,7 @@ abbrev pub ItemsStay : Type 0 → Type 0 → json.Items → Type 0
 ItemsStay Leaves Sorts js = (Leaves → ⊥) × ItemsStream Sorts js
 
 abbrev pub MembersStay : Type 0 → Type 0 → json.Members → Type 0
-MembersStay Leaves Sorts ms = (Leaves → ⊥) × ((Sorts → KeysAscendAfter None (keys ms)) × MembersStream Sorts ms)
+MembersStay Leaves Sorts ms = (Leaves → ⊥) × ((Sorts → KeysAscendFrom None (keys ms)) × MembersStream Sorts ms)
 
 module _ (D : Doubles) where
   -- it denotes a value in its order

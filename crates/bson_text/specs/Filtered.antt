@@ -10,7 +10,7 @@ use Rattle.bson_model.specs.Texts.{ReadsAgainIn}
 use Rattle.bson_model.specs.Value.{Value}
 use Rattle.bson_model.specs.OrderedTexts.{HasMeaningInOrder, IsOrderedTextOf, MeansByDefault}
 use Rattle.bson_tokens.specs.declared.arrangement.Arrangement.{Arrangement}
-use Rattle.bson_tokens.specs.declared.arrangement.Arrangement.TheVariants.{FirstPlaces, Ascending}
+use Rattle.bson_tokens.specs.declared.arrangement.Arrangement.TheVariants.{FirstPositions, Ascending}
 
 -- the text means a value in the order of its keys, and the other is the compact text of that value's one tree in the
 -- form, in that order
@@ -45,5 +45,5 @@ pub record IsShownText (D : Doubles) (text written : List ℕ) : Type 0 where
 
 -- the same by where keys go: for private clauses
 abbrev pub IsShownTextBy : Doubles → Arrangement → List ℕ → List ℕ → Type 0
-IsShownTextBy D FirstPlaces = IsShownTextInOrder D
+IsShownTextBy D FirstPositions = IsShownTextInOrder D
 IsShownTextBy D Ascending = IsShownText D

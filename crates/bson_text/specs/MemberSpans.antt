@@ -15,7 +15,7 @@ use Rattle.bson_model.specs.Value.{Value}
 use Rattle.bson_model.specs.Writing.{writes_in}
 use Rattle.bson_model.specs.StableOrder.{IsStableByKey}
 use Rattle.bson_text.specs.declared.spans.MemberSpan.{MemberSpan}
-use Rattle.bson_tokens.specs.PutSpans.{Follows}
+use Rattle.bson_tokens.specs.PutMembers.{KeyFollows}
 
 abbrev pub span_key : MemberSpan → List ℕ
 span_key p = p.key.now
@@ -40,7 +40,7 @@ spans_from (k ∷ ks) (s ∷ starts) end =
 -- the keys of the members ascend
 abbrev pub Ascend : Option (List ℕ) → List MemberSpan → Type 0
 Ascend last [] = Unit {0}
-Ascend last (p ∷ ps) = Follows last (span_key p) × Ascend (Some (span_key p)) ps
+Ascend last (p ∷ ps) = KeyFollows last (span_key p) × Ascend (Some (span_key p)) ps
 
 -- ---- positions
 

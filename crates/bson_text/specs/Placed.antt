@@ -1,4 +1,4 @@
--- Where the traversal found the first error, and the remaining tokens.
+-- Where the traversal fault_in_tree the first error, and the remaining tokens.
 use Rattle.std.specs.Prelude.{◌≡◌, ◌<◌, ◌-◌, ℕ, List, [], ◌∷◌, ◌++◌, Bool, true, false, Option, None, Some, codes}
 use Rattle.std.specs.Prelude.{option_map, option_and_then, ⊤, ◌||◌, ◌&&◌, is_some, Result, Box}
 use Rattle.std.specs.Cmp.Lexicographic.{slice_cmp}
@@ -16,7 +16,7 @@ use Rattle.bson_scalar.specs.Table.{wrapper_of}
 use Rattle.bson_scalar.specs.declared.form.Doubles.{Doubles}
 use Rattle.bson_tree.specs.Place.{PathSegment, key, element, path_of, IsPlace, IsReason, IsFirstFaultIn}
 use Rattle.bson_tree.specs.declared.place.Place.{Place}
-use Rattle.bson_tokens.specs.FirstFault.{Verdict, found, found_items, found_members, found_scope, of_scalar}
+use Rattle.bson_tokens.specs.FirstFault.{FaultAndPath, fault_in_tree, first_item_fault, first_member_fault, scope_fault, scalar_fault}
 use Rattle.bson_tokens.specs.FirstFault as reports
 use Rattle.bson_text.specs.Exact.{ValueDenied, ItemsDenied, ObjectDenied, MembersDenied, CodeDenied, ScopeDenied}
 use Rattle.bson_text.specs.Refused.{IsShallowJson}
@@ -75,7 +75,7 @@ At stop.Syntax P = ⊤
 At (stop.Fault place) P = P place.value
 
 -- the place is that of the verdict
-abbrev pub IsOf : Verdict → Place → Type 0
+abbrev pub IsOf : FaultAndPath → Place → Type 0
 IsOf v place = IsPlace (λ f path. v ≡ Some (f, path)) place
 
 -- the shape is wrong, here
@@ -155,21 +155,21 @@ NoFault (stop.Fault place) = ⊥
 
 -- the fault that a scalar's reading has
 abbrev pub IsScalarFault : Result Scalar Fault → Stop → Type 0
-IsScalarFault r e = At e (IsOf (of_scalar r))
+IsScalarFault r e = At e (IsOf (scalar_fault r))
 
 module _ (D : Doubles) where
   -- a document's verdict, and that of a scope, whose keys are not tested
-  abbrev pub verdict_of : Bool → Members → Verdict
-  verdict_of true ts = found D (object ts)
-  verdict_of false ts = found_members D ts
+  abbrev pub verdict_of : Bool → Members → FaultAndPath
+  verdict_of true ts = fault_in_tree D (object ts)
+  verdict_of false ts = first_member_fault D ts
 
   abbrev pub ValuePlaced : Stop → Option (json.Json × List Token) → List Token → Type 0
   ValuePlaced e parsed rest = At e (λ place. (j : json.Json) (r : List Token) (t : Data) → parsed ≡ Some (j, r) → Rises j
-      → of_json j ≡ Some t → (rest ≡ r) × IsOf (found D t) place)
+      → of_json j ≡ Some t → (rest ≡ r) × IsOf (fault_in_tree D t) place)
 
   abbrev pub ItemsPlaced : Stop → Option (json.Items × List Token) → List Token → Type 0
   ItemsPlaced e parsed rest = At e (λ place. (js : json.Items) (r : List Token) (ts : Items) → parsed ≡ Some (js, r)
-      → ItemsRise js → of_items js ≡ Some ts → (rest ≡ r) × IsOf (found_items D 0 ts) place)
+      → ItemsRise js → of_items js ≡ Some ts → (rest ≡ r) × IsOf (first_item_fault D 0 ts) place)
 
   abbrev pub MembersPlaced : Stop → Bool → Option (json.Members × List Token) → List Token → Type 0
   MembersPlaced e b parsed rest = At e (λ place. (ms : json.Members) (r : List Token) (ts : Members) → parsed ≡ Some (ms, r)
@@ -177,12 +177,12 @@ module _ (D : Doubles) where
 
   abbrev pub ObjectPlaced : Stop → Option (json.Members × List Token) → List Token → Type 0
   ObjectPlaced e parsed rest = At e (λ place. (ms : json.Members) (r : List Token) (ts : Members) → parsed ≡ Some (ms, r)
-      → MembersRise ms → trees_of ms ≡ Some ts → (rest ≡ r) × IsOf (found D (object ts)) place)
+      → MembersRise ms → trees_of ms ≡ Some ts → (rest ≡ r) × IsOf (fault_in_tree D (object ts)) place)
 
   -- The verdict of what follows code.
-  abbrev pub code_verdict : Members → Verdict
+  abbrev pub code_verdict : Members → FaultAndPath
   code_verdict no_members = reports.here
-  code_verdict (member l e no_members) = found_scope D e
+  code_verdict (member l e no_members) = scope_fault D e
   code_verdict (member l e (member m f us)) = reports.here
 
   abbrev pub CodePlaced : Bool → ℕ → Stop → List Token → List Token → Type 0

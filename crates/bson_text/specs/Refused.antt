@@ -9,7 +9,7 @@ use Rattle.serde_json.specs.Read.{max_depth}
 use Rattle.bson_scalar.specs.declared.form.Doubles.{Doubles}
 use Rattle.bson_model.specs.Value.{Value}
 use Rattle.bson_model.specs.OrderedTexts.{HasMeaningInOrder}
-use Rattle.bson_tokens.specs.PutSpans.{KeysAscendAfter}
+use Rattle.bson_tokens.specs.PutMembers.{KeysAscendFrom}
 use Rattle.bson_text.specs.declared.stop.Stop.{Stop}
 use Rattle.bson_text.specs.declared.stop.Stop.TheVariants.{OutOfMemory, DuplicateKey, GaveUp, Syntax, Fault}
 
@@ -54,7 +54,7 @@ abbrev mutual
   Streams Sorts (json.string s) = ⊤
   Streams Sorts (json.array js) = ItemsStream Sorts js
   Streams Sorts (json.object ms) =
-      ((begins_scope ms ≡ false) × (Sorts → KeysAscendAfter None (keys ms))) × MembersStream Sorts ms
+      ((begins_scope ms ≡ false) × (Sorts → KeysAscendFrom None (keys ms))) × MembersStream Sorts ms
 
   pub ItemsStream : Type 0 → json.Items → Type 0
   ItemsStream Sorts json.no_items = ⊤

@@ -5,17 +5,17 @@ use Rattle.bson_model.specs.Displayed.{display_text}
 use Rattle.bson_model.specs.Sorted.{sorted_items, sorted_pairs}
 use Rattle.bson_model.specs.Value.{Value, Values, Pairs, scalar, code_scope, array, document}
 use Rattle.bson_tokens.specs.declared.arrangement.Arrangement.{Arrangement}
-use Rattle.bson_tokens.specs.declared.arrangement.Arrangement.TheVariants.{FirstPlaces, Ascending}
+use Rattle.bson_tokens.specs.declared.arrangement.Arrangement.TheVariants.{FirstPositions, Ascending}
 use Rattle.bson_text.specs.declared.sorted_text.Mark.{Mark}
 use Rattle.bson_text.specs.declared.shown_text.ShownWriter.{ShownWriter}
 
 -- what is shown of a value and of parts of one: with its keys in their order, or ascending
 abbrev pub items_shown : Arrangement → Values → Values
-items_shown FirstPlaces vs = vs
+items_shown FirstPositions vs = vs
 items_shown Ascending vs = sorted_items vs
 
 abbrev pub pairs_shown : Arrangement → Pairs → Pairs
-pairs_shown FirstPlaces ps = ps
+pairs_shown FirstPositions ps = ps
 pairs_shown Ascending ps = sorted_pairs ps
 
 abbrev pub value_shown : Arrangement → Value → Value

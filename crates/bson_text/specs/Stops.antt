@@ -12,7 +12,7 @@ use Rattle.bson_scalar.specs.declared.error.Error.TheVariants as read_error
 use Rattle.bson_scalar.specs.declared.form.Doubles.{Doubles}
 use Rattle.bson_scalar.specs.declared.write_error.WriteError.{WriteError}
 use Rattle.bson_scalar.specs.declared.write_error.WriteError.TheVariants as write_error
-use Rattle.bson_tokens.specs.PutSpans.{KeysAscendAfter}
+use Rattle.bson_tokens.specs.PutMembers.{KeysAscendFrom}
 use Rattle.bson_text.specs.declared.stop.Stop.{Stop}
 use Rattle.bson_text.specs.declared.stop.Stop.TheVariants.{OutOfMemory, DuplicateKey, GaveUp, Syntax, Fault}
 
@@ -47,7 +47,7 @@ MayStopAt Leaves x e = IsStopBy (Unit {0}) ((D : Doubles) → writable_scalar_in
 -- When a document of these keys ends, it may report that two of them are equal. A sorting writer may give up keys
 -- that do not ascend.
 abbrev pub MayStopAtEnd : (Doubles → Type 0) → Type 0 → List (List ℕ) → Stop → Type 0
-MayStopAtEnd Leaves Sorts keys e = IsStopBy (AreDistinct keys) ((Sorts → KeysAscendAfter None keys) → (D : Doubles) → Leaves D) e
+MayStopAtEnd Leaves Sorts keys e = IsStopBy (AreDistinct keys) ((Sorts → KeysAscendFrom None keys) → (D : Doubles) → Leaves D) e
 
 -- A fault becomes a text that was given up.
 abbrev pub IsStopAfter : Stop → Stop → Type 0

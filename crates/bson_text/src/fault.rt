@@ -3,8 +3,8 @@ ghost use Rattle.std.specs.Prelude.{IfErr, IfOk, List, ℕ};
 ghost use Rattle.serde_json.specs.Read.{read};
 ghost use Rattle.bson_tokens.specs.Normalized.{IsNormalizedText};
 ghost use Rattle.bson_tokens.specs.declared.arrangement.Arrangement.TheVariants.{Ascending};
-ghost use Rattle.bson_tokens.specs.Parts.{InvalidMeansNone};
-ghost use Rattle.bson_tokens.specs.TextPlaces.{IsTextPlaceIn};
+ghost use Rattle.bson_tokens.specs.ReadOutcomes.{InvalidIfNotRead};
+ghost use Rattle.bson_tokens.specs.TextErrors.{IsTextPlaceIn};
 
 use crate::nothing::check_text;
 use crate::stop::Stop;
@@ -35,7 +35,7 @@ use std::alloc::{AllocError, Global};
 /// ```
 pub fn first_fault_in(alloc: Global, doubles: Doubles, text: &str) -> Result<Option<Place>, Error>
     ensures place { IfOk result (λ found. IsTextPlaceIn doubles text.now found) }
-    ensures broken { IfErr result (InvalidMeansNone (read text.now)) }
+    ensures broken { IfErr result (InvalidIfNotRead (read text.now)) }
 {
     let normalized = normalize_text(alloc, Arrangement::Ascending, text)?;
     Ok(first_fault_of_normalized(alloc, doubles, normalized.as_str())?)

@@ -124,7 +124,7 @@ pub fn show_text_in_order(
     ensures utf8 { IfOk result (λ written. IsUtf8 written.items) }
     ensures accepts { IfErr result (IsRefusedText doubles ⊥ ⊤ text.now) }
 {
-    show_by(alloc, doubles, Arrangement::FirstPlaces, text, scratch)
+    show_by(alloc, doubles, Arrangement::FirstPositions, text, scratch)
 }
 
 fn show_by(

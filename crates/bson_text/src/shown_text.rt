@@ -114,7 +114,7 @@ impl ShownWriter {
 
     // Ends a document, and keeps its members in input order. Rejects a duplicate key.
     fn end_in_order(&mut self, mark: Mark, keys: &mut [&str]) -> Result<(), Stop>
-        requires first_places { self.old.arrangement ≡ arrangement.FirstPlaces }
+        requires first_places { self.old.arrangement ≡ arrangement.FirstPositions }
         ensures written { OnOk result ((start : ShownWriter) (mid : ShownWriter) (ps : Pairs) → DisplayBegun start mark mid
             → PairsWritten (λ a k v b. DisplayValueAdded a v b) DisplayKeyAdded ps mid self.old
             → keys_of ps ≡ map (λ k. k.now) keys.old → DisplayPairsAdded start (each_key_once ps) self.new) }
@@ -217,7 +217,7 @@ impl ValueWriter for ShownWriter {
 
     fn end(&mut self, mark: Mark, keys: &mut [&str]) -> Result<(), Stop> {
         match self.arrangement {
-            Arrangement::FirstPlaces => self.end_in_order(mark, keys),
+            Arrangement::FirstPositions => self.end_in_order(mark, keys),
             Arrangement::Ascending => self.end_sorted(mark, keys),
         }
     }

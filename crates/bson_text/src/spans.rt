@@ -9,7 +9,7 @@ ghost use Rattle.std.specs.Ordering.{nat_cmp};
 ghost use Rattle.bson_text.specs.Heads.{head, head_start};
 ghost use Rattle.bson_text.specs.MemberSpans.{end_before, spans_from, span_or, key_or, picked, has_first};
 ghost use Rattle.bson_text.specs.MemberSpans.{ArePlacesByKey, InOrder, IsBraced, IsObjectWritten, IsJoinedText, IsOpenObject, IsSpanWithin};
-ghost use Rattle.bson_tokens.specs.PutSpans.{KeysAscendAfter, Follows};
+ghost use Rattle.bson_tokens.specs.PutMembers.{KeysAscendFrom, KeyFollows};
 ghost use Rattle.bson_text.specs.Stops.{MayStopAtEnd};
 ghost use Rattle.bson_model.specs.StableOrder.{IsStableByKey};
 ghost use Rattle.serde_json.specs.Written.{comma_if};
@@ -88,7 +88,7 @@ fn memory_for(members: usize, length: usize) -> usize {
 }
 
 fn ascend(keys: &[&str]) -> bool
-    ensures { (result ≡ true) ↔ KeysAscendAfter None (map (λ k. k.now) keys.now) }
+    ensures { (result ≡ true) ↔ KeysAscendFrom None (map (λ k. k.now) keys.now) }
 {
     let mut last: Option<&str> = None;
     for at in 0..keys.len() {
@@ -103,7 +103,7 @@ fn ascend(keys: &[&str]) -> bool
 
 // The key is greater than the last one, by bytes.
 fn follows(last: Option<&str>, key: &str) -> bool
-    ensures { (result ≡ true) ↔ Follows (option_map (λ s. s.now) last.entry) key.now }
+    ensures { (result ≡ true) ↔ KeyFollows (option_map (λ s. s.now) last.entry) key.now }
 {
     match last {
         Some(last) => last.cmp(key).is_lt(),

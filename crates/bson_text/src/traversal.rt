@@ -16,7 +16,7 @@ use bson_scalar::form::Doubles;
 use bson_scalar::scalar::Scalar;
 use bson_scalar::wrapper::{Wrapper, wrapper_named};
 use bson_tokens::MAX_DEPTH;
-use bson_tokens::held::read_held;
+use bson_tokens::wrapper_content::read_wrapper_content;
 use bson_tree::shape::{CODE_MESSAGE, other_keys_reason};
 use itoa::Buffer;
 use json::{Reader, Scratch, Token};
@@ -322,7 +322,7 @@ impl<'a, W: ValueWriter> Traversal<'a, W> {
         ensures fails { IfErr result (λ e. ObjectStops level.doubles (W.leaves level.doubles) W.sorts e
             (from_key level.depth (Some key.now) self.old.reader) self.new.reader) }
     {
-        let held = read_held(level.alloc, &mut self.reader, level.depth)?;
+        let held = read_wrapper_content(level.alloc, &mut self.reader, level.depth)?;
         let Some(other) = self.reader.next_key()? else {
             let value = read_scalar(level, wrapper, held, key)?;
             return self.out.scalar(name, value);

@@ -4,9 +4,9 @@ use Rattle.std.proofs.Common.{Option, Some, None, Vec, Global}
 use Rattle.std.specs.Prelude.{MatchOption}
 use Rattle.std.proofs.lemmas.List.{length-append, take-append-le}
 use Rattle.std.proofs.Math.Seq.{take-length}
-use Rattle.bson_tokens.specs.Normalizing.{Entry, SpansNormalized, EntriesAreKept, KeptNormalized}
+use Rattle.bson_tokens.specs.NormalizerStates.{JsonMember, SpansNormalized, SpansMatch, SpansMatchNormalized}
 use Rattle.bson_tokens.specs.declared.arrangement.Arrangement.{Arrangement}
-use Rattle.bson_tokens.specs.declared.order.MemberSpan.{MemberSpan}
+use Rattle.bson_tokens.specs.declared.member_order.MemberSpan.{MemberSpan}
 use Rattle.bson_tokens.proofs.Standing.{slice_between}
 
 pub body_is : (text all front body : List ℕ) (start : ℕ) → text ≡ front ++ body → start ≡ length front → all ≡ text
@@ -27,14 +27,14 @@ nothing_there None none = refl
 nothing_there (Some t) none = absurd (none t refl)
 
 pub normalized_anew : (a : Arrangement) (body : List ℕ) (old new : List MemberSpan) (text : Option (Vec ℕ Global)) (t : Vec ℕ Global)
-    → text ≡ Some t → (es : List Entry) → EntriesAreKept body old es → SpansNormalized a body old new text
-    → KeptNormalized a es t.items new
+    → text ≡ Some t → (es : List JsonMember) → SpansMatch body old es → SpansNormalized a body old new text
+    → SpansMatchNormalized a es t.items new
 normalized_anew a body old new text t is es stand h =
-    subst (λ o. MatchOption o (KeptNormalized a es body new) (λ u. KeptNormalized a es u.items new)) is (h es stand)
+    subst (λ o. MatchOption o (SpansMatchNormalized a es body new) (λ u. SpansMatchNormalized a es u.items new)) is (h es stand)
 
 pub stays_normalized : (a : Arrangement) (body : List ℕ) (old new : List MemberSpan) (text : Option (Vec ℕ Global))
-    → ((t : Vec ℕ Global) → text ≡ Some t → ⊥) → (es : List Entry) → EntriesAreKept body old es → SpansNormalized a body old new text
-    → KeptNormalized a es body new
+    → ((t : Vec ℕ Global) → text ≡ Some t → ⊥) → (es : List JsonMember) → SpansMatch body old es → SpansNormalized a body old new text
+    → SpansMatchNormalized a es body new
 stays_normalized a body old new text none es stand h =
-    subst (λ o. MatchOption o (KeptNormalized a es body new) (λ u. KeptNormalized a es u.items new))
+    subst (λ o. MatchOption o (SpansMatchNormalized a es body new) (λ u. SpansMatchNormalized a es u.items new))
     (nothing_there text none) (h es stand)

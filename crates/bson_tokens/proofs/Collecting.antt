@@ -5,7 +5,7 @@ use Rattle.json.specs.Json.{read_key, value}
 use Rattle.json.proofs.Grammar.{read_key-shorter}
 use Rattle.serde_json.specs.Data.{Data, Members, put}
 use Rattle.serde_json.specs.Read.{of_json, converted}
-use Rattle.bson_tokens.specs.Parts.{MembersAre, ReadsNoMembers}
+use Rattle.bson_tokens.specs.ReadOutcomes.{MembersAre, ReadsNoMembers}
 use Rattle.bson_tokens.proofs.HeldRounds.{more_members, no_more_members, no_members_behind}
 
 -- from the start of the members, beside old ones, up to here

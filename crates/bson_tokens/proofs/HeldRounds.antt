@@ -9,7 +9,7 @@ use Rattle.json.proofs.Grammar.{items_end, items_more, members_end, members_more
 use Rattle.json.proofs.Grammar.{read_key-shorter, items_fail, members_no_key, members_fail}
 use Rattle.serde_json.specs.Data.{Data, no_items, item, Members, put}
 use Rattle.serde_json.specs.Read.{of_json, of_items, of_members, converted}
-use Rattle.bson_tokens.specs.Parts.{MembersAre, ReadsNoMembers}
+use Rattle.bson_tokens.specs.ReadOutcomes.{MembersAre, ReadsNoMembers}
 
 -- what holds of a value that was read has what follows from it
 pub if_ok : {X E : Type 0} {P Q : X → Type 0} (r : Result X E) → IfOk r P → ((x : X) → P x → Q x) → IfOk r Q

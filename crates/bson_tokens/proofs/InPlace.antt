@@ -17,8 +17,8 @@ use Rattle.std.specs.Ordering.{is_lt, ordering_then}
 use Rattle.std.specs.Str.{bytes_eq}
 use Rattle.json.specs.Json.{Json, null}
 use Rattle.bson_model.specs.StableOrder.{IsStableByKey, have_equal_keys}
-use Rattle.bson_tokens.specs.PutSpans.{Rise, members_of}
-use Rattle.bson_tokens.specs.declared.arrangement.Arrangement.TheVariants.{FirstPlaces}
+use Rattle.bson_tokens.specs.PutMembers.{PositionsAscend, members_of}
+use Rattle.bson_tokens.specs.declared.arrangement.Arrangement.TheVariants.{FirstPositions}
 use Rattle.bson_tokens.proofs.Normalizing.{cmp, AreBehind, IsNormalized}
 use Rattle.bson_tokens.proofs.MemberSpans.{same_key, own_key, turned}
 use Rattle.bson_tokens.proofs.Settled.{NoneLower, Sorted, sorted_from, all_behind, differ_permuted}
@@ -47,10 +47,10 @@ module _ {M : Type 0} (key_of : M → List ℕ) (place_of : M → ℕ) where
   nothing m = null
 
   abbrev Differ : List M → Type 0
-  Differ ms = IsNormalized FirstPlaces (members_of mark nothing ms)
+  Differ ms = IsNormalized FirstPositions (members_of mark nothing ms)
 
   abbrev AreApart : List ℕ → List M → Type 0
-  AreApart q ms = AreBehind FirstPlaces q (members_of mark nothing ms)
+  AreApart q ms = AreBehind FirstPositions q (members_of mark nothing ms)
 
   abbrev pick : List ℕ → List M → Option M
   pick q [] = None
@@ -64,14 +64,14 @@ module _ {M : Type 0} (key_of : M → List ℕ) (place_of : M → ℕ) where
 
   -- ---- what rises differs
 
-  apart : (n lowest : ℕ) (ms : List M) → n < lowest → Rise place_of lowest ms → AreApart (n ∷ []) ms
+  apart : (n lowest : ℕ) (ms : List M) → n < lowest → PositionsAscend place_of lowest ms → AreApart (n ∷ []) ms
   apart n lowest [] less up = tt
   apart n lowest (m ∷ ms) less up = (
     apart_at _ n (place_of m) refl (omega (arith, less, up.0)),
     apart n (place_of m + 1) ms (omega (arith, less, up.0)) up.1,
   )
 
-  differ : (lowest : ℕ) (ms : List M) → Rise place_of lowest ms → Differ ms
+  differ : (lowest : ℕ) (ms : List M) → PositionsAscend place_of lowest ms → Differ ms
   differ lowest [] up = tt
   differ lowest (m ∷ ms) up =
       (apart (place_of m) (place_of m + 1) ms (omega arith) up.1, differ (place_of m + 1) ms up.1)
@@ -202,12 +202,12 @@ module _ {M : Type 0} (key_of : M → List ℕ) (place_of : M → ℕ) where
   same_lists (m ∷ ms) (n ∷ ns) up rise mine others same =
       heads_at _ m n ms ns refl up rise mine others same (same_lists ms ns up.1 rise.1 mine.1 others.1)
 
-  from_more : (n lowest : ℕ) (ms : List M) → n ≤ lowest → Rise place_of lowest ms → FromPlace n ms
+  from_more : (n lowest : ℕ) (ms : List M) → n ≤ lowest → PositionsAscend place_of lowest ms → FromPlace n ms
   from_more n lowest [] le up = tt
   from_more n lowest (m ∷ ms) le up =
       (omega (arith, le, up.0), from_more n (place_of m + 1) ms (omega (arith, le, up.0)) up.1)
 
-  never_fall : (lowest : ℕ) (ms : List M) → Rise place_of lowest ms → NeverFall ms
+  never_fall : (lowest : ℕ) (ms : List M) → PositionsAscend place_of lowest ms → NeverFall ms
   never_fall lowest [] up = tt
   never_fall lowest (m ∷ ms) up =
       (from_more (place_of m) (place_of m + 1) ms (omega arith) up.1, never_fall (place_of m + 1) ms up.1)
@@ -271,7 +271,7 @@ module _ {M : Type 0} (key_of : M → List ℕ) (place_of : M → ℕ) where
   order : IsTotalOrder (λ (x y : M). ordering_then (cmp (key_of x) (key_of y)) (nat_cmp (place_of x) (place_of y)))
   order = then_total (on_total key_of nat_list_cmp_total) (on_total place_of nat_cmp_total)
 
-  pub stable_by_place : (xs ys : List M) (lowest : ℕ) → Rise place_of lowest xs → IsPermutation xs ys
+  pub stable_by_place : (xs ys : List M) (lowest : ℕ) → PositionsAscend place_of lowest xs → IsPermutation xs ys
       → IsSortedBy before ys → IsStableByKey key_of xs ys × IsSortedByKey key_of (slice_cmp nat_cmp) ys
   stable_by_place xs ys lowest rise same sorted =
       let up = sorted_from before ys (sorted_far before (ranks_by order (λ m. m)) ys sorted) in

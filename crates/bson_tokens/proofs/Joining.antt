@@ -6,10 +6,10 @@ use Rattle.std.proofs.Math.Seq.{drop-cons, take-suc, take-length}
 use Rattle.std.proofs.lemmas.List.{map-append, take_more_set}
 use Rattle.std.specs.List.{All}
 use Rattle.serde_json.specs.Written.{comma_if}
-use Rattle.bson_tokens.specs.Normalizing.{IsSpan, IsMemberSpanWithin, EntriesAreKept, MemberSpanValues, entry_at, member_text, merge}
-use Rattle.bson_tokens.specs.Normalizing.{member_span_key, member_span_text, any_kept}
-use Rattle.bson_tokens.specs.PutSpans.{merged, merged_from}
-use Rattle.bson_tokens.specs.declared.order.MemberSpan.{MemberSpan}
+use Rattle.bson_tokens.specs.NormalizerStates.{IsSpan, IsMemberSpanWithin, SpansMatch, MemberSpanValues, entry_at, member_text, merge}
+use Rattle.bson_tokens.specs.NormalizerStates.{member_span_key, member_span_text, is_nonempty}
+use Rattle.bson_tokens.specs.PutMembers.{merged, merged_from}
+use Rattle.bson_tokens.specs.declared.member_order.MemberSpan.{MemberSpan}
 use Rattle.bson_tokens.proofs.Ordered.{some_taken}
 use Rattle.bson_tokens.proofs.Standing.{stand_more}
 
@@ -45,34 +45,34 @@ one_taken values all at p less is =
 -- one more is joined
 pub span_joined : (body : List ℕ) (all now : List MemberSpan) (at : ℕ) (p q : MemberSpan) (values : MemberSpanValues) (old mid later : List ℕ)
     → at < length all → drop at all ≡ p ∷ drop (at + 1) all → All (IsSpan body values) all
-    → EntriesAreKept old (take at now) (map (entry_at values) (take at all)) → mid ≡ old ++ comma_if (nat_lt 0 at)
+    → SpansMatch old (take at now) (map (entry_at values) (take at all)) → mid ≡ old ++ comma_if (nat_lt 0 at)
     → later ≡ mid ++ member_span_text body p → member_span_key q ≡ member_span_key p → q.place ≡ q.start → q.start ≡ length mid
     → q.end ≡ length later → length now ≡ length all
-    → EntriesAreKept later (take (at + 1) (set now at q)) (map (entry_at values) (take (at + 1) all))
+    → SpansMatch later (take (at + 1) (set now at q)) (map (entry_at values) (take (at + 1) all))
 span_joined body all now at p q values old mid later less is spans stand comma text key place start end long =
     let es = map (entry_at values) (take at all) in
     let j = values p.start in
     let here : IsSpan body values p = subst (IsSpan body values) (at_left all at p less is) (spans at p less) in
-    let some : nat_lt 0 at ≡ any_kept es = some_taken values at all (omega (arith, less)) in
-    let begun : mid ≡ old ++ comma_if (any_kept es) = comma ∙ ap (λ b. old ++ comma_if b) some in
+    let some : nat_lt 0 at ≡ is_nonempty es = some_taken values at all (omega (arith, less)) in
+    let begun : mid ≡ old ++ comma_if (is_nonempty es) = comma ∙ ap (λ b. old ++ comma_if b) some in
     let own : member_span_text body p ≡ member_text (member_span_key q, j) = here.1 ∙ ap (λ k. member_text (k, j)) (sym key) in
-    let whole : later ≡ old ++ (comma_if (any_kept es) ++ member_text (member_span_key q, j)) =
-    text ∙ ap (λ l. l ++ member_span_text body p) begun ∙ ap (λ l. (old ++ comma_if (any_kept es)) ++ l) own
-    ∙ append_assoc old (comma_if (any_kept es)) (member_text (member_span_key q, j)) in
+    let whole : later ≡ old ++ (comma_if (is_nonempty es) ++ member_text (member_span_key q, j)) =
+    text ∙ ap (λ l. l ++ member_span_text body p) begun ∙ ap (λ l. (old ++ comma_if (is_nonempty es)) ++ l) own
+    ∙ append_assoc old (comma_if (is_nonempty es)) (member_text (member_span_key q, j)) in
     let more = stand_more old (take at now) es q j stand (start ∙ ap length begun) place (end ∙ ap length whole) in
     let inside : at < length now = omega (arith, less, long) in
-    let all_text = old ++ (comma_if (any_kept es) ++ member_text (member_span_key q, j)) in
-    subst (λ t. EntriesAreKept t (take (at + 1) (set now at q)) (map (entry_at values) (take (at + 1) all))) (sym whole)
-    (subst (λ ps. EntriesAreKept all_text ps (map (entry_at values) (take (at + 1) all))) (sym (take_more_set now at q inside))
-    (subst (λ fs. EntriesAreKept all_text (take at now ++ q ∷ []) fs)
+    let all_text = old ++ (comma_if (is_nonempty es) ++ member_text (member_span_key q, j)) in
+    subst (λ t. SpansMatch t (take (at + 1) (set now at q)) (map (entry_at values) (take (at + 1) all))) (sym whole)
+    (subst (λ ps. SpansMatch all_text ps (map (entry_at values) (take (at + 1) all))) (sym (take_more_set now at q inside))
+    (subst (λ fs. SpansMatch all_text (take at now ++ q ∷ []) fs)
     (ap (λ k. es ++ (k, j) ∷ []) key ∙ sym (one_taken values all at p less is)) more))
 
 pub all_taken : (all now : List MemberSpan) (at : ℕ) (values : MemberSpanValues) (text : List ℕ) → at ≡ length all
-    → length now ≡ length all → EntriesAreKept text (take at now) (map (entry_at values) (take at all))
-    → EntriesAreKept text now (map (entry_at values) all)
+    → length now ≡ length all → SpansMatch text (take at now) (map (entry_at values) (take at all))
+    → SpansMatch text now (map (entry_at values) all)
 all_taken all now at values text end long stand =
-    subst (λ ps. EntriesAreKept text ps (map (entry_at values) all)) (ap (λ n. take n now) (end ∙ sym long) ∙ take-length now)
-    (subst (λ ps. EntriesAreKept text (take at now) (map (entry_at values) ps)) (ap (λ n. take n all) end ∙ take-length all) stand)
+    subst (λ ps. SpansMatch text ps (map (entry_at values) all)) (ap (λ n. take n now) (end ∙ sym long) ∙ take-length now)
+    (subst (λ ps. SpansMatch text (take at now) (map (entry_at values) ps)) (ap (λ n. take n all) end ∙ take-length all) stand)
 
 -- ---- those of one key
 

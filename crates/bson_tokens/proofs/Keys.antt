@@ -8,23 +8,23 @@ use Rattle.std.proofs.lemmas.Slice.Eq.{bytes_eq-Decides}
 use Rattle.std.specs.BTreeSet.{BTreeSet, contains, IsEmpty, Updates}
 use Rattle.std.specs.Cmp.Lexicographic.{slice_cmp}
 use Rattle.std.specs.List.{Contains, list_any}
-use Rattle.bson_tokens.specs.Found.{stands_among}
+use Rattle.bson_tokens.specs.DuplicateKeyPath.{is_among}
 
 pub apart : (a b : List ℕ) → bytes_eq a b ≡ false → a ≢ b
 apart a b other e = let same = (bytes_eq-Decides a b).1 e in cc
 
 -- ---- keys of a list
 
-pub stands : (before : List (List ℕ)) (k : List ℕ) → stands_among before k ≡ true → Contains before k
+pub stands : (before : List (List ℕ)) (k : List ℕ) → is_among before k ≡ true → Contains before k
 stands before k is =
     Contains-from_any {eq = λ q l. bytes_eq l q} (λ x y e. sym ((bytes_eq-Decides y x).0 e)) k before is
 
-pub turned : (before : List (List ℕ)) (k : List ℕ) → stands_among before k ≡ list_any (λ l. bytes_eq k l) before
+pub turned : (before : List (List ℕ)) (k : List ℕ) → is_among before k ≡ list_any (λ l. bytes_eq k l) before
 turned [] k = refl
-turned (l ∷ before) k = ap (λ b. b || stands_among before k) (nat_list_eq_equiv.symm l k)
+turned (l ∷ before) k = ap (λ b. b || is_among before k) (nat_list_eq_equiv.symm l k)
     ∙ ap (λ b. bytes_eq k l || b) (turned before k)
 
-pub stands_not : (before : List (List ℕ)) (k : List ℕ) → stands_among before k ≡ false → ¬ (Contains before k)
+pub stands_not : (before : List (List ℕ)) (k : List ℕ) → is_among before k ≡ false → ¬ (Contains before k)
 stands_not before k is has = true≢false
     (sym (turned before k ∙ list_any-from_Contains {eq = bytes_eq} nat_list_eq_equiv k before has) ∙ is)
 
@@ -35,7 +35,7 @@ by_bytes a b = slice_cmp nat_cmp a.now b.now
 
 -- the set has these keys
 abbrev pub Holds : BTreeSet (Bor (List ℕ)) → List (List ℕ) → Type 0
-Holds keys before = (q : Bor (List ℕ)) → contains by_bytes keys q ≡ stands_among before q.now
+Holds keys before = (q : Bor (List ℕ)) → contains by_bytes keys q ≡ is_among before q.now
 
 pub holds_none : (keys : BTreeSet (Bor (List ℕ))) → IsEmpty keys → Holds keys []
 holds_none keys none q = ap (list_any (λ k. is_eq (by_bytes q k))) none
@@ -48,8 +48,8 @@ pub holds_more : (old new : BTreeSet (Bor (List ℕ))) (k : Bor (List ℕ)) (bef
     → Updates by_bytes old new k true → Holds new (k.now ∷ before)
 holds_more old new k before holds updates q =
     updates.0 q ∙ ap (λ b. cond b true (contains by_bytes old q)) (is_eq-slice_cmp k.now q.now)
-    ∙ ap (cond (bytes_eq k.now q.now) true) (holds q) ∙ either (bytes_eq k.now q.now) (stands_among before q.now)
+    ∙ ap (cond (bytes_eq k.now q.now) true) (holds q) ∙ either (bytes_eq k.now q.now) (is_among before q.now)
 
 pub is_new : (old : BTreeSet (Bor (List ℕ))) (k : Bor (List ℕ)) (before : List (List ℕ)) (b : Bool) → Holds old before
-    → b ≡ not (contains by_bytes old k) → b ≡ not (stands_among before k.now)
+    → b ≡ not (contains by_bytes old k) → b ≡ not (is_among before k.now)
 is_new old k before b holds added = added ∙ ap not (holds k)

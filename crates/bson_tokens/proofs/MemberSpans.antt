@@ -6,10 +6,10 @@ use Rattle.std.proofs.lemmas.Cmp.{nat_list_eq_equiv}
 use Rattle.std.proofs.lemmas.Slice.Eq.{bytes_eq-Decides}
 use Rattle.std.specs.Str.{bytes_eq}
 use Rattle.json.specs.Json.{Json, Members, member}
-use Rattle.bson_tokens.specs.Normalized.{put_first}
+use Rattle.bson_tokens.specs.Normalized.{put_at_first_position}
 use Rattle.bson_model.specs.StableOrder.{IsStableByKey}
-use Rattle.bson_tokens.specs.PutSpans.{Rise, members_of, put_each_by, merged, merged_from}
-use Rattle.bson_tokens.specs.declared.arrangement.Arrangement.TheVariants.{FirstPlaces}
+use Rattle.bson_tokens.specs.PutMembers.{PositionsAscend, members_of, put_all_members, merged, merged_from}
+use Rattle.bson_tokens.specs.declared.arrangement.Arrangement.TheVariants.{FirstPositions}
 use Rattle.bson_tokens.proofs.Normalizing.{AreBehind, IsNormalized}
 
 pub same_key : (k l : List ℕ) → bytes_eq k l ≡ true → k ≡ l
@@ -23,37 +23,37 @@ pub turned : (k l : List ℕ) → bytes_eq l k ≡ false → bytes_eq k l ≡ fa
 turned k l differ = nat_list_eq_equiv.symm k l ∙ differ
 
 module _ {M : Type 0} (key_of : M → List ℕ) (place_of : M → ℕ) (value_of : M → Json) where
-  abbrev pub Entry : Type 0
-  Entry = ℕ × Json
+  abbrev pub JsonMember : Type 0
+  JsonMember = ℕ × Json
 
-  abbrev pub entry : M → Entry
+  abbrev pub entry : M → JsonMember
   entry m = (place_of m, value_of m)
 
   -- the place of the first, and the value of the last
-  abbrev pub after : Option Entry → Option Entry → Option Entry
+  abbrev pub after : Option JsonMember → Option JsonMember → Option JsonMember
   after None s = s
   after (Some e) None = Some e
   after (Some e) (Some f) = Some (e.0, f.1)
 
   -- what stands at the key, if it does
-  abbrev pub at_key : List ℕ → M → Option Entry
-  at_key q m = cond (bytes_eq q (key_of m)) (Some (entry m)) None
+  abbrev pub member_path : List ℕ → M → Option JsonMember
+  member_path q m = cond (bytes_eq q (key_of m)) (Some (entry m)) None
 
   -- the key's first place in the list, and its last value
-  abbrev pub seen : List ℕ → List M → Option Entry
+  abbrev pub seen : List ℕ → List M → Option JsonMember
   seen q [] = None
-  seen q (m ∷ ms) = after (at_key q m) (seen q ms)
+  seen q (m ∷ ms) = after (member_path q m) (seen q ms)
 
   -- the first that has the key
-  abbrev pub first : List ℕ → List M → Option Entry
+  abbrev pub first : List ℕ → List M → Option JsonMember
   first q [] = None
   first q (m ∷ ms) = cond (bytes_eq q (key_of m)) (Some (entry m)) (first q ms)
 
-  after_none : (s : Option Entry) → after s None ≡ s
+  after_none : (s : Option JsonMember) → after s None ≡ s
   after_none None = refl
   after_none (Some e) = refl
 
-  after_after : (a b c : Option Entry) → after (after a b) c ≡ after a (after b c)
+  after_after : (a b c : Option JsonMember) → after (after a b) c ≡ after a (after b c)
   after_after None b c = refl
   after_after (Some e) None c = refl
   after_after (Some e) (Some f) None = refl
@@ -104,7 +104,7 @@ module _ {M : Type 0} (key_of : M → List ℕ) (place_of : M → ℕ) (value_of
       (merge_place : (m n : M) → place_of (merge m n) ≡ place_of m)
       (merge_value : (m n : M) → value_of (merge m n) ≡ value_of n) where
     merge_at : (b : Bool) (q : List ℕ) (m n : M) → bytes_eq q (key_of m) ≡ b → key_of n ≡ key_of m
-        → at_key q (merge m n) ≡ after (at_key q m) (at_key q n)
+        → member_path q (merge m n) ≡ after (member_path q m) (member_path q n)
     merge_at true q m n h same = rw (merge_key m n, same, h) (rw (merge_place m n, merge_value m n) refl)
     merge_at false q m n h same = rw (merge_key m n, same, h) refl
 
@@ -115,8 +115,8 @@ module _ {M : Type 0} (key_of : M → List ℕ) (place_of : M → ℕ) (value_of
         ≡ seen q (m ∷ n ∷ ns)
     merged_at true q m n ns h one other =
         one ∙ ap (λ s. after s (seen q ns)) (merge_at _ q m n refl (same_key (key_of n) (key_of m) h))
-        ∙ after_after (at_key q m) (at_key q n) (seen q ns)
-    merged_at false q m n ns h one other = ap (after (at_key q m)) other
+        ∙ after_after (member_path q m) (member_path q n) (seen q ns)
+    merged_at false q m n ns h one other = ap (after (member_path q m)) other
 
     seen_merged_from : (q : List ℕ) (m : M) (ns : List M) → seen q (merged_from key_of merge m ns) ≡ seen q (m ∷ ns)
     seen_merged_from q m [] = refl
@@ -131,14 +131,14 @@ module _ {M : Type 0} (key_of : M → List ℕ) (place_of : M → ℕ) (value_of
   -- ---- where each key stands once
 
   abbrev pub DifferByKey : List M → Type 0
-  DifferByKey ms = IsNormalized FirstPlaces (members_of key_of value_of ms)
+  DifferByKey ms = IsNormalized FirstPositions (members_of key_of value_of ms)
 
-  none_at : (q : List ℕ) (ms : List M) → AreBehind FirstPlaces q (members_of key_of value_of ms) → seen q ms ≡ None
+  none_at : (q : List ℕ) (ms : List M) → AreBehind FirstPositions q (members_of key_of value_of ms) → seen q ms ≡ None
   none_at q [] are = refl
   none_at q (m ∷ ms) are = rw (turned q (key_of m) are.0) (none_at q ms are.1)
 
   first_is_at : (b : Bool) (q : List ℕ) (m : M) (ms : List M) → bytes_eq q (key_of m) ≡ b
-      → AreBehind FirstPlaces (key_of m) (members_of key_of value_of ms) → first q ms ≡ seen q ms
+      → AreBehind FirstPositions (key_of m) (members_of key_of value_of ms) → first q ms ≡ seen q ms
       → first q (m ∷ ms) ≡ seen q (m ∷ ms)
   first_is_at true q m ms h are is =
       let none : seen q ms ≡ None =
@@ -187,25 +187,25 @@ module _ {M : Type 0} (key_of : M → List ℕ) (place_of : M → ℕ) (value_of
     members = members_of key_of value_of
 
     one_member_at : (b : Bool) (m n : M) (ns : List M)
-        → members (put_one m ns) ≡ put_first (key_of m) (value_of m) (members ns)
+        → members (put_one m ns) ≡ put_at_first_position (key_of m) (value_of m) (members ns)
         → members (cond b (merge n m ∷ ns) (n ∷ put_one m ns))
         ≡ cond b (member (key_of n) (value_of m) (members ns))
-        (member (key_of n) (value_of n) (put_first (key_of m) (value_of m) (members ns)))
+        (member (key_of n) (value_of n) (put_at_first_position (key_of m) (value_of m) (members ns)))
     one_member_at true m n ns is = rw (merge_key n m, merge_value n m) refl
     one_member_at false m n ns is = ap (member (key_of n) (value_of n)) is
 
-    one_member : (m : M) (ns : List M) → members (put_one m ns) ≡ put_first (key_of m) (value_of m) (members ns)
+    one_member : (m : M) (ns : List M) → members (put_one m ns) ≡ put_at_first_position (key_of m) (value_of m) (members ns)
     one_member m [] = refl
     one_member m (n ∷ ns) = one_member_at (bytes_eq (key_of m) (key_of n)) m n ns (one_member m ns)
 
     pub all_members : (ms found : List M)
-        → members (put_all ms found) ≡ put_each_by key_of value_of FirstPlaces ms (members found)
+        → members (put_all ms found) ≡ put_all_members key_of value_of FirstPositions ms (members found)
     all_members [] found = refl
     all_members (m ∷ ms) found =
-        all_members ms (put_one m found) ∙ ap (put_each_by key_of value_of FirstPlaces ms) (one_member m found)
+        all_members ms (put_one m found) ∙ ap (put_all_members key_of value_of FirstPositions ms) (one_member m found)
 
     same_at : (b : Bool) (q : List ℕ) (m n : M) (ns : List M) → bytes_eq q (key_of n) ≡ b → key_of m ≡ key_of n
-        → first q (merge n m ∷ ns) ≡ after (first q (n ∷ ns)) (at_key q m)
+        → first q (merge n m ∷ ns) ≡ after (first q (n ∷ ns)) (member_path q m)
     same_at true q m n ns h same = rw (merge_key n m, same, h) (rw (merge_place n m, merge_value n m) refl)
     same_at false q m n ns h same = rw (merge_key n m, same, h) (sym (after_none (first q ns)))
 
@@ -215,8 +215,8 @@ module _ {M : Type 0} (key_of : M → List ℕ) (place_of : M → ℕ) (value_of
         let yes : bytes_eq m n ≡ true = (bytes_eq-Decides m n).1 (sym (same_key q m h) ∙ is) in cc
 
     other_at : (b : Bool) (q : List ℕ) (m n : M) (ns : List M) → bytes_eq q (key_of n) ≡ b
-        → bytes_eq (key_of m) (key_of n) ≡ false → first q (put_one m ns) ≡ after (first q ns) (at_key q m)
-        → first q (n ∷ put_one m ns) ≡ after (first q (n ∷ ns)) (at_key q m)
+        → bytes_eq (key_of m) (key_of n) ≡ false → first q (put_one m ns) ≡ after (first q ns) (member_path q m)
+        → first q (n ∷ put_one m ns) ≡ after (first q (n ∷ ns)) (member_path q m)
     other_at true q m n ns h differ is =
         let none : bytes_eq q (key_of m) ≡ false =
         apart_at _ q (key_of m) (key_of n) refl (same_key q (key_of n) h) differ in
@@ -224,12 +224,12 @@ module _ {M : Type 0} (key_of : M → List ℕ) (place_of : M → ℕ) (value_of
     other_at false q m n ns h differ is = rw h is
 
     first_put_at : (b : Bool) (q : List ℕ) (m n : M) (ns : List M) → bytes_eq (key_of m) (key_of n) ≡ b
-        → first q (put_one m ns) ≡ after (first q ns) (at_key q m)
-        → first q (cond b (merge n m ∷ ns) (n ∷ put_one m ns)) ≡ after (first q (n ∷ ns)) (at_key q m)
+        → first q (put_one m ns) ≡ after (first q ns) (member_path q m)
+        → first q (cond b (merge n m ∷ ns) (n ∷ put_one m ns)) ≡ after (first q (n ∷ ns)) (member_path q m)
     first_put_at true q m n ns h is = same_at _ q m n ns refl (same_key (key_of m) (key_of n) h)
     first_put_at false q m n ns h is = other_at _ q m n ns refl h is
 
-    first_put : (q : List ℕ) (m : M) (ns : List M) → first q (put_one m ns) ≡ after (first q ns) (at_key q m)
+    first_put : (q : List ℕ) (m : M) (ns : List M) → first q (put_one m ns) ≡ after (first q ns) (member_path q m)
     first_put q m [] = refl
     first_put q m (n ∷ ns) = first_put_at (bytes_eq (key_of m) (key_of n)) q m n ns refl (first_put q m ns)
 
@@ -238,7 +238,7 @@ module _ {M : Type 0} (key_of : M → List ℕ) (place_of : M → ℕ) (value_of
     first_put_all q [] found = sym (after_none (first q found))
     first_put_all q (m ∷ ms) found =
         first_put_all q ms (put_one m found) ∙ ap (λ s. after s (seen q ms)) (first_put q m found)
-        ∙ after_after (first q found) (at_key q m) (seen q ms)
+        ∙ after_after (first q found) (member_path q m) (seen q ms)
 
     -- ---- their places rise
 
@@ -276,7 +276,7 @@ module _ {M : Type 0} (key_of : M → List ℕ) (place_of : M → ℕ) (value_of
     rising_put m (n ∷ ns) below were =
         rising_at (bytes_eq (key_of m) (key_of n)) m n ns below.0 were (rising_put m ns below.1 were.1)
 
-    pub rising_all : (lowest : ℕ) (ms found : List M) → Rise place_of lowest ms → AllBelow lowest found → Rising found
+    pub rising_all : (lowest : ℕ) (ms found : List M) → PositionsAscend place_of lowest ms → AllBelow lowest found → Rising found
         → Rising (put_all ms found)
     rising_all lowest [] found up below were = were
     rising_all lowest (m ∷ ms) found up below were =

@@ -10,10 +10,10 @@ use Rattle.std.specs.Ordering.{is_lt, match_ordering}
 use Rattle.std.specs.Str.{bytes_eq}
 use Rattle.json.specs.Json.{Json, Members, no_members, member}
 use Rattle.bson_model.specs.StableOrder.{IsStableByKey}
-use Rattle.bson_tokens.specs.Normalized.{put_ascending, put_by}
-use Rattle.bson_tokens.specs.PutSpans.{Rise, members_of, put_each_by, merged, merged_from}
+use Rattle.bson_tokens.specs.Normalized.{put_ascending, put_member}
+use Rattle.bson_tokens.specs.PutMembers.{PositionsAscend, members_of, put_all_members, merged, merged_from}
 use Rattle.bson_tokens.specs.declared.arrangement.Arrangement.{Arrangement}
-use Rattle.bson_tokens.specs.declared.arrangement.Arrangement.TheVariants.{FirstPlaces, Ascending}
+use Rattle.bson_tokens.specs.declared.arrangement.Arrangement.TheVariants.{FirstPositions, Ascending}
 use Rattle.bson_tokens.proofs.Normalizing.{cmp, flipped, AreBehind, IsNormalized, put_stays}
 use Rattle.bson_tokens.proofs.MemberSpans.{same_key, own_key, turned, entry, after, seen, first, seen_stable}
 use Rattle.bson_tokens.proofs.MemberSpans.{seen_merged, first_is_seen, put_all, all_members, first_put_all, rising_all}
@@ -158,7 +158,7 @@ module _ {M : Type 0} (key_of : M → List ℕ) (place_of : M → ℕ) (value_of
   over_at false e v s = refl
 
   value_puts : (q : List ℕ) (ms : List M) (found : Members)
-      → value_at q (put_each_by key_of value_of Ascending ms found)
+      → value_at q (put_all_members key_of value_of Ascending ms found)
       ≡ over (value_at q found) (value_in (place_and_value q ms))
   value_puts q [] found = refl
   value_puts q (m ∷ ms) found =
@@ -181,10 +181,10 @@ module _ {M : Type 0} (key_of : M → List ℕ) (place_of : M → ℕ) (value_of
       first_value_at (bytes_eq q (key_of m)) (entry key_of place_of value_of m) _ _ (first_value q ms)
 
   puts_normalize : (a : Arrangement) (ms : List M) (found : Members) → IsNormalized a found
-      → IsNormalized a (put_each_by key_of value_of a ms found)
+      → IsNormalized a (put_all_members key_of value_of a ms found)
   puts_normalize a [] found are = are
   puts_normalize a (m ∷ ms) found are =
-      puts_normalize a ms (put_by a (key_of m) (value_of m) found) (put_stays a (key_of m) (value_of m) found are)
+      puts_normalize a ms (put_member a (key_of m) (value_of m) found) (put_stays a (key_of m) (value_of m) found are)
 
   -- ---- merged
 
@@ -246,7 +246,7 @@ module _ {M : Type 0} (key_of : M → List ℕ) (place_of : M → ℕ) (value_of
       pub ascends : IsNormalized Ascending (members all)
       ascends = merged_ascends ys up
 
-      differ : IsNormalized FirstPlaces (members all)
+      differ : IsNormalized FirstPositions (members all)
       differ = normalized_either Ascending (members all) ascends
 
       same_seen : (q : List ℕ) → first key_of place_of value_of q all ≡ place_and_value q xs
@@ -256,22 +256,22 @@ module _ {M : Type 0} (key_of : M → List ℕ) (place_of : M → ℕ) (value_of
           ∙ seen_stable key_of place_of value_of xs ys stable q
 
       -- by ascending key
-      pub settled_by_key : members all ≡ put_each_by key_of value_of Ascending xs no_members
+      pub settled_by_key : members all ≡ put_all_members key_of value_of Ascending xs no_members
       settled_by_key =
-          same_members (members all) (put_each_by key_of value_of Ascending xs no_members) ascends
+          same_members (members all) (put_all_members key_of value_of Ascending xs no_members) ascends
           (puts_normalize Ascending xs no_members tt)
           (λ q. first_value q all ∙ ap value_in (same_seen q)
           ∙ sym (value_puts q xs no_members ∙ over_none (value_in (place_and_value q xs))))
 
       -- at the first places
-      pub settled_by_place : (zs : List M) (lowest : ℕ) → Rise place_of lowest xs → IsPermutation all zs
-          → IsSortedByKey place_of nat_cmp zs → members zs ≡ put_each_by key_of value_of FirstPlaces xs no_members
+      pub settled_by_place : (zs : List M) (lowest : ℕ) → PositionsAscend place_of lowest xs → IsPermutation all zs
+          → IsSortedByKey place_of nat_cmp zs → members zs ≡ put_all_members key_of value_of FirstPositions xs no_members
       settled_by_place zs lowest rise same places =
           let firsts = put_all key_of place_of value_of merge merge_key merge_place merge_value xs [] in
-          let are : members firsts ≡ put_each_by key_of value_of FirstPlaces xs no_members =
+          let are : members firsts ≡ put_all_members key_of value_of FirstPositions xs no_members =
           all_members key_of place_of value_of merge merge_key merge_place merge_value xs [] in
-          let apart_firsts : IsNormalized FirstPlaces (members firsts) =
-          subst (IsNormalized FirstPlaces) (sym are) (puts_normalize FirstPlaces xs no_members tt) in
+          let apart_firsts : IsNormalized FirstPositions (members firsts) =
+          subst (IsNormalized FirstPositions) (sym are) (puts_normalize FirstPositions xs no_members tt) in
           sym (same_lists key_of place_of value_of firsts zs
           (rising_all key_of place_of value_of merge merge_key merge_place merge_value lowest xs [] rise tt tt)
           (sorted_from by_place zs (sorted_far by_place (ranks_by nat_cmp_total place_of) zs places))

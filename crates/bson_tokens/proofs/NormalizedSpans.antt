@@ -4,14 +4,14 @@ use Rattle.std.specs.Cmp.Lexicographic.{slice_cmp}
 use Rattle.std.specs.Ordering.{match_ordering, nat_cmp}
 use Rattle.std.specs.Str.{bytes_eq}
 use Rattle.json.specs.Json.{Json, Members, no_members, member}
-use Rattle.bson_tokens.specs.Normalized.{put_by}
-use Rattle.bson_tokens.specs.Normalizing.{any_kept, StandInOrder, MemberSpanValues}
-use Rattle.bson_tokens.specs.Normalizing.{AreOrdered, Entry, EntriesAreKept, entry_at, json_entry_key, entry_members}
-use Rattle.bson_tokens.specs.Normalizing.{json_entry_value, merge, member_span_key, span_place, span_value, put_json_entries}
-use Rattle.bson_tokens.specs.PutSpans.{members_of, put_each_by}
+use Rattle.bson_tokens.specs.Normalized.{put_member}
+use Rattle.bson_tokens.specs.NormalizerStates.{is_nonempty, AreInOrder, MemberSpanValues}
+use Rattle.bson_tokens.specs.NormalizerStates.{AreOrdered, JsonMember, SpansMatch, entry_at, json_entry_key, entry_members}
+use Rattle.bson_tokens.specs.NormalizerStates.{json_entry_value, merge, member_span_key, span_place, span_value, put_json_members}
+use Rattle.bson_tokens.specs.PutMembers.{members_of, put_all_members}
 use Rattle.bson_tokens.specs.declared.arrangement.Arrangement.{Arrangement}
-use Rattle.bson_tokens.specs.declared.arrangement.Arrangement.TheVariants.{FirstPlaces, Ascending}
-use Rattle.bson_tokens.specs.declared.order.MemberSpan.{MemberSpan}
+use Rattle.bson_tokens.specs.declared.arrangement.Arrangement.TheVariants.{FirstPositions, Ascending}
+use Rattle.bson_tokens.specs.declared.member_order.MemberSpan.{MemberSpan}
 use Rattle.std.specs.List.Sorted.{IsSortedByKey}
 use Rattle.bson_model.specs.StableOrder.{IsStableByKey}
 use Rattle.bson_tokens.proofs.InPlace.{stable_by_place}
@@ -20,36 +20,36 @@ use Rattle.bson_tokens.proofs.Ordered.{as_entries, put_as_entries}
 use Rattle.bson_tokens.proofs.Putting.{put_ascending_keys, put_distinct, put_put}
 
 -- entries are put as their pieces are
-put_stand : (a : Arrangement) (body : List ℕ) (ps : List MemberSpan) (es : List Entry) (stand : EntriesAreKept body ps es)
-    → put_json_entries a es ≡ put_each_by member_span_key (span_value stand.values) a ps no_members
+put_stand : (a : Arrangement) (body : List ℕ) (ps : List MemberSpan) (es : List JsonMember) (stand : SpansMatch body ps es)
+    → put_json_members a es ≡ put_all_members member_span_key (span_value stand.values) a ps no_members
 put_stand a body ps es stand =
-    ap (λ fs. put_each_by json_entry_key json_entry_value a fs no_members) (sym stand.entries)
+    ap (λ fs. put_all_members json_entry_key json_entry_value a fs no_members) (sym stand.entries)
     ∙ put_as_entries stand.values a ps no_members
 
 -- those that stand in their order stay
-put_stands : (a : Arrangement) (values : MemberSpanValues) (ps : List MemberSpan) → StandInOrder a (map member_span_key ps)
-    → put_each_by member_span_key (span_value values) a ps no_members ≡ members_of member_span_key (span_value values) ps
+put_stands : (a : Arrangement) (values : MemberSpanValues) (ps : List MemberSpan) → AreInOrder a (map member_span_key ps)
+    → put_all_members member_span_key (span_value values) a ps no_members ≡ members_of member_span_key (span_value values) ps
 put_stands a values ps (inl up) = put_ascending_keys member_span_key (span_value values) a ps up
 put_stands a values ps (inr (is, are)) =
-    ap (λ b. put_each_by member_span_key (span_value values) b ps no_members) is
+    ap (λ b. put_all_members member_span_key (span_value values) b ps no_members) is
     ∙ put_distinct member_span_key (span_value values) ps are
 
-pub stays : (a : Arrangement) (body : List ℕ) (ps : List MemberSpan) (es : List Entry) → EntriesAreKept body ps es
-    → StandInOrder a (map member_span_key ps) → entry_members es ≡ put_json_entries a es
+pub stays : (a : Arrangement) (body : List ℕ) (ps : List MemberSpan) (es : List JsonMember) → SpansMatch body ps es
+    → AreInOrder a (map member_span_key ps) → entry_members es ≡ put_json_members a es
 stays a body ps es stand are =
     ap entry_members (sym stand.entries) ∙ as_entries stand.values ps ∙ sym (put_stands a stand.values ps are)
     ∙ sym (put_stand a body ps es stand)
 
 -- in that order those of one key stand as they stood
-keeps_turns : (a : Arrangement) (body : List ℕ) (xs zs : List MemberSpan) (es : List Entry) (stand : EntriesAreKept body xs es)
+keeps_turns : (a : Arrangement) (body : List ℕ) (xs zs : List MemberSpan) (es : List JsonMember) (stand : SpansMatch body xs es)
     → (o : AreOrdered a xs zs) → IsStableByKey member_span_key xs o.ys × IsSortedByKey member_span_key (slice_cmp nat_cmp) o.ys
 keeps_turns a body xs zs es stand o = stable_by_place member_span_key span_place xs o.ys 0 stand.rise o.same o.sorted
 
-ordered : (a : Arrangement) (body : List ℕ) (xs zs : List MemberSpan) (es : List Entry) (stand : EntriesAreKept body xs es)
+ordered : (a : Arrangement) (body : List ℕ) (xs zs : List MemberSpan) (es : List JsonMember) (stand : SpansMatch body xs es)
     → AreOrdered a xs zs
-    → members_of member_span_key (span_value stand.values) zs ≡ put_each_by member_span_key (span_value stand.values) a xs no_members
-ordered FirstPlaces body xs zs es stand o =
-    let turns = keeps_turns FirstPlaces body xs zs es stand o in
+    → members_of member_span_key (span_value stand.values) zs ≡ put_all_members member_span_key (span_value stand.values) a xs no_members
+ordered FirstPositions body xs zs es stand o =
+    let turns = keeps_turns FirstPositions body xs zs es stand o in
     settled_by_place member_span_key span_place (span_value stand.values) merge (λ p q. refl) (λ p q. refl) (λ p q. refl)
     xs o.ys turns.0 turns.1 zs 0 stand.rise o.placed.0 o.placed.1
 ordered Ascending body xs zs es stand o =
@@ -58,8 +58,8 @@ ordered Ascending body xs zs es stand o =
     ∙ settled_by_key member_span_key span_place (span_value stand.values) merge (λ p q. refl) (λ p q. refl) (λ p q. refl)
     xs o.ys turns.0 turns.1
 
-pub settled : (a : Arrangement) (body : List ℕ) (xs zs : List MemberSpan) (es : List Entry) (stand : EntriesAreKept body xs es)
-    → AreOrdered a xs zs → entry_members (map (entry_at stand.values) zs) ≡ put_json_entries a es
+pub settled : (a : Arrangement) (body : List ℕ) (xs zs : List MemberSpan) (es : List JsonMember) (stand : SpansMatch body xs es)
+    → AreOrdered a xs zs → entry_members (map (entry_at stand.values) zs) ≡ put_json_members a es
 settled a body xs zs es stand o =
     as_entries stand.values zs ∙ ordered a body xs zs es stand o ∙ sym (put_stand a body xs es stand)
 
@@ -79,28 +79,28 @@ filled_by Less x y z h g f = h
 filled_by Equal x y z h g f = g
 filled_by Greater x y z h g f = f
 
-filled_put : (a : Arrangement) (k : List ℕ) (j : Json) (ms : Members) → filled (put_by a k j ms) ≡ true
-filled_put FirstPlaces k j no_members = refl
-filled_put FirstPlaces k j (member l i ms) = filled_if (bytes_eq k l) _ _ refl refl
+filled_put : (a : Arrangement) (k : List ℕ) (j : Json) (ms : Members) → filled (put_member a k j ms) ≡ true
+filled_put FirstPositions k j no_members = refl
+filled_put FirstPositions k j (member l i ms) = filled_if (bytes_eq k l) _ _ refl refl
 filled_put Ascending k j no_members = refl
 filled_put Ascending k j (member l i ms) = filled_by (slice_cmp nat_cmp k l) _ _ _ refl refl refl
 
-filled_each : (a : Arrangement) (es : List Entry) (found : Members) → filled found ≡ true
-    → filled (put_each_by json_entry_key json_entry_value a es found) ≡ true
+filled_each : (a : Arrangement) (es : List JsonMember) (found : Members) → filled found ≡ true
+    → filled (put_all_members json_entry_key json_entry_value a es found) ≡ true
 filled_each a [] found h = h
-filled_each a (e ∷ es) found h = filled_each a es (put_by a e.0 e.1 found) (filled_put a e.0 e.1 found)
+filled_each a (e ∷ es) found h = filled_each a es (put_member a e.0 e.1 found) (filled_put a e.0 e.1 found)
 
-filled_entries : (a : Arrangement) (es : List Entry) → filled (put_json_entries a es) ≡ any_kept es
+filled_entries : (a : Arrangement) (es : List JsonMember) → filled (put_json_members a es) ≡ is_nonempty es
 filled_entries a [] = refl
-filled_entries a (e ∷ es) = filled_each a es (put_by a e.0 e.1 no_members) (filled_put a e.0 e.1 no_members)
+filled_entries a (e ∷ es) = filled_each a es (put_member a e.0 e.1 no_members) (filled_put a e.0 e.1 no_members)
 
-filled_members : (es : List Entry) → filled (entry_members es) ≡ any_kept es
+filled_members : (es : List JsonMember) → filled (entry_members es) ≡ is_nonempty es
 filled_members [] = refl
 filled_members (e ∷ es) = refl
 
 -- what they are put as is put again as it stands
-pub settled_alike : (a : Arrangement) (es fs : List Entry) → entry_members fs ≡ put_json_entries a es
-    → (put_json_entries a fs ≡ put_json_entries a es) × (any_kept fs ≡ any_kept es)
+pub settled_alike : (a : Arrangement) (es fs : List JsonMember) → entry_members fs ≡ put_json_members a es
+    → (put_json_members a fs ≡ put_json_members a es) × (is_nonempty fs ≡ is_nonempty es)
 settled_alike a es fs put = (
   put_put json_entry_key json_entry_value a es fs put ∙ put,
   sym (filled_members fs) ∙ ap filled put ∙ filled_entries a es,

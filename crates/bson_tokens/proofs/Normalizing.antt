@@ -8,9 +8,9 @@ use Rattle.std.specs.Ordering.{match_ordering, ordering_reverse}
 use Rattle.std.specs.Str.{bytes_eq}
 use Rattle.json.specs.Json.{Json, Members}
 use Rattle.json.specs.Json.{no_members, member}
-use Rattle.bson_tokens.specs.Normalized.{put_first, put_ascending, put_by, normalized, normalized_members}
+use Rattle.bson_tokens.specs.Normalized.{put_at_first_position, put_ascending, put_member, normalized, normalized_members}
 use Rattle.bson_tokens.specs.declared.arrangement.Arrangement.{Arrangement}
-use Rattle.bson_tokens.specs.declared.arrangement.Arrangement.TheVariants.{FirstPlaces, Ascending}
+use Rattle.bson_tokens.specs.declared.arrangement.Arrangement.TheVariants.{FirstPositions, Ascending}
 
 abbrev pub cmp : List ℕ → List ℕ → Ordering
 cmp = slice_cmp nat_cmp
@@ -19,7 +19,7 @@ cmp = slice_cmp nat_cmp
 
 -- a member of the key l is put behind one of the key k
 abbrev pub IsBehind : Arrangement → List ℕ → List ℕ → Type 0
-IsBehind FirstPlaces k l = bytes_eq l k ≡ false
+IsBehind FirstPositions k l = bytes_eq l k ≡ false
 IsBehind Ascending k l = cmp l k ≡ Greater
 
 -- each member stands behind k
@@ -34,8 +34,8 @@ IsNormalized a (member k j ms) = AreBehind a k ms × IsNormalized a ms
 
 -- what is put behind a member leaves it where it is
 pub put_behind : (a : Arrangement) (k l : List ℕ) (i j : Json) (ms : Members) → IsBehind a k l
-    → put_by a l j (member k i ms) ≡ member k i (put_by a l j ms)
-put_behind FirstPlaces k l i j ms h = rw h refl
+    → put_member a l j (member k i ms) ≡ member k i (put_member a l j ms)
+put_behind FirstPositions k l i j ms h = rw h refl
 put_behind Ascending k l i j ms h = rw h refl
 
 -- ---- what is put stays normalized
@@ -43,14 +43,14 @@ put_behind Ascending k l i j ms h = rw h refl
 same_key : (k l : List ℕ) → bytes_eq k l ≡ true → k ≡ l
 same_key k l h = (bytes_eq-Decides k l).0 h
 
-behind_first_at : (b : Bool) (k l c : List ℕ) (j i : Json) (ms : Members) → IsBehind FirstPlaces k l
-    → AreBehind FirstPlaces k (member c i ms) → AreBehind FirstPlaces k (put_first l j ms)
-    → AreBehind FirstPlaces k (cond b (member c j ms) (member c i (put_first l j ms)))
+behind_first_at : (b : Bool) (k l c : List ℕ) (j i : Json) (ms : Members) → IsBehind FirstPositions k l
+    → AreBehind FirstPositions k (member c i ms) → AreBehind FirstPositions k (put_at_first_position l j ms)
+    → AreBehind FirstPositions k (cond b (member c j ms) (member c i (put_at_first_position l j ms)))
 behind_first_at true k l c j i ms new were is = were
 behind_first_at false k l c j i ms new were is = (were.0, is)
 
-behind_first : (k l : List ℕ) (j : Json) (ms : Members) → IsBehind FirstPlaces k l → AreBehind FirstPlaces k ms
-    → AreBehind FirstPlaces k (put_first l j ms)
+behind_first : (k l : List ℕ) (j : Json) (ms : Members) → IsBehind FirstPositions k l → AreBehind FirstPositions k ms
+    → AreBehind FirstPositions k (put_at_first_position l j ms)
 behind_first k l j no_members new were = (new, tt)
 behind_first k l j (member c i ms) new were =
     behind_first_at (bytes_eq l c) k l c j i ms new were (behind_first k l j ms new were.1)
@@ -70,13 +70,13 @@ behind_ascending k l j (member c i ms) new were =
     behind_ascending_at (cmp l c) k l c j i ms new were (behind_ascending k l j ms new were.1)
 
 first_at : (b : Bool) (k c : List ℕ) (j i : Json) (ms : Members) → bytes_eq k c ≡ b
-    → IsNormalized FirstPlaces (member c i ms) → IsNormalized FirstPlaces (put_first k j ms)
-    → IsNormalized FirstPlaces (cond b (member c j ms) (member c i (put_first k j ms)))
+    → IsNormalized FirstPositions (member c i ms) → IsNormalized FirstPositions (put_at_first_position k j ms)
+    → IsNormalized FirstPositions (cond b (member c j ms) (member c i (put_at_first_position k j ms)))
 first_at true k c j i ms h were is = were
 first_at false k c j i ms h were is = (behind_first c k j ms h were.0, is)
 
-put_first_stays : (k : List ℕ) (j : Json) (ms : Members) → IsNormalized FirstPlaces ms
-    → IsNormalized FirstPlaces (put_first k j ms)
+put_first_stays : (k : List ℕ) (j : Json) (ms : Members) → IsNormalized FirstPositions ms
+    → IsNormalized FirstPositions (put_at_first_position k j ms)
 put_first_stays k j no_members were = (tt, tt)
 put_first_stays k j (member c i ms) were =
     first_at (bytes_eq k c) k c j i ms refl were (put_first_stays k j ms were.1)
@@ -105,8 +105,8 @@ put_ascending_stays k j (member c i ms) were =
     ascending_at (cmp k c) k c j i ms refl were (put_ascending_stays k j ms were.1)
 
 pub put_stays : (a : Arrangement) (k : List ℕ) (j : Json) (ms : Members) → IsNormalized a ms
-    → IsNormalized a (put_by a k j ms)
-put_stays FirstPlaces = put_first_stays
+    → IsNormalized a (put_member a k j ms)
+put_stays FirstPositions = put_first_stays
 put_stays Ascending = put_ascending_stays
 
 -- members are normalized behind those that are
@@ -114,7 +114,7 @@ pub all_normalized : (a : Arrangement) (ms found : Members) → IsNormalized a f
     → IsNormalized a (normalized_members a ms found)
 all_normalized a no_members found were = were
 all_normalized a (member k j ms) found were =
-    all_normalized a ms (put_by a k (normalized a j) found) (put_stays a k (normalized a j) found were)
+    all_normalized a ms (put_member a k (normalized a j) found) (put_stays a k (normalized a j) found were)
 
 -- ---- what holds of each value that is put and of those that are there holds of all
 
@@ -129,10 +129,10 @@ module _ (P : Json → Type 0) where
   each_first_at true c j i ms put new old are is = (new, are)
   each_first_at false c j i ms put new old are is = (old, is)
 
-  each_first : (k : List ℕ) (j : Json) (ms : Members) → P j → Each ms → Each (put_first k j ms)
+  each_first : (k : List ℕ) (j : Json) (ms : Members) → P j → Each ms → Each (put_at_first_position k j ms)
   each_first k j no_members new are = (new, tt)
   each_first k j (member c i ms) new are =
-      each_first_at (bytes_eq k c) c j i ms (put_first k j ms) new are.0 are.1 (each_first k j ms new are.1)
+      each_first_at (bytes_eq k c) c j i ms (put_at_first_position k j ms) new are.0 are.1 (each_first k j ms new are.1)
 
   each_ascending_at : (o : Ordering) (k c : List ℕ) (j i : Json) (ms put : Members) → P j → P i → Each ms → Each put
       → Each (match_ordering o (member k j (member c i ms)) (member c j ms) (member c i put))
@@ -145,6 +145,6 @@ module _ (P : Json → Type 0) where
   each_ascending k j (member c i ms) new are =
       each_ascending_at (cmp k c) k c j i ms (put_ascending k j ms) new are.0 are.1 (each_ascending k j ms new are.1)
 
-  pub each_put : (a : Arrangement) (k : List ℕ) (j : Json) (ms : Members) → P j → Each ms → Each (put_by a k j ms)
-  each_put FirstPlaces = each_first
+  pub each_put : (a : Arrangement) (k : List ℕ) (j : Json) (ms : Members) → P j → Each ms → Each (put_member a k j ms)
+  each_put FirstPositions = each_first
   each_put Ascending = each_ascending

@@ -7,9 +7,9 @@ use Rattle.std.specs.List.{All}
 use Rattle.json.specs.Json.{Json, null, boolean, number, string, array, object, Items, no_items, item, Members}
 use Rattle.json.specs.Json.{no_members, member}
 use Rattle.json.specs.Strict.{keys, AreDistinct, HasUniqueKeys, ItemsHaveUniqueKeys, MembersHaveUniqueKeys}
-use Rattle.bson_tokens.specs.Normalized.{put_by, normalized, normalized_items, normalized_members}
+use Rattle.bson_tokens.specs.Normalized.{put_member, normalized, normalized_items, normalized_members}
 use Rattle.bson_tokens.specs.declared.arrangement.Arrangement.{Arrangement}
-use Rattle.bson_tokens.specs.declared.arrangement.Arrangement.TheVariants.{FirstPlaces, Ascending}
+use Rattle.bson_tokens.specs.declared.arrangement.Arrangement.TheVariants.{FirstPositions, Ascending}
 use Rattle.bson_tokens.proofs.Normalizing.{cmp, IsBehind, AreBehind, IsNormalized, put_behind, all_normalized, Each}
 use Rattle.bson_tokens.proofs.Normalizing.{each_put}
 use Rattle.bson_tokens.proofs.Keys.{apart}
@@ -17,7 +17,7 @@ use Rattle.bson_tokens.proofs.Keys.{apart}
 -- ---- each key once
 
 pub other_key : (a : Arrangement) (k l : List ℕ) → IsBehind a k l → k ≢ l
-other_key FirstPlaces k l h e = apart l k h (sym e)
+other_key FirstPositions k l h e = apart l k h (sym e)
 other_key Ascending k l h e =
     let s : cmp k k ≡ Equal = tied_itself nat_list_cmp_total k in
     let f : cmp k k ≡ Greater = subst (λ x. cmp x k ≡ Greater) (sym e) h in
@@ -57,16 +57,16 @@ mutual
       → MembersHaveUniqueKeys (normalized_members a ms found)
   members_unique a no_members found are = each_unique found are
   members_unique a (member k j ms) found are =
-      members_unique a ms (put_by a k (normalized a j) found)
+      members_unique a ms (put_member a k (normalized a j) found)
       (each_put HasUniqueKeys a k (normalized a j) found (unique a j) are)
 
 -- ---- again
 
-abbrev pub IsSettled : Arrangement → Json → Type 0
-IsSettled a j = normalized a j ≡ j
+abbrev pub IsObjectNormalized : Arrangement → Json → Type 0
+IsObjectNormalized a j = normalized a j ≡ j
 
-pub put_none : (a : Arrangement) (k : List ℕ) (j : Json) → put_by a k j no_members ≡ member k j no_members
-put_none FirstPlaces k j = refl
+pub put_none : (a : Arrangement) (k : List ℕ) (j : Json) → put_member a k j no_members ≡ member k j no_members
+put_none FirstPositions k j = refl
 put_none Ascending k j = refl
 
 -- members that stand behind k are normalized behind it
@@ -75,10 +75,10 @@ pub normalized_behind : (a : Arrangement) (k : List ℕ) (i : Json) (ms found : 
 normalized_behind a k i no_members found are = refl
 normalized_behind a k i (member l j ms) found are =
     ap (normalized_members a ms) (put_behind a k l i (normalized a j) found are.0)
-    ∙ normalized_behind a k i ms (put_by a l (normalized a j) found) are.1
+    ∙ normalized_behind a k i ms (put_member a l (normalized a j) found) are.1
 
 -- what is normalized is normalized as it stands
-pub settled : (a : Arrangement) (ms : Members) → IsNormalized a ms → Each (IsSettled a) ms
+pub settled : (a : Arrangement) (ms : Members) → IsNormalized a ms → Each (IsObjectNormalized a) ms
     → normalized_members a ms no_members ≡ ms
 settled a no_members are each = refl
 settled a (member k j ms) are each =
@@ -101,9 +101,9 @@ mutual
   items_twice a no_items = refl
   items_twice a (item j js) = ap₂ item (twice a j) (items_twice a js)
 
-  each_settled : (a : Arrangement) (ms found : Members) → Each (IsSettled a) found
-      → Each (IsSettled a) (normalized_members a ms found)
+  each_settled : (a : Arrangement) (ms found : Members) → Each (IsObjectNormalized a) found
+      → Each (IsObjectNormalized a) (normalized_members a ms found)
   each_settled a no_members found are = are
   each_settled a (member k j ms) found are =
-      each_settled a ms (put_by a k (normalized a j) found)
-      (each_put (IsSettled a) a k (normalized a j) found (twice a j) are)
+      each_settled a ms (put_member a k (normalized a j) found)
+      (each_put (IsObjectNormalized a) a k (normalized a j) found (twice a j) are)

@@ -8,14 +8,14 @@ use Rattle.std.proofs.lemmas.List.Sorted.{All-permutation}
 use Rattle.std.proofs.lemmas.Slice.Eq.{bytes_eq-Decides}
 use Rattle.std.specs.List.{All}
 use Rattle.json.specs.Json.{Members, member}
-use Rattle.bson_tokens.specs.Normalized.{put_by}
-use Rattle.bson_tokens.specs.Normalizing.{AreOrdered, ArePlaced, Entry, IsSpan, IsMemberSpanWithin, MemberSpanValues, entry_at, merge}
-use Rattle.bson_tokens.specs.Normalizing.{json_entry_key, entry_members, json_entry_value, member_text, member_span_key, span_value}
-use Rattle.bson_tokens.specs.Normalizing.{any_kept}
-use Rattle.bson_tokens.specs.PutSpans.{members_of, merged, merged_from, put_each_by}
+use Rattle.bson_tokens.specs.Normalized.{put_member}
+use Rattle.bson_tokens.specs.NormalizerStates.{AreOrdered, AreArranged, JsonMember, IsSpan, IsMemberSpanWithin, MemberSpanValues, entry_at, merge}
+use Rattle.bson_tokens.specs.NormalizerStates.{json_entry_key, entry_members, json_entry_value, member_text, member_span_key, span_value}
+use Rattle.bson_tokens.specs.NormalizerStates.{is_nonempty}
+use Rattle.bson_tokens.specs.PutMembers.{members_of, merged, merged_from, put_all_members}
 use Rattle.bson_tokens.specs.declared.arrangement.Arrangement.{Arrangement}
-use Rattle.bson_tokens.specs.declared.arrangement.Arrangement.TheVariants.{FirstPlaces, Ascending}
-use Rattle.bson_tokens.specs.declared.order.MemberSpan.{MemberSpan}
+use Rattle.bson_tokens.specs.declared.arrangement.Arrangement.TheVariants.{FirstPositions, Ascending}
+use Rattle.bson_tokens.specs.declared.member_order.MemberSpan.{MemberSpan}
 
 module _ (P : MemberSpan → Type 0) (joins : (p q : MemberSpan) → member_span_key q ≡ member_span_key p → P q → P (merge p q)) where
   run_at : (b : Bool) (p q : MemberSpan) (qs : List MemberSpan) → bytes_eq (member_span_key q) (member_span_key p) ≡ b → P p → All P (q ∷ qs)
@@ -36,8 +36,8 @@ module _ (P : MemberSpan → Type 0) (joins : (p q : MemberSpan) → member_span
   all_merged [] all = all
   all_merged (p ∷ ps) all = all_from p ps (All-head P p ps all) (All-tail P p ps all)
 
-  all_placed : (a : Arrangement) (ms zs : List MemberSpan) → ArePlaced a ms zs → All P ms → All P zs
-  all_placed FirstPlaces ms zs placed all = All-permutation P ms zs placed.0 all
+  all_placed : (a : Arrangement) (ms zs : List MemberSpan) → AreArranged a ms zs → All P ms → All P zs
+  all_placed FirstPositions ms zs placed all = All-permutation P ms zs placed.0 all
   all_placed Ascending ms zs placed all = subst (All P) (sym placed) all
 
   -- what holds of each and of what is merged of two holds of each in order
@@ -64,21 +64,21 @@ as_entries values [] = refl
 as_entries values (p ∷ ps) = ap (member (member_span_key p) (values p.start)) (as_entries values ps)
 
 pub put_as_entries : (values : MemberSpanValues) (a : Arrangement) (ps : List MemberSpan) (found : Members)
-    → put_each_by json_entry_key json_entry_value a (map (entry_at values) ps) found
-    ≡ put_each_by member_span_key (span_value values) a ps found
+    → put_all_members json_entry_key json_entry_value a (map (entry_at values) ps) found
+    ≡ put_all_members member_span_key (span_value values) a ps found
 put_as_entries values a [] found = refl
-put_as_entries values a (p ∷ ps) found = put_as_entries values a ps (put_by a (member_span_key p) (values p.start) found)
+put_as_entries values a (p ∷ ps) found = put_as_entries values a ps (put_member a (member_span_key p) (values p.start) found)
 
 -- some were taken
 above_none : (n : ℕ) → 0 < n → nat_lt 0 n ≡ true
 above_none n more = grind (arith, nat_tests)
 
-some_of : (es : List Entry) → nat_lt 0 (length es) ≡ any_kept es
+some_of : (es : List JsonMember) → nat_lt 0 (length es) ≡ is_nonempty es
 some_of [] = refl
 some_of (e ∷ es) = above_none (length (e ∷ es)) (omega arith)
 
 pub some_taken : (values : MemberSpanValues) (at : ℕ) (ps : List MemberSpan) → at ≤ length ps
-    → nat_lt 0 at ≡ any_kept (map (entry_at values) (take at ps))
+    → nat_lt 0 at ≡ is_nonempty (map (entry_at values) (take at ps))
 some_taken values at ps less =
     let es = map (entry_at values) (take at ps) in
     let long : length es ≡ at = length-map (take at ps) (entry_at values) ∙ length-take-le at ps less in

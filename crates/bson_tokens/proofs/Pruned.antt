@@ -25,7 +25,7 @@ use Rattle.bson_scalar.specs.declared.form.Doubles.{Doubles}
 use Rattle.bson_tokens.specs.ValueStart.{primitive_tree}
 use Rattle.bson_tokens.specs.declared.value_start.Primitive.{Primitive}
 use Rattle.bson_tokens.specs.declared.value_start.Primitive.TheVariants.{Null, Bool as Truth, Number, String as Text}
-use Rattle.bson_tokens.specs.Held.{StandsFor, few, or_empty, pruned, pruned_members, kept_of, entered}
+use Rattle.bson_tokens.specs.WrapperContent.{ReadsLike, at_most_two, or_empty, pruned, pruned_members, kept_members_of, member_added}
 
 -- ---- one more member
 
@@ -47,40 +47,40 @@ module _ (n : ℕ) (k : List ℕ) (d : Data) where
 -- three members stay three at least
 module _ (k : List ℕ) (d : Data) where
   behind_two : (a : List ℕ) (x : Data) (b : List ℕ) (y : Data) (ms : Members)
-      → few (member a x (member b y (put k d ms))) ≡ None
+      → at_most_two (member a x (member b y (put k d ms))) ≡ None
   behind_two a x b y no_members = refl
   behind_two a x b y (member c z ms) = at (slice_cmp nat_cmp k c)
     where
       at : (o : Ordering)
-          → few (member a x (member b y (match_ordering o (member k d (member c z ms)) (member c d ms)
+          → at_most_two (member a x (member b y (match_ordering o (member k d (member c z ms)) (member c d ms)
           (member c z (put k d ms))))) ≡ None
       at Less = refl
       at Equal = refl
       at Greater = refl
 
   behind_one : (a : List ℕ) (x : Data) (b : List ℕ) (y : Data) (c : List ℕ) (z : Data) (ms : Members)
-      → few (member a x (put k d (member b y (member c z ms)))) ≡ None
+      → at_most_two (member a x (put k d (member b y (member c z ms)))) ≡ None
   behind_one a x b y c z ms = at (slice_cmp nat_cmp k b)
     where
       at : (o : Ordering)
-          → few (member a x (match_ordering o (member k d (member b y (member c z ms))) (member b d (member c z ms))
+          → at_most_two (member a x (match_ordering o (member k d (member b y (member c z ms))) (member b d (member c z ms))
           (member b y (put k d (member c z ms))))) ≡ None
       at Less = refl
       at Equal = refl
       at Greater = behind_two a x b y (member c z ms)
 
   more_than_two : (a : List ℕ) (x : Data) (b : List ℕ) (y : Data) (c : List ℕ) (z : Data) (ms : Members)
-      → few (put k d (member a x (member b y (member c z ms)))) ≡ None
+      → at_most_two (put k d (member a x (member b y (member c z ms)))) ≡ None
   more_than_two a x b y c z ms = at (slice_cmp nat_cmp k a)
     where
       at : (o : Ordering)
-          → few (match_ordering o (member k d (member a x (member b y (member c z ms))))
+          → at_most_two (match_ordering o (member k d (member a x (member b y (member c z ms))))
           (member a d (member b y (member c z ms))) (member a x (put k d (member b y (member c z ms))))) ≡ None
       at Less = refl
       at Equal = refl
       at Greater = behind_one a x b y c z ms
 
-  few_put : (ms : Members) → few (put k d ms) ≡ entered k d (few ms)
+  few_put : (ms : Members) → at_most_two (put k d ms) ≡ member_added k d (at_most_two ms)
   few_put no_members = refl
   few_put (member a x no_members) = refl
   few_put (member a x (member b y no_members)) = refl
@@ -90,26 +90,26 @@ less_one : (n : ℕ) → n ≡ suc n - 1
 less_one n = omega arith
 
 pub kept_put : (n : ℕ) (k : List ℕ) (d : Data) (ms : Members)
-    → kept_of n (put k d ms) ≡ entered k (pruned (n - 1) d) (kept_of n ms)
+    → kept_members_of n (put k d ms) ≡ member_added k (pruned (n - 1) d) (kept_members_of n ms)
 kept_put zero k d ms = refl
-kept_put (suc n) k d ms = ap few (pruned_put n k d ms) ∙ few_put k (pruned n d) (pruned_members n ms)
-    ∙ ap (λ m. entered k (pruned m d) (few (pruned_members n ms))) (less_one n)
+kept_put (suc n) k d ms = ap at_most_two (pruned_put n k d ms) ∙ few_put k (pruned n d) (pruned_members n ms)
+    ∙ ap (λ m. member_added k (pruned m d) (at_most_two (pruned_members n ms))) (less_one n)
 
 -- entries by their number
-pub few_long : (es : List (String Global × Value)) → 2 < length es → few (members_view es) ≡ None
+pub few_long : (es : List (String Global × Value)) → 2 < length es → at_most_two (members_view es) ≡ None
 few_long [] long = absurd (omega (arith, long))
 few_long (a ∷ []) long = absurd (omega (arith, long))
 few_long (a ∷ b ∷ []) long = absurd (omega (arith, long))
 few_long (a ∷ b ∷ c ∷ es) long = refl
 
-pub few_short : (es : List (String Global × Value)) → length es ≤ 2 → few (members_view es) ≡ Some (members_view es)
+pub few_short : (es : List (String Global × Value)) → length es ≤ 2 → at_most_two (members_view es) ≡ Some (members_view es)
 few_short [] short = refl
 few_short (a ∷ []) short = refl
 few_short (a ∷ b ∷ []) short = refl
 few_short (a ∷ b ∷ c ∷ es) short = absurd (omega (arith, short))
 
 -- an object of what is kept of its members
-pub pruned_object : (n : ℕ) (ms : Members) → pruned n (tree.object ms) ≡ tree.object (or_empty (kept_of n ms))
+pub pruned_object : (n : ℕ) (ms : Members) → pruned n (tree.object ms) ≡ tree.object (or_empty (kept_members_of n ms))
 pruned_object zero ms = refl
 pruned_object (suc n) ms = refl
 
@@ -244,7 +244,7 @@ same_at : (D : Doubles) (w : Option Wrapper) (d : Data) → optional_wrapper_rea
 same_at D (Some w) d = same_single D w d
 same_at D None d = refl
 
-pub pruned_stands : (t : Data) → StandsFor t (pruned 2 t)
+pub pruned_stands : (t : Data) → ReadsLike t (pruned 2 t)
 pruned_stands t = (λ D w. same_at D w t, same_text 2 t)
 
 pub pruned_primitive : (n : ℕ) (p : Primitive) → pruned n (primitive_tree p) ≡ primitive_tree p

@@ -8,29 +8,29 @@ use Rattle.std.specs.List.{All}
 use Rattle.std.specs.Str.{bytes_eq}
 use Rattle.json.specs.Json.{Json, Members, no_members, member}
 use Rattle.json.specs.Strict.{keys, AreDistinct}
-use Rattle.bson_tokens.specs.Normalized.{put_by}
-use Rattle.bson_tokens.specs.PutSpans.{KeysAscendAfter, members_of, put_each_by}
+use Rattle.bson_tokens.specs.Normalized.{put_member}
+use Rattle.bson_tokens.specs.PutMembers.{KeysAscendFrom, members_of, put_all_members}
 use Rattle.bson_tokens.specs.declared.arrangement.Arrangement.{Arrangement}
-use Rattle.bson_tokens.specs.declared.arrangement.Arrangement.TheVariants.{FirstPlaces, Ascending}
+use Rattle.bson_tokens.specs.declared.arrangement.Arrangement.TheVariants.{FirstPositions, Ascending}
 use Rattle.bson_tokens.proofs.Normalizing.{cmp, flipped, IsBehind, AreBehind, IsNormalized, put_behind, put_stays}
 use Rattle.bson_tokens.proofs.Once.{other_key, put_none}
 
 -- the members after each of others is put to them
 abbrev pub put_members : Arrangement → Members → Members → Members
 put_members a no_members found = found
-put_members a (member k j ms) found = put_members a ms (put_by a k j found)
+put_members a (member k j ms) found = put_members a ms (put_member a k j found)
 
 -- ---- what is put is normalized
 
 pub puts_normalize : (a : Arrangement) (ms found : Members) → IsNormalized a found → IsNormalized a (put_members a ms found)
 puts_normalize a no_members found are = are
-puts_normalize a (member k j ms) found are = puts_normalize a ms (put_by a k j found) (put_stays a k j found are)
+puts_normalize a (member k j ms) found are = puts_normalize a ms (put_member a k j found) (put_stays a k j found are)
 
 puts_behind : (a : Arrangement) (k : List ℕ) (i : Json) (ms found : Members) → AreBehind a k ms
     → put_members a ms (member k i found) ≡ member k i (put_members a ms found)
 puts_behind a k i no_members found are = refl
 puts_behind a k i (member l j ms) found are =
-    ap (put_members a ms) (put_behind a k l i j found are.0) ∙ puts_behind a k i ms (put_by a l j found) are.1
+    ap (put_members a ms) (put_behind a k l i j found are.0) ∙ puts_behind a k i ms (put_member a l j found) are.1
 
 -- what is normalized is put as it stands
 pub put_as_it_stands : (a : Arrangement) (ms : Members) → IsNormalized a ms → put_members a ms no_members ≡ ms
@@ -45,28 +45,28 @@ behind_at : (b : Bool) (k l : List ℕ) → bytes_eq l k ≡ b → k ≢ l → b
 behind_at false k l h differ = refl
 behind_at true k l h differ = absurd (differ (sym ((bytes_eq-Decides l k).0 h)))
 
-pub differing : (k l : List ℕ) → k ≢ l → IsBehind FirstPlaces k l
+pub differing : (k l : List ℕ) → k ≢ l → IsBehind FirstPositions k l
 differing k l differ = behind_at (bytes_eq l k) k l refl differ
 
-each_differs : (k : List ℕ) (ms : Members) → All (λ l. k ≢ l) (keys ms) → AreBehind FirstPlaces k ms
+each_differs : (k : List ℕ) (ms : Members) → All (λ l. k ≢ l) (keys ms) → AreBehind FirstPositions k ms
 each_differs k no_members are = tt
 each_differs k (member l j ms) are = (
   differing k l (All-head (λ l. k ≢ l) l (keys ms) are),
   each_differs k ms (All-tail (λ l. k ≢ l) l (keys ms) are),
 )
 
-pub distinct_normalized : (ms : Members) → AreDistinct (keys ms) → IsNormalized FirstPlaces ms
+pub distinct_normalized : (ms : Members) → AreDistinct (keys ms) → IsNormalized FirstPositions ms
 distinct_normalized no_members are = tt
 distinct_normalized (member k j ms) are = (
   each_differs k ms (λ i d less. are zero (suc i) d (omega arith) (omega (arith, less))),
   distinct_normalized ms (λ i j d less within. are (suc i) (suc j) d (omega (arith, less)) (omega (arith, within))),
 )
 
-behind_either : (a : Arrangement) (k : List ℕ) (ms : Members) → AreBehind a k ms → AreBehind FirstPlaces k ms
+behind_either : (a : Arrangement) (k : List ℕ) (ms : Members) → AreBehind a k ms → AreBehind FirstPositions k ms
 behind_either a k no_members are = tt
 behind_either a k (member l j ms) are = (differing k l (other_key a k l are.0), behind_either a k ms are.1)
 
-pub normalized_either : (a : Arrangement) (ms : Members) → IsNormalized a ms → IsNormalized FirstPlaces ms
+pub normalized_either : (a : Arrangement) (ms : Members) → IsNormalized a ms → IsNormalized FirstPositions ms
 normalized_either a no_members are = tt
 normalized_either a (member k j ms) are = (behind_either a k ms are.0, normalized_either a ms are.1)
 
@@ -95,13 +95,13 @@ ascending_normalized (member k j ms) up = (above_first k ms up, behind_last k ms
 
 -- members in ascending key order are normalized in either arrangement
 pub normalized_in : (a : Arrangement) (ms : Members) → Ascend None ms → IsNormalized a ms
-normalized_in FirstPlaces ms up = normalized_either Ascending ms (ascending_normalized ms up)
+normalized_in FirstPositions ms up = normalized_either Ascending ms (ascending_normalized ms up)
 normalized_in Ascending ms up = ascending_normalized ms up
 
 -- ---- lists that are put
 
 keys_ascend : {M : Type 0} (key_of : M → List ℕ) (value_of : M → Json) (last : Option (List ℕ)) (xs : List M)
-    → KeysAscendAfter last (map key_of xs) → Ascend last (members_of key_of value_of xs)
+    → KeysAscendFrom last (map key_of xs) → Ascend last (members_of key_of value_of xs)
 keys_ascend key_of value_of last [] up = tt
 keys_ascend key_of value_of None (x ∷ xs) up = keys_ascend key_of value_of (Some (key_of x)) xs up.1
 keys_ascend key_of value_of (Some l) (x ∷ xs) up = (up.0, keys_ascend key_of value_of (Some (key_of x)) xs up.1)
@@ -111,7 +111,7 @@ module _ {M : Type 0} (key_of : M → List ℕ) (value_of : M → Json) where
   members = members_of key_of value_of
 
   abbrev put : Arrangement → List M → Members → Members
-  put = put_each_by key_of value_of
+  put = put_all_members key_of value_of
 
   pub keys_are : (xs : List M) → keys (members xs) ≡ map key_of xs
   keys_are [] = refl
@@ -120,17 +120,17 @@ module _ {M : Type 0} (key_of : M → List ℕ) (value_of : M → Json) where
   pub puts_members : (a : Arrangement) (xs : List M) (found : Members)
       → put a xs found ≡ put_members a (members xs) found
   puts_members a [] found = refl
-  puts_members a (x ∷ xs) found = puts_members a xs (put_by a (key_of x) (value_of x) found)
+  puts_members a (x ∷ xs) found = puts_members a xs (put_member a (key_of x) (value_of x) found)
 
   -- ---- what is put as it stands
 
-  pub put_distinct : (xs : List M) → AreDistinct (map key_of xs) → put FirstPlaces xs no_members ≡ members xs
+  pub put_distinct : (xs : List M) → AreDistinct (map key_of xs) → put FirstPositions xs no_members ≡ members xs
   put_distinct xs are =
-      puts_members FirstPlaces xs no_members
-      ∙ put_as_it_stands FirstPlaces (members xs)
+      puts_members FirstPositions xs no_members
+      ∙ put_as_it_stands FirstPositions (members xs)
       (distinct_normalized (members xs) (subst AreDistinct (sym (keys_are xs)) are))
 
-  pub put_ascending_keys : (a : Arrangement) (xs : List M) → KeysAscendAfter None (map key_of xs)
+  pub put_ascending_keys : (a : Arrangement) (xs : List M) → KeysAscendFrom None (map key_of xs)
       → put a xs no_members ≡ members xs
   put_ascending_keys a xs up =
       puts_members a xs no_members

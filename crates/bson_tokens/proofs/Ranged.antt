@@ -11,8 +11,8 @@ use Rattle.json.specs.Token.{Token}
 use Rattle.serde_json.specs.Data as tree
 use Rattle.serde_json.specs.Data.{Num}
 use Rattle.serde_json.specs.Read.{read, number_of, of_json, of_items, of_members}
-use Rattle.bson_tokens.specs.Normalized.{HasNumbers, ItemsHaveNumbers, MembersHaveNumbers}
-use Rattle.bson_tokens.specs.Normalizing.{ranged, ranged_items, ranged_members, sound}
+use Rattle.bson_tokens.specs.Normalized.{HasNumbersInRange, ItemsHaveNumbersInRange, MembersHaveNumbersInRange}
+use Rattle.bson_tokens.specs.NormalizerStates.{numbers_in_range, item_numbers_in_range, member_numbers_in_range, if_valid}
 
 a_number : (o : Option Num) → is_some o ≡ true → (n : Num) × (o ≡ Some n)
 a_number None h = cc
@@ -23,7 +23,7 @@ no_number None h = refl
 no_number (Some n) h = cc
 
 mutual
-  pub has_numbers : (j : Json) → ranged j ≡ true → HasNumbers j
+  pub has_numbers : (j : Json) → numbers_in_range j ≡ true → HasNumbersInRange j
   has_numbers null h = tt
   has_numbers (boolean b) h = tt
   has_numbers (number s) h = a_number (number_of s) h
@@ -31,15 +31,15 @@ mutual
   has_numbers (array js) h = items_have_numbers js h
   has_numbers (object ms) h = members_have_numbers ms h
 
-  items_have_numbers : (js : Items) → ranged_items js ≡ true → ItemsHaveNumbers js
+  items_have_numbers : (js : Items) → item_numbers_in_range js ≡ true → ItemsHaveNumbersInRange js
   items_have_numbers no_items h = tt
   items_have_numbers (item j js) h =
-      let p = and_parts (ranged j) (ranged_items js) h in (has_numbers j p.0, items_have_numbers js p.1)
+      let p = and_parts (numbers_in_range j) (item_numbers_in_range js) h in (has_numbers j p.0, items_have_numbers js p.1)
 
-  members_have_numbers : (ms : Members) → ranged_members ms ≡ true → MembersHaveNumbers ms
+  members_have_numbers : (ms : Members) → member_numbers_in_range ms ≡ true → MembersHaveNumbersInRange ms
   members_have_numbers no_members h = tt
   members_have_numbers (member k j ms) h =
-      let p = and_parts (ranged j) (ranged_members ms) h in (has_numbers j p.0, members_have_numbers ms p.1)
+      let p = and_parts (numbers_in_range j) (member_numbers_in_range ms) h in (has_numbers j p.0, members_have_numbers ms p.1)
 
 -- ---- a number out of range
 
@@ -60,7 +60,7 @@ behind_true true b h is = h
 behind_true false b h is = cc
 
 mutual
-  pub out_of_range : (j : Json) → ranged j ≡ false → of_json j ≡ None
+  pub out_of_range : (j : Json) → numbers_in_range j ≡ false → of_json j ≡ None
   out_of_range null h = cc
   out_of_range (boolean b) h = cc
   out_of_range (number s) h = rw (no_number (number_of s) h) refl
@@ -68,54 +68,54 @@ mutual
   out_of_range (array js) h = rw (items_out_of_range js h) refl
   out_of_range (object ms) h = rw (members_out_of_range ms tree.no_members h) refl
 
-  items_out_of_range : (js : Items) → ranged_items js ≡ false → of_items js ≡ None
+  items_out_of_range : (js : Items) → item_numbers_in_range js ≡ false → of_items js ≡ None
   items_out_of_range no_items h = cc
   items_out_of_range (item j js) h =
-      none_item (ranged j) (of_json j) (of_items js) (λ f. out_of_range j f)
-      (λ t. items_out_of_range js (behind_true (ranged j) (ranged_items js) h t))
+      none_item (numbers_in_range j) (of_json j) (of_items js) (λ f. out_of_range j f)
+      (λ t. items_out_of_range js (behind_true (numbers_in_range j) (item_numbers_in_range js) h t))
 
-  members_out_of_range : (ms : Members) (found : tree.Members) → ranged_members ms ≡ false
+  members_out_of_range : (ms : Members) (found : tree.Members) → member_numbers_in_range ms ≡ false
       → of_members ms found ≡ None
   members_out_of_range no_members found h = cc
   members_out_of_range (member k j ms) found h =
-      none_member (ranged j) (of_json j) (λ d. of_members ms (tree.put k d found)) (λ f. out_of_range j f)
-      (λ t d. members_out_of_range ms (tree.put k d found) (behind_true (ranged j) (ranged_members ms) h t))
+      none_member (numbers_in_range j) (of_json j) (λ d. of_members ms (tree.put k d found)) (λ f. out_of_range j f)
+      (λ t d. members_out_of_range ms (tree.put k d found) (behind_true (numbers_in_range j) (member_numbers_in_range ms) h t))
 
 -- ---- what was read
 
 module _ {A : Type 0} (f : A → Bool) where
-  passes_at : (b : Bool) (p : A × List Token) (a : A) (r : List Token) → f p.0 ≡ b → sound f (Some p) ≡ Some (a, r)
+  passes_at : (b : Bool) (p : A × List Token) (a : A) (r : List Token) → f p.0 ≡ b → if_valid f (Some p) ≡ Some (a, r)
       → (Some p ≡ Some (a, r)) × (f a ≡ true)
   passes_at true p a r h e =
       let same : Some p ≡ Some (a, r) = sym (rw h refl) ∙ e in
       (same, ap (λ q. f q.0) (sym (same_Some {A = A × List Token} p (a, r) same)) ∙ h)
   passes_at false p a r h e = let never : None ≡ Some (a, r) = sym (rw h refl) ∙ e in cc
 
-  pub was_sound : (o : Option (A × List Token)) (a : A) (r : List Token) → sound f o ≡ Some (a, r)
+  pub was_sound : (o : Option (A × List Token)) (a : A) (r : List Token) → if_valid f o ≡ Some (a, r)
       → (o ≡ Some (a, r)) × (f a ≡ true)
   was_sound None a r e = cc
   was_sound (Some p) a r e = passes_at _ p a r refl e
 
   pub is_sound : (o : Option (A × List Token)) (a : A) (r : List Token) → o ≡ Some (a, r) → f a ≡ true
-      → sound f o ≡ Some (a, r)
+      → if_valid f o ≡ Some (a, r)
   is_sound o a r e h = rw (e, h) refl
 
-  pub none_sound : (o : Option (A × List Token)) → o ≡ None → sound f o ≡ None
+  pub none_sound : (o : Option (A × List Token)) → o ≡ None → if_valid f o ≡ None
   none_sound o e = rw e refl
 
 -- a part under a function that asks no more
 pub sound_under : {A B : Type 0} (f : A → Bool) (g : B → Bool) (wrap : A → B) (o : Option (A × List Token))
-    → ((a : A) → g (wrap a) ≡ f a) → sound g (parse_map wrap o) ≡ parse_map wrap (sound f o)
+    → ((a : A) → g (wrap a) ≡ f a) → if_valid g (parse_map wrap o) ≡ parse_map wrap (if_valid f o)
 sound_under f g wrap None same = refl
 sound_under f g wrap (Some (a, r)) same = under_at (f a) refl
   where
-    under_at : (b : Bool) → f a ≡ b → sound g (Some (wrap a, r)) ≡ parse_map wrap (sound f (Some (a, r)))
+    under_at : (b : Bool) → f a ≡ b → if_valid g (Some (wrap a, r)) ≡ parse_map wrap (if_valid f (Some (a, r)))
     under_at true h = rw (same a, h) refl
     under_at false h = rw (same a, h) refl
 
 -- a first part out of range
 pub sound_none : {A B : Type 0} (g : B → Bool) (wrap : A → B) (o : Option (A × List Token))
-    → ((a : A) → g (wrap a) ≡ false) → sound g (parse_map wrap o) ≡ None
+    → ((a : A) → g (wrap a) ≡ false) → if_valid g (parse_map wrap o) ≡ None
 sound_none g wrap None never = refl
 sound_none g wrap (Some (a, r)) never = rw (never a) refl
 
@@ -124,20 +124,20 @@ sound_none g wrap (Some (a, r)) never = rw (never a) refl
 abbrev whole : Option (Json × List Token) → Option tree.Data
 whole o = option_and_then of_json (option_and_then (λ p. if_last p.0 p.1) o)
 
-pub none_read : (o : Option (Json × List Token)) → sound ranged o ≡ None → whole o ≡ None
+pub none_read : (o : Option (Json × List Token)) → if_valid numbers_in_range o ≡ None → whole o ≡ None
 none_read None e = refl
-none_read (Some (j, [])) e = none_at (ranged j) refl
+none_read (Some (j, [])) e = none_at (numbers_in_range j) refl
   where
-    none_at : (b : Bool) → ranged j ≡ b → of_json j ≡ None
-    none_at true h = let never : Some (j, []) ≡ None = sym (is_sound ranged (Some (j, [])) j [] refl h) ∙ e in cc
+    none_at : (b : Bool) → numbers_in_range j ≡ b → of_json j ≡ None
+    none_at true h = let never : Some (j, []) ≡ None = sym (is_sound numbers_in_range (Some (j, [])) j [] refl h) ∙ e in cc
     none_at false h = out_of_range j h
 none_read (Some (j, t ∷ ts)) e = refl
 
 pub more_left : (o : Option (Json × List Token)) (j : Json) (t : Token) (ts : List Token)
-    → sound ranged o ≡ Some (j, t ∷ ts) → whole o ≡ None
-more_left o j t ts e = ap whole (was_sound ranged o j (t ∷ ts) e).0
+    → if_valid numbers_in_range o ≡ Some (j, t ∷ ts) → whole o ≡ None
+more_left o j t ts e = ap whole (was_sound numbers_in_range o j (t ∷ ts) e).0
 
-pub text_none : (text : List ℕ) (ts : List Token) → ts ≡ tokens text → sound ranged (value 127 ts) ≡ None
+pub text_none : (text : List ℕ) (ts : List Token) → ts ≡ tokens text → if_valid numbers_in_range (value 127 ts) ≡ None
     → read text ≡ None
 text_none text ts start none =
-    none_read (value 127 (tokens text)) (ap (λ us. sound ranged (value 127 us)) (sym start) ∙ none)
+    none_read (value 127 (tokens text)) (ap (λ us. if_valid numbers_in_range (value 127 us)) (sym start) ∙ none)

@@ -11,7 +11,7 @@ use Rattle.json.specs.declared.token.Token as found
 use Rattle.json.specs.declared.token.Token.TheVariants.{EndObject, EndArray, Key, Bad, String, Number, Bool, Null}
 use Rattle.json.proofs.Grammar.{items_end, items_more, items_fail, value_is, value-begin_array, value-begin_object}
 use Rattle.json.proofs.Grammar.{members_end, members_more, members_fail, members_no_key, read_key-shorter}
-use Rattle.bson_tokens.specs.Found.{double}
+use Rattle.bson_tokens.specs.DuplicateKeyPath.{first_duplicate}
 
 same_map : {A : Type 0} (o : Option (A × List Token)) → o ≡ parse_map (λ a. a) o
 same_map None = refl
@@ -110,7 +110,7 @@ too_deep_object depth ts r is deep = rw (is, deep) refl
 pub plain_begins : (depth : ℕ) (k : found.Token) (ts r : List Token) → ts ≡ token_of k ∷ r
     → ((s : Bor (List ℕ)) × (k ≡ String s)) ⊎ ((s : Bor (List ℕ)) × (k ≡ Number s)) ⊎ ((b : prelude.Bool) × (k ≡ Bool b))
     ⊎ (k ≡ Null)
-    → (j : Json) × (value depth ts ≡ Some (j, r)) × (None ≡ double j)
+    → (j : Json) × (value depth ts ≡ Some (j, r)) × (None ≡ first_duplicate j)
 plain_begins depth k ts r is (inl (s, e)) =
     (string s.now, ap (value depth) (is ∙ ap (λ t. token_of t ∷ r) e) ∙ value_is depth (Token.string s.now ∷ r), refl)
 plain_begins depth k ts r is (inr (inl (s, e))) =

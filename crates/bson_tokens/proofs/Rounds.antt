@@ -6,7 +6,7 @@ use Rattle.json.specs.Json.{Json, Items, no_items, item, Members, no_members, me
 use Rattle.json.specs.Json.{after_end_array, read_key, items_step, members_step, items, members, value}
 use Rattle.json.proofs.Grammar.{left, items_end, items_fail, items_more, members_end, members_fail, members_more}
 use Rattle.json.proofs.Grammar.{members_no_key, read_key-shorter, skip_value-shorter, value_is}
-use Rattle.bson_tokens.specs.Normalizing.{elements, inside}
+use Rattle.bson_tokens.specs.NormalizerStates.{elements, inside}
 
 -- ---- more rounds than there are tokens change nothing
 

@@ -10,12 +10,12 @@ use Rattle.json.specs.Json.{Json, null}
 use Rattle.json.specs.Print.{quoted, print}
 use Rattle.json.specs.Tree.{json_tokens}
 use Rattle.serde_json.specs.Written.{comma_if}
-use Rattle.bson_tokens.specs.Normalizing.{Entry, IsSpan, EntriesAreKept, MemberSpanValues, entry_at, member_text}
-use Rattle.bson_tokens.specs.Normalizing.{member_span_key, span_place, member_span_text, any_kept, spelled}
-use Rattle.bson_tokens.specs.Normalizing.{IsMemberSpanWithin, MemberBegun, ValueAdded}
-use Rattle.bson_tokens.specs.PutSpans.{Rise}
+use Rattle.bson_tokens.specs.NormalizerStates.{JsonMember, IsSpan, SpansMatch, MemberSpanValues, entry_at, member_text}
+use Rattle.bson_tokens.specs.NormalizerStates.{member_span_key, span_place, member_span_text, is_nonempty, member_texts}
+use Rattle.bson_tokens.specs.NormalizerStates.{IsMemberSpanWithin, MemberOpened, ValueAppended}
+use Rattle.bson_tokens.specs.PutMembers.{PositionsAscend}
 use Rattle.bson_tokens.specs.declared.normalizer.Normalizer.{Normalizer}
-use Rattle.bson_tokens.specs.declared.order.MemberSpan.{MemberSpan}
+use Rattle.bson_tokens.specs.declared.member_order.MemberSpan.{MemberSpan}
 
 -- the text between a front and a rest
 pub slice_between : (text front s rest : List ℕ) (start end : ℕ) → text ≡ front ++ (s ++ rest) → start ≡ length front
@@ -37,21 +37,21 @@ slice_grows body more start end less within =
 
 -- ---- one more
 
-spelled_behind : (es : List Entry) (e : Entry)
-    → spelled true (es ++ e ∷ []) ≡ spelled true es ++ (comma_if true ++ member_text e)
+spelled_behind : (es : List JsonMember) (e : JsonMember)
+    → member_texts true (es ++ e ∷ []) ≡ member_texts true es ++ (comma_if true ++ member_text e)
 spelled_behind [] e = ap (λ l. comma_if true ++ l) (append-nil (member_text e))
 spelled_behind (d ∷ es) e =
     let more = comma_if true ++ member_text e in
     ap (λ l. comma_if true ++ (member_text d ++ l)) (spelled_behind es e)
-    ∙ ap (λ l. comma_if true ++ l) (sym (append_assoc (member_text d) (spelled true es) more))
-    ∙ sym (append_assoc (comma_if true) (member_text d ++ spelled true es) more)
+    ∙ ap (λ l. comma_if true ++ l) (sym (append_assoc (member_text d) (member_texts true es) more))
+    ∙ sym (append_assoc (comma_if true) (member_text d ++ member_texts true es) more)
 
-spelled_last : (es : List Entry) (e : Entry)
-    → spelled false (es ++ e ∷ []) ≡ spelled false es ++ (comma_if (any_kept es) ++ member_text e)
+spelled_last : (es : List JsonMember) (e : JsonMember)
+    → member_texts false (es ++ e ∷ []) ≡ member_texts false es ++ (comma_if (is_nonempty es) ++ member_text e)
 spelled_last [] e = append-nil (member_text e)
 spelled_last (d ∷ es) e =
     ap (λ l. member_text d ++ l) (spelled_behind es e)
-    ∙ sym (append_assoc (member_text d) (spelled true es) (comma_if true ++ member_text e))
+    ∙ sym (append_assoc (member_text d) (member_texts true es) (comma_if true ++ member_text e))
 
 module _ (values : MemberSpanValues) (j : Json) (at : ℕ) where
   abbrev with_value : MemberSpanValues
@@ -70,8 +70,8 @@ module _ (values : MemberSpanValues) (j : Json) (at : ℕ) where
       ap (λ v. (member_span_key p, v) ∷ map (entry_at with_value) ps) (value_there p.start (All-head (λ q. q.start < at) p ps h))
       ∙ ap (λ l. entry_at values p ∷ l) (entries_there ps (All-tail (λ q. q.start < at) p ps h))
 
-rise_last : (low : ℕ) (ps : List MemberSpan) (p : MemberSpan) → Rise span_place low ps → low ≤ p.place
-    → All (λ q. q.place < p.place) ps → Rise span_place low (ps ++ p ∷ [])
+rise_last : (low : ℕ) (ps : List MemberSpan) (p : MemberSpan) → PositionsAscend span_place low ps → low ≤ p.place
+    → All (λ q. q.place < p.place) ps → PositionsAscend span_place low (ps ++ p ∷ [])
 rise_last low [] p rise first above = (first, tt)
 rise_last low (q ∷ ps) p rise first above = (
   rise.0,
@@ -79,13 +79,13 @@ rise_last low (q ∷ ps) p rise first above = (
       (All-tail (λ r. r.place < p.place) q ps above),
 )
 
-pub stand_more : (body : List ℕ) (ps : List MemberSpan) (es : List Entry) (p : MemberSpan) (j : Json) → EntriesAreKept body ps es
-    → p.start ≡ length (body ++ comma_if (any_kept es)) → p.place ≡ p.start
-    → p.end ≡ length (body ++ (comma_if (any_kept es) ++ member_text (member_span_key p, j)))
-    → EntriesAreKept (body ++ (comma_if (any_kept es) ++ member_text (member_span_key p, j))) (ps ++ p ∷ [])
+pub stand_more : (body : List ℕ) (ps : List MemberSpan) (es : List JsonMember) (p : MemberSpan) (j : Json) → SpansMatch body ps es
+    → p.start ≡ length (body ++ comma_if (is_nonempty es)) → p.place ≡ p.start
+    → p.end ≡ length (body ++ (comma_if (is_nonempty es) ++ member_text (member_span_key p, j)))
+    → SpansMatch (body ++ (comma_if (is_nonempty es) ++ member_text (member_span_key p, j))) (ps ++ p ∷ [])
     (es ++ (member_span_key p, j) ∷ [])
 stand_more body ps es p j stand start place end =
-    let comma = comma_if (any_kept es) in
+    let comma = comma_if (is_nonempty es) in
     let s = member_text (member_span_key p, j) in
     let more = comma ++ s in
     let all = body ++ more in
@@ -121,11 +121,11 @@ stand_more body ps es p j stand start place end =
     }
   where
     still_spans : All (λ q. q.start < p.start) ps → All (IsSpan body stand.values) ps
-        → All (IsSpan (body ++ (comma_if (any_kept es) ++ member_text (member_span_key p, j)))
+        → All (IsSpan (body ++ (comma_if (is_nonempty es) ++ member_text (member_span_key p, j)))
         (with_value stand.values j p.start)) ps
     still_spans before all = λ i d less.
         let h = all i d less in
-        let more = comma_if (any_kept es) ++ member_text (member_span_key p, j) in
+        let more = comma_if (is_nonempty es) ++ member_text (member_span_key p, j) in
         let q = slice_index_or ps i d in (
           (h.0.0, omega (arith, h.0.1, length-append body more)),
           slice_grows body more q.start q.end h.0.0 h.0.1 ∙ h.1
@@ -157,9 +157,9 @@ pub end_behind : (first body text : List ℕ) (start end : ℕ) → start ≡ le
 end_behind first body text start end begun stands is =
     omega (arith, begun, is, ap length stands, length-append first body)
 
-pub none_stand : (text : List ℕ) (ps : List MemberSpan) → text ≡ [] → ps ≡ [] → EntriesAreKept text ps []
+pub none_stand : (text : List ℕ) (ps : List MemberSpan) → text ≡ [] → ps ≡ [] → SpansMatch text ps []
 none_stand text ps no_text no_spans =
-    subst (λ t. EntriesAreKept t ps []) (sym no_text) (subst (λ l. EntriesAreKept [] l []) (sym no_spans) record {
+    subst (λ t. SpansMatch t ps []) (sym no_text) (subst (λ l. SpansMatch [] l []) (sym no_spans) record {
       values = λ i. null;
       spelled_is = refl;
       entries = refl;
@@ -168,22 +168,22 @@ none_stand text ps no_text no_spans =
       below = All-nil (λ q. q.place < 0);
     })
 
-pub one_stands : (es : List Entry) (e : Entry) → true ≡ any_kept (es ++ e ∷ [])
+pub one_stands : (es : List JsonMember) (e : JsonMember) → true ≡ is_nonempty (es ++ e ∷ [])
 one_stands [] e = refl
 one_stands (d ∷ es) e = refl
 
 -- ---- an open object
 
 -- the text behind the first is that of the pieces
-pub record Grown (first text : List ℕ) (needs_comma : Bool) (ps : List MemberSpan) (es : List Entry) : Type 0 where
+pub record Grown (first text : List ℕ) (needs_comma : Bool) (ps : List MemberSpan) (es : List JsonMember) : Type 0 where
   pub body : List ℕ
   pub text_is : text ≡ first ++ body
-  pub stand : EntriesAreKept body ps es
-  pub behind_is : needs_comma ≡ any_kept es
+  pub stand : SpansMatch body ps es
+  pub behind_is : needs_comma ≡ is_nonempty es
 
-pub grown_more : (first : List ℕ) (w mid later : Normalizer) (start place end : ℕ) (ps qs : List MemberSpan) (es : List Entry)
+pub grown_more : (first : List ℕ) (w mid later : Normalizer) (start place end : ℕ) (ps qs : List MemberSpan) (es : List JsonMember)
     (k : Bor (List ℕ)) (j : Json) → Grown first w.text.items w.needs_comma ps es → start ≡ length first
-    → MemberBegun w start k.now place mid → ValueAdded mid j later → end ≡ length later.text.items - start
+    → MemberOpened w start k.now place mid → ValueAppended mid j later → end ≡ length later.text.items - start
     → qs ≡ ps ++ record { key = k; place = place; start = place; end = end } ∷ []
     → Grown first later.text.items later.needs_comma qs (es ++ (k.now, j) ∷ [])
 grown_more first w mid later start place end ps qs es k j g begun (at, named) added ended held =
@@ -197,18 +197,18 @@ grown_more first w mid later start place end ps qs es k j g begun (at, named) ad
     let more = stand_more g.body ps es p j g.stand (here ∙ ap (λ x. length (g.body ++ comma_if x)) g.behind_is) refl
     (there ∙ ap (λ x. length (g.body ++ (comma_if x ++ own))) g.behind_is) in
     record {
-      body = g.body ++ (comma_if (any_kept es) ++ own);
+      body = g.body ++ (comma_if (is_nonempty es) ++ own);
       text_is = text ∙ ap (λ x. first ++ (g.body ++ (comma_if x ++ own))) g.behind_is;
-      stand = subst (λ ls. EntriesAreKept (g.body ++ (comma_if (any_kept es) ++ own)) ls (es ++ (k.now, j) ∷ [])) (sym held) more;
+      stand = subst (λ ls. SpansMatch (g.body ++ (comma_if (is_nonempty es) ++ own)) ls (es ++ (k.now, j) ∷ [])) (sym held) more;
       behind_is = added.needs_comma ∙ one_stands es (k.now, j);
     }
 
-pub grown_inside : (first text : List ℕ) (b : Bool) (ps : List MemberSpan) (es : List Entry) (start : ℕ)
+pub grown_inside : (first text : List ℕ) (b : Bool) (ps : List MemberSpan) (es : List JsonMember) (start : ℕ)
     → Grown first text b ps es → start ≡ length first → start ≤ length text
 grown_inside first text b ps es start g begun =
     omega (arith, begun, ap length g.text_is, length-append first g.body)
 
-pub grown_within : (first text : List ℕ) (b : Bool) (ps : List MemberSpan) (es : List Entry) (start : ℕ)
+pub grown_within : (first text : List ℕ) (b : Bool) (ps : List MemberSpan) (es : List JsonMember) (start : ℕ)
     → Grown first text b ps es → start ≡ length first → All (IsMemberSpanWithin (drop start text)) ps
 grown_within first text b ps es start g begun =
     let body : drop start text ≡ g.body =

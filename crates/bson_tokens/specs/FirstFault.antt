@@ -12,60 +12,60 @@ use Rattle.bson_scalar.specs.declared.form.Doubles.{Doubles}
 use Rattle.bson_tree.specs.Place.{PathSegment, key, element}
 
 -- an error and the path from it outward, or none
-abbrev pub Verdict : Type 0
-Verdict = Option (Fault × List PathSegment)
+abbrev pub FaultAndPath : Type 0
+FaultAndPath = Option (Fault × List PathSegment)
 
-abbrev pub within : PathSegment → Verdict → Verdict
-within t None = None
-within t (Some f) = Some (f.0, f.1 ++ t ∷ [])
+abbrev pub add_segment : PathSegment → FaultAndPath → FaultAndPath
+add_segment t None = None
+add_segment t (Some f) = Some (f.0, f.1 ++ t ∷ [])
 
-abbrev pub or : Verdict → Verdict → Verdict
+abbrev pub or : FaultAndPath → FaultAndPath → FaultAndPath
 or None w = w
 or (Some f) w = Some f
 
-abbrev pub here : Verdict
-here = Some (wrong_shape, [])
+abbrev pub wrong_shape_here : FaultAndPath
+wrong_shape_here = Some (wrong_shape, [])
 
-abbrev pub of_scalar : Result Scalar Fault → Verdict
-of_scalar (Ok x) = None
-of_scalar (Err f) = Some (f, [])
+abbrev pub scalar_fault : Result Scalar Fault → FaultAndPath
+scalar_fault (Ok x) = None
+scalar_fault (Err f) = Some (f, [])
 
-abbrev pub of_code : Data → Verdict → Verdict
-of_code (tree.string s) scope = scope
-of_code _ scope = here
+abbrev pub code_fault : Data → FaultAndPath → FaultAndPath
+code_fault (tree.string s) scope = scope
+code_fault _ scope = wrong_shape_here
 
 abbrev mutual
-  pub found : Doubles → Data → Verdict
-  found D tree.null = None
-  found D (tree.boolean b) = None
-  found D (tree.number n) = of_scalar (number_read_in D n)
-  found D (tree.string s) = None
-  found D (tree.array ds) = found_items D 0 ds
-  found D (tree.object ms) = if has_wrapper ms then found_wrapper D ms else found_members D ms
+  pub fault_in_tree : Doubles → Data → FaultAndPath
+  fault_in_tree doubles tree.null = None
+  fault_in_tree doubles (tree.boolean b) = None
+  fault_in_tree doubles (tree.number n) = scalar_fault (number_read_in doubles n)
+  fault_in_tree doubles (tree.string s) = None
+  fault_in_tree doubles (tree.array ds) = first_item_fault doubles 0 ds
+  fault_in_tree doubles (tree.object ms) = if has_wrapper ms then wrapper_fault doubles ms else first_member_fault doubles ms
 
   -- among elements, the first of which has this index in its array
-  pub found_items : Doubles → ℕ → Items → Verdict
-  found_items D n no_items = None
-  found_items D n (item d ds) = or (within (element n) (found D d)) (found_items D (n + 1) ds)
+  pub first_item_fault : Doubles → ℕ → Items → FaultAndPath
+  first_item_fault doubles n no_items = None
+  first_item_fault doubles n (item d ds) = or (add_segment (element n) (fault_in_tree doubles d)) (first_item_fault doubles (n + 1) ds)
 
   -- among the values of an object, in ascending key order
-  pub found_members : Doubles → Members → Verdict
-  found_members D no_members = None
-  found_members D (member k d ms) = or (within (key k) (found D d)) (found_members D ms)
+  pub first_member_fault : Doubles → Members → FaultAndPath
+  first_member_fault doubles no_members = None
+  first_member_fault doubles (member k d ms) = or (add_segment (key k) (fault_in_tree doubles d)) (first_member_fault doubles ms)
 
   -- in an object with a wrapper key
-  pub found_wrapper : Doubles → Members → Verdict
-  found_wrapper D no_members = here
-  found_wrapper D (member k d no_members) = within (key k) (of_scalar (optional_wrapper_read_in D (wrapper_of k) d))
-  found_wrapper D (member k d (member l e no_members)) =
-      if bytes_eq k (codes "$code") && bytes_eq l (codes "$scope") then of_code d (found_scope D e) else here
-  found_wrapper D (member k d (member l e (member m f ms))) = here
+  pub wrapper_fault : Doubles → Members → FaultAndPath
+  wrapper_fault doubles no_members = wrong_shape_here
+  wrapper_fault doubles (member k d no_members) = add_segment (key k) (scalar_fault (optional_wrapper_read_in doubles (wrapper_of k) d))
+  wrapper_fault doubles (member k d (member l e no_members)) =
+      if bytes_eq k (codes "$code") && bytes_eq l (codes "$scope") then code_fault d (scope_fault doubles e) else wrong_shape_here
+  wrapper_fault doubles (member k d (member l e (member m f ms))) = wrong_shape_here
 
   -- in the scope of code
-  pub found_scope : Doubles → Data → Verdict
-  found_scope D tree.null = None
-  found_scope D (tree.boolean b) = here
-  found_scope D (tree.number n) = here
-  found_scope D (tree.string s) = here
-  found_scope D (tree.array ds) = here
-  found_scope D (tree.object ms) = within (key (codes "$scope")) (found_members D ms)
+  pub scope_fault : Doubles → Data → FaultAndPath
+  scope_fault doubles tree.null = None
+  scope_fault doubles (tree.boolean b) = wrong_shape_here
+  scope_fault doubles (tree.number n) = wrong_shape_here
+  scope_fault doubles (tree.string s) = wrong_shape_here
+  scope_fault doubles (tree.array ds) = wrong_shape_here
+  scope_fault doubles (tree.object ms) = add_segment (key (codes "$scope")) (first_member_fault doubles ms)

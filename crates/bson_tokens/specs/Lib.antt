@@ -1,16 +1,16 @@
 pub mod Normalized
-pub mod Normalizing
-pub mod Double
-pub mod Found
-pub mod PutSpans
+pub mod NormalizerStates
+pub mod DuplicateKeys
+pub mod DuplicateKeyPath
+pub mod PutMembers
 pub mod FirstFault
-pub mod Held
-pub mod Parts
-pub mod Prefix
+pub mod WrapperContent
+pub mod ReadOutcomes
+pub mod KeyPrefix
 pub mod ValueStart
-pub mod TextPlaces
+pub mod TextErrors
 -- what public clauses cite of the crates below, so that a caller names this crate alone
-pub use Rattle.bson_tokens.specs.Parts
+pub use Rattle.bson_tokens.specs.ReadOutcomes
 pub use Rattle.json.specs.Strict
 pub use Rattle.bson_tree.specs.Place
 pub use Rattle.serde_json.specs.Read

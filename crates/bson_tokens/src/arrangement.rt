@@ -4,7 +4,7 @@
 #[derive(Clone, Copy, Debug, Drop, PartialEq, Eq)]
 pub enum Arrangement {
     /// Each key at its first position, with its last value.
-    FirstPlaces,
+    FirstPositions,
     /// In ascending order of the keys' bytes, each with its last value.
     Ascending,
 }

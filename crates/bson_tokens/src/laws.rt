@@ -15,9 +15,9 @@ ghost use Rattle.bson_model.specs.DuplicateKeys.{first_places};
 ghost use Rattle.bson_model.specs.OrderedTexts.{HasMeaningInOrder, MeansByDefault};
 ghost use Rattle.bson_tree.specs.Place.{PathSegment};
 ghost use Rattle.bson_tokens.specs.Normalized.{normalized, normalized_members, IsNormalizedText};
-ghost use Rattle.bson_tokens.specs.Double.{DuplicateAt};
+ghost use Rattle.bson_tokens.specs.DuplicateKeys.{DuplicateAt};
 ghost use Rattle.bson_tokens.specs.declared.arrangement.Arrangement.{Arrangement};
-ghost use Rattle.bson_tokens.specs.declared.arrangement.Arrangement.TheVariants.{FirstPlaces, Ascending};
+ghost use Rattle.bson_tokens.specs.declared.arrangement.Arrangement.TheVariants.{FirstPositions, Ascending};
 
 /// Proves that a value with a duplicate key has no unique keys, and one path to the first such key;
 /// each value that has no unique keys has one.
@@ -30,7 +30,7 @@ pub fn one_double()
 /// Proves that the normalized text is read as the text is: by first places as a tree in the order
 /// of the text, and in either arrangement as `serde_json`'s tree.
 pub fn normalized_texts_read_alike()
-    ensures in_order { (text written : List ℕ) → IsNormalizedText FirstPlaces text written
+    ensures in_order { (text written : List ℕ) → IsNormalizedText FirstPositions text written
         → read_in_order written ≡ read_in_order text }
     ensures by_key { (a : Arrangement) (text written : List ℕ) → IsNormalizedText a text written
         → read written ≡ read text }
@@ -47,7 +47,7 @@ pub fn normalized_once()
 /// Proves that an normalized object has each key at its first place or by ascending bytes, with what
 /// stands last at it in the object, normalized.
 pub fn normalized_places()
-    ensures first { (ms : Members) → keys (normalized_members FirstPlaces ms no_members) ≡ first_places (keys ms) }
+    ensures first { (ms : Members) → keys (normalized_members FirstPositions ms no_members) ≡ first_places (keys ms) }
     ensures ascending { (ms : Members)
         → IsStrictlySortedBy (slice_cmp nat_cmp) (keys (normalized_members Ascending ms no_members)) }
     ensures last { (a : Arrangement) (ms : Members) (k : List ℕ)
@@ -57,8 +57,8 @@ pub fn normalized_places()
 /// Proves that a text means the values that its normalized text means: by first places in the order
 /// of the text, and in either arrangement by default.
 pub fn normalized_texts_mean_alike()
-    ensures in_order { (D : Doubles) (text written : List ℕ) (v : Value) → IsNormalizedText FirstPlaces text written
-        → (HasMeaningInOrder D written v ↔ HasMeaningInOrder D text v) }
-    ensures by_default { (D : Doubles) (a : Arrangement) (text written : List ℕ) (v : Value)
-        → IsNormalizedText a text written → (MeansByDefault D written v ↔ MeansByDefault D text v) }
+    ensures in_order { (doubles : Doubles) (text written : List ℕ) (v : Value) → IsNormalizedText FirstPositions text written
+        → (HasMeaningInOrder doubles written v ↔ HasMeaningInOrder doubles text v) }
+    ensures by_default { (doubles : Doubles) (a : Arrangement) (text written : List ℕ) (v : Value)
+        → IsNormalizedText a text written → (MeansByDefault doubles written v ↔ MeansByDefault doubles text v) }
 {}

@@ -1,23 +1,23 @@
 //! Parts of Extended JSON over the tokens of a text, without a tree of the whole.
 //!
-//! In reading order: `start` and `number` (a value of one token), `held` (the content of a
-//! wrapper), `prefix` (the first bytes of a key). `walk` finds the first duplicate key, and `path`
+//! In reading order: `start` and `number` (a value of one token), `wrapper_content` (the content of a
+//! wrapper), `key_prefix` (the first bytes of a key). `find_duplicate` finds the first duplicate key, and `key_path`
 //! has the segments to it. `arrangement` says where members go, `normalize` writes the text with
-//! each key once, by `normalizer` (what is written) and `order` (members put in order). `laws` has
+//! each key once, by `normalizer` (what is written) and `member_order` (members put in order). `laws` has
 //! the laws of the definitions.
 #![tactic(auto)]
 
 pub mod arrangement;
-pub mod held;
+pub mod wrapper_content;
 pub mod laws;
 pub mod normalize;
 mod normalizer;
 pub mod number;
-mod order;
-mod path;
-pub mod prefix;
+mod member_order;
+mod key_path;
+pub mod key_prefix;
 pub mod value_start;
-pub mod walk;
+pub mod find_duplicate;
 
 /// How deep arrays and objects may nest in a JSON text.
 pub const MAX_DEPTH: usize = 127;

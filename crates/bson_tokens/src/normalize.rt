@@ -4,17 +4,17 @@ ghost use Rattle.json.specs.Json.{array, object, value};
 ghost use Rattle.json.specs.Json as json;
 ghost use Rattle.json.specs.Print.{IsNumber};
 ghost use Rattle.serde_json.specs.Read.{read};
-ghost use Rattle.bson_tokens.specs.Parts.{InvalidMeansNone};
+ghost use Rattle.bson_tokens.specs.ReadOutcomes.{InvalidIfNotRead};
 ghost use Rattle.bson_tokens.specs.Normalized.{IsNormalizedText, normalized};
-ghost use Rattle.bson_tokens.specs.Normalizing.{Passes, ValueAdded, elements, in_range, inside, sound};
-ghost use Rattle.bson_tokens.specs.Normalizing.{ranged, ranged_items, ranged_members};
+ghost use Rattle.bson_tokens.specs.NormalizerStates.{NormalizesRead, ValueAppended, elements, in_range, inside, if_valid};
+ghost use Rattle.bson_tokens.specs.NormalizerStates.{numbers_in_range, item_numbers_in_range, member_numbers_in_range};
 ghost use Rattle.json.specs.declared.error.Error.TheVariants.{Invalid};
 
 use crate::MAX_DEPTH;
 use crate::arrangement::Arrangement;
-use crate::normalizer::{EARLY, Normalizer, into_text};
+use crate::normalizer::{EARLY_LIMIT, Normalizer, into_text};
 use crate::number::number;
-use crate::order::{MemberSpan, hold};
+use crate::member_order::{MemberSpan, push_span};
 use json::{Error, Reader, Scratch, Token};
 use std::alloc::Global;
 
@@ -31,12 +31,12 @@ use std::alloc::Global;
 ///
 /// ```
 /// let text = r#"{"b": 1, "a": 2, "b": 3}"#;
-/// let normalized = normalize_text(alloc, Arrangement::FirstPlaces, text)?;
+/// let normalized = normalize_text(alloc, Arrangement::FirstPositions, text)?;
 /// println!(rt; "{normalized}")?; // {"b":3,"a":2}
 /// ```
 pub fn normalize_text(alloc: Global, arrangement: Arrangement, text: &str) -> Result<String, Error>
     ensures ok { IfOk result (λ written. IsNormalizedText arrangement text.now (string_bytes written)) }
-    ensures broken { IfErr result (InvalidMeansNone (read text.now)) }
+    ensures broken { IfErr result (InvalidIfNotRead (read text.now)) }
 {
     let mut scratch = Scratch::new(alloc);
     let mut reader = Reader::new(text, &mut scratch)?;
@@ -50,9 +50,9 @@ pub fn normalize_text(alloc: Global, arrangement: Arrangement, text: &str) -> Re
 
 #[cycle(write)]
 fn write_value(reader: &mut Reader<'_>, depth: usize, out: &mut Normalizer) -> Result<(), Error>
-    ensures ok { OnOk result (Passes (sound ranged (value depth reader.old)) (normalized out.old.arrangement)
+    ensures ok { OnOk result (NormalizesRead (if_valid numbers_in_range (value depth reader.old)) (normalized out.old.arrangement)
         reader.new out.old out.new) }
-    ensures broken { IfErr result (InvalidMeansNone (sound ranged (value depth reader.old))) }
+    ensures broken { IfErr result (InvalidIfNotRead (if_valid numbers_in_range (value depth reader.old))) }
 {
     let token = reader.next().ok_or(Error::Invalid)?;
     match token {
@@ -76,7 +76,7 @@ fn write_value(reader: &mut Reader<'_>, depth: usize, out: &mut Normalizer) -> R
 
 fn write_number(text: &str, out: &mut Normalizer) -> Result<(), Error>
     requires { IsNumber text.now }
-    ensures ok { OnOk result ((in_range text.now ≡ true) × ValueAdded out.old (json.number text.now) out.new) }
+    ensures ok { OnOk result ((in_range text.now ≡ true) × ValueAppended out.old (json.number text.now) out.new) }
     ensures broken { IfErr result (λ e. e ≡ Invalid → in_range text.now ≡ false) }
 {
     if number(text).is_none() {
@@ -88,9 +88,9 @@ fn write_number(text: &str, out: &mut Normalizer) -> Result<(), Error>
 // Writes the elements of an array after its bracket.
 #[cycle(write)]
 fn write_items(reader: &mut Reader<'_>, depth: usize, out: &mut Normalizer) -> Result<(), Error>
-    ensures ok { OnOk result (Passes (sound ranged_items (elements depth reader.old))
+    ensures ok { OnOk result (NormalizesRead (if_valid item_numbers_in_range (elements depth reader.old))
         (λ js. normalized out.old.arrangement (array js)) reader.new out.old out.new) }
-    ensures broken { IfErr result (InvalidMeansNone (sound ranged_items (elements depth reader.old))) }
+    ensures broken { IfErr result (InvalidIfNotRead (if_valid item_numbers_in_range (elements depth reader.old))) }
 {
     out.open(b'[')?;
     'items: while !reader.take_end_array() {
@@ -102,13 +102,13 @@ fn write_items(reader: &mut Reader<'_>, depth: usize, out: &mut Normalizer) -> R
 // Writes the members of an object after its brace.
 #[cycle(write)]
 fn write_members(reader: &mut Reader<'_>, depth: usize, out: &mut Normalizer) -> Result<(), Error>
-    ensures ok { OnOk result (Passes (sound ranged_members (inside depth reader.old))
+    ensures ok { OnOk result (NormalizesRead (if_valid member_numbers_in_range (inside depth reader.old))
         (λ ms. normalized out.old.arrangement (object ms)) reader.new out.old out.new) }
-    ensures broken { IfErr result (InvalidMeansNone (sound ranged_members (inside depth reader.old))) }
+    ensures broken { IfErr result (InvalidIfNotRead (if_valid member_numbers_in_range (inside depth reader.old))) }
 {
     let start = out.begin_object()?;
     let mut spans = Vec::new(out.alloc);
-    let mut most = EARLY;
+    let mut most = EARLY_LIMIT;
     'members: while let Some(key) = reader.next_key()? {
         let place = out.begin_member(start, key)?;
         write_value(reader, depth, out)?;
@@ -118,9 +118,9 @@ fn write_members(reader: &mut Reader<'_>, depth: usize, out: &mut Normalizer) ->
             start: place,
             end: out.place(start),
         };
-        hold(&mut spans, span)?;
-        most = out.settle_early(start, &mut spans, most)?;
+        push_span(&mut spans, span)?;
+        most = out.normalize_members_early(start, &mut spans, most)?;
     }
-    out.settle(start, &mut spans)?;
+    out.normalize_members(start, &mut spans)?;
     Ok(out.close(b'}')?)
 }

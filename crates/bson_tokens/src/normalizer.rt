@@ -6,17 +6,17 @@ ghost use Rattle.json.specs.Print.{print, IsPrintable};
 ghost use Rattle.json.specs.Reads.{token_of};
 ghost use Rattle.serde_json.specs.Written.{comma_if};
 ghost use Rattle.json.specs.declared.error.Error.TheVariants.{OutOfMemory};
-ghost use Rattle.bson_tokens.specs.Normalizing.{Added, Closed, IsBegun, IsSettled, IsSettledEarly, IsMemberSpanWithin, MemberBegun};
+ghost use Rattle.bson_tokens.specs.NormalizerStates.{AppendedAfterComma, Appended, ObjectOpened, IsObjectNormalized, IsObjectNormalizedEarly, IsMemberSpanWithin, MemberOpened};
 
 use crate::arrangement::Arrangement;
-use crate::order::{MemberSpan, normalize_spans};
+use crate::member_order::{MemberSpan, normalize_spans};
 use json::{Error, Token, Writer};
 use std::alloc::{AllocError, Global};
 use std::mem::replace;
 
 // If an open object has this many members, they are normalized before its end, and again after each
 // doubling.
-pub(crate) const EARLY: usize = 1_000;
+pub(crate) const EARLY_LIMIT: usize = 1_000;
 
 // The text so far. The members of an open object are in it in input order.
 #[derive(Drop)]
@@ -62,7 +62,7 @@ impl Normalizer {
 
     // Adds a comma if one is needed.
     fn add_comma(&mut self) -> Result<(), AllocError>
-        ensures { OnOk result (Closed self.old (comma_if self.old.needs_comma) self.old.needs_comma self.new) }
+        ensures { OnOk result (Appended self.old (comma_if self.old.needs_comma) self.old.needs_comma self.new) }
     {
         if self.needs_comma {
             self.text.push(b',')?;
@@ -73,7 +73,7 @@ impl Normalizer {
     // Adds a token, and says whether the next value needs a comma.
     fn add(&mut self, token: Token<'_>, needs_comma: bool) -> Result<(), AllocError>
         requires { IsPrintable (token_of token) }
-        ensures { OnOk result (Closed self.old (print (token_of token.entry ∷ [])) needs_comma self.new) }
+        ensures { OnOk result (Appended self.old (print (token_of token.entry ∷ [])) needs_comma self.new) }
     {
         let mut room = replace(&mut self.part, Vec::new(self.alloc));
         room.clear();
@@ -88,7 +88,7 @@ impl Normalizer {
     // Adds a value of one token.
     pub(crate) fn scalar(&mut self, token: Token<'_>) -> Result<(), AllocError>
         requires { IsPrintable (token_of token) }
-        ensures { OnOk result (Added self.old (print (token_of token.entry ∷ [])) true self.new) }
+        ensures { OnOk result (AppendedAfterComma self.old (print (token_of token.entry ∷ [])) true self.new) }
     {
         self.add_comma()?;
         self.add(token, true)
@@ -96,7 +96,7 @@ impl Normalizer {
 
     // Opens an array or an object.
     pub(crate) fn open(&mut self, byte: u8) -> Result<(), AllocError>
-        ensures { OnOk result (Added self.old (byte ∷ []) false self.new) }
+        ensures { OnOk result (AppendedAfterComma self.old (byte ∷ []) false self.new) }
     {
         self.add_comma()?;
         self.text.push(byte)?;
@@ -106,7 +106,7 @@ impl Normalizer {
 
     // Closes an array or an object.
     pub(crate) fn close(&mut self, byte: u8) -> Result<(), AllocError>
-        ensures { OnOk result (Closed self.old (byte ∷ []) true self.new) }
+        ensures { OnOk result (Appended self.old (byte ∷ []) true self.new) }
     {
         self.text.push(byte)?;
         self.needs_comma = true;
@@ -115,7 +115,7 @@ impl Normalizer {
 
     // Opens an object, and returns the position of its first member.
     pub(crate) fn begin_object(&mut self) -> Result<usize, AllocError>
-        ensures { IfOk result (λ start. IsBegun self.old start self.new) }
+        ensures { IfOk result (λ start. ObjectOpened self.old start self.new) }
     {
         self.open(b'{')?;
         Ok(self.text.len())
@@ -130,7 +130,7 @@ impl Normalizer {
 
     // Adds the key of a member, and returns the member's position in its object.
     pub(crate) fn begin_member(&mut self, start: usize, key: &str) -> Result<usize, AllocError>
-        ensures { IfOk result (λ place. MemberBegun self.old start key.now place self.new) }
+        ensures { IfOk result (λ place. MemberOpened self.old start key.now place self.new) }
     {
         self.add_comma()?;
         let place = self.place(start);
@@ -139,14 +139,14 @@ impl Normalizer {
     }
 
     // Normalizes the members of an open object.
-    pub(crate) fn settle(
+    pub(crate) fn normalize_members(
         &mut self,
         start: usize,
         spans: &mut Vec<MemberSpan<'_>>,
     ) -> Result<(), AllocError>
         requires inside { start ≤ length self.old.text.items }
         requires within { All (IsMemberSpanWithin (drop start self.old.text.items)) spans.old.items }
-        ensures { OnOk result (IsSettled self.old start spans.old.items spans.new.items self.new) }
+        ensures { OnOk result (IsObjectNormalized self.old start spans.old.items spans.new.items self.new) }
     {
         let body = &self.text[start..];
         if let Some(normalized) = normalize_spans(self.alloc, self.arrangement, spans, body)? {
@@ -157,7 +157,7 @@ impl Normalizer {
     }
 
     // Normalizes the members if there are this many, and returns the next limit.
-    pub(crate) fn settle_early(
+    pub(crate) fn normalize_members_early(
         &mut self,
         start: usize,
         spans: &mut Vec<MemberSpan<'_>>,
@@ -165,12 +165,12 @@ impl Normalizer {
     ) -> Result<usize, AllocError>
         requires inside { start ≤ length self.old.text.items }
         requires within { All (IsMemberSpanWithin (drop start self.old.text.items)) spans.old.items }
-        ensures { OnOk result (IsSettledEarly self.old start spans.old.items spans.new.items self.new) }
+        ensures { OnOk result (IsObjectNormalizedEarly self.old start spans.old.items spans.new.items self.new) }
     {
         if spans.len() < most {
             return Ok(most);
         }
-        self.settle(start, spans)?;
-        Ok(spans.len().saturating_mul(2).max(EARLY))
+        self.normalize_members(start, spans)?;
+        Ok(spans.len().saturating_mul(2).max(EARLY_LIMIT))
     }
 }

@@ -3,7 +3,7 @@ ghost use Rattle.std.specs.Prelude.{◌≡◌, ◌<◌, length, IfOk, IfErr, OnO
 ghost use Rattle.json.specs.Json.{value};
 ghost use Rattle.serde_json.specs.Read.{of_json, converted};
 ghost use Rattle.serde_json.specs.View.{view};
-ghost use Rattle.bson_tokens.specs.Parts.{InvalidMeansNone};
+ghost use Rattle.bson_tokens.specs.ReadOutcomes.{InvalidIfNotRead};
 ghost use Rattle.bson_tokens.specs.ValueStart.{StartsValue, primitive_tree};
 
 use crate::number::number;
@@ -41,7 +41,7 @@ pub enum ValueStart<'a> {
 #[inline(always)]
 pub fn read_start<'a>(reader: &mut Reader<'a>, depth: usize) -> Result<ValueStart<'a>, Error>
     ensures ok { IfOk result (λ start. StartsValue depth reader.old start reader.new) }
-    ensures broken { IfErr result (InvalidMeansNone (converted of_json (value depth reader.old))) }
+    ensures broken { IfErr result (InvalidIfNotRead (converted of_json (value depth reader.old))) }
     ensures shorter { OnOk result (length reader.new < length reader.old) }
 {
     let token = reader.next().ok_or(Error::Invalid)?;

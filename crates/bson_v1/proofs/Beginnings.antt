@@ -6,7 +6,7 @@ use Rattle.json.specs.Json as json
 use Rattle.json.specs.Token.{Token}
 use Rattle.json.specs.Token as token
 use Rattle.json.proofs.Grammar.{read_key_is, value_is}
-use Rattle.bson_tokens.specs.Normalizing.{inside}
+use Rattle.bson_tokens.specs.NormalizerStates.{inside}
 use Rattle.bson_tokens.proofs.Offered.{last_member, one_member}
 use Rattle.json.specs.Reads.{token_of}
 use Rattle.json.specs.declared.token.Token as found

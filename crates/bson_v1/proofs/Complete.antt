@@ -10,10 +10,10 @@ use Rattle.json.specs.Tree.{depth, json_tokens}
 use Rattle.json.specs.declared.error.Error.{Error}
 use Rattle.json.proofs.Printed.Trees.{value-json_tokens}
 use Rattle.serde_json.specs.Read.{max_depth}
-use Rattle.bson_tokens.specs.Parts.{InvalidMeansNone}
+use Rattle.bson_tokens.specs.ReadOutcomes.{InvalidMeansNone}
 use Rattle.bson_tokens.specs.Normalized.{normalized, IsNormalizedText}
-use Rattle.bson_tokens.specs.Double.{json_of}
-use Rattle.bson_tokens.specs.declared.arrangement.Arrangement.TheVariants.{FirstPlaces}
+use Rattle.bson_tokens.specs.DuplicateKeys.{json_of}
+use Rattle.bson_tokens.specs.declared.arrangement.Arrangement.TheVariants.{FirstPositions}
 use Rattle.bson_v1.specs.Upgraded.{upgraded}
 use Rattle.bson_v1.specs.Text.{IsUpgradedText, IsRewritten}
 
@@ -37,11 +37,11 @@ written text out j ts read is text_is again =
 
 -- ---- of the text with each key once
 
-pub upgraded_of : (text resolved out : List ℕ) → IsNormalizedText FirstPlaces text resolved → IsRewritten resolved out
+pub upgraded_of : (text resolved out : List ℕ) → IsNormalizedText FirstPositions text resolved → IsRewritten resolved out
     → IsUpgradedText text out
 upgraded_of text resolved out first then =
-    let same : normalized FirstPlaces first.tree ≡ then.tree =
-    same_Some (normalized FirstPlaces first.tree) then.tree (sym first.read_again ∙ then.is_tree) in
+    let same : normalized FirstPositions first.tree ≡ then.tree =
+    same_Some (normalized FirstPositions first.tree) then.tree (sym first.read_again ∙ then.is_tree) in
     record {
       resolved = resolved;
       is_resolved = first;
@@ -50,6 +50,6 @@ upgraded_of text resolved out first then =
     }
 
 pub never_breaks : {X : Type 0} {Y : Type 0} (text resolved : List ℕ) (o : Option Y) (r : Result X Error)
-    → IsNormalizedText FirstPlaces text resolved → IfErr r (InvalidMeansNone (json_of resolved)) → IfErr r (InvalidMeansNone o)
+    → IsNormalizedText FirstPositions text resolved → IfErr r (InvalidMeansNone (json_of resolved)) → IfErr r (InvalidMeansNone o)
 never_breaks text resolved o (Ok x) first h = tt
 never_breaks text resolved o (Err e) first h = λ broken. let never = sym (h broken) ∙ first.read_again in cc

@@ -14,7 +14,7 @@ use Rattle.json.specs.Tree.{json_tokens, members_tokens}
 use Rattle.json.specs.declared.token.Token as found
 use Rattle.json.specs.declared.token.Token.TheVariants as first
 use Rattle.json.proofs.Grammar.{read_key_is, value_is, value-begin_object}
-use Rattle.bson_tokens.specs.Normalizing.{inside}
+use Rattle.bson_tokens.specs.NormalizerStates.{inside}
 use Rattle.bson_tokens.proofs.Offered.{last_member, no_member, one_member}
 use Rattle.bson_v1.specs.LeadingMembers.{IsStartOf, HasNoV1Shape, WritesRest, WritesScopeAndRest, WritesScope, begins_code, code_before, leading_tokens, with_leading_members}
 use Rattle.bson_v1.specs.LeadingMembers.{upgraded_rest, upgraded_scope_before, scope_or_value, scope_candidate, starts_with_code}

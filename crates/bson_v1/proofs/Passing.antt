@@ -11,9 +11,9 @@ use Rattle.json.specs.Token.{Token}
 use Rattle.json.specs.Token as token
 use Rattle.json.specs.declared.token.Token as found
 use Rattle.json.proofs.Grammar.{value_is}
-use Rattle.bson_tokens.specs.Parts.{InvalidMeansNone}
+use Rattle.bson_tokens.specs.ReadOutcomes.{InvalidIfNotRead}
 use Rattle.json.specs.declared.error.Error.{Error}
-use Rattle.bson_tokens.specs.Normalizing.{elements, inside}
+use Rattle.bson_tokens.specs.NormalizerStates.{elements, inside}
 use Rattle.bson_v1.specs.WrittenTokens.{WritesMembers, WritesTokens, upgraded_items_tokens, upgraded_members_tokens, upgraded_value_tokens}
 use Rattle.bson_tokens.proofs.Offered.{one_item, last_item, one_member, last_member}
 
@@ -37,8 +37,8 @@ all_breaks written old now (Some p) left e none = let never = e ∙ ap (whole wr
 
 -- a result says that the one is invalid, and so the other is
 pub breaks : {A B X : Type 0} (r : Result X Error) (a : Option A) (b : Option B) → (a ≡ None → b ≡ None)
-    → IfErr r (InvalidMeansNone a) → IfErr r (InvalidMeansNone b)
-breaks r a b so h = IfErr-weaker r (InvalidMeansNone a) (InvalidMeansNone b) (λ e none broken. so (none broken)) h
+    → IfErr r (InvalidIfNotRead a) → IfErr r (InvalidIfNotRead b)
+breaks r a b so h = IfErr-weaker r (InvalidIfNotRead a) (InvalidIfNotRead b) (λ e none broken. so (none broken)) h
 
 -- ---- arrays
 

@@ -9,7 +9,7 @@ use Rattle.json.specs.declared.token.Token as found
 use Rattle.json.specs.declared.token.Token.TheVariants.{BeginObject, EndObject, BeginArray, EndArray, Key, String, Number}
 use Rattle.json.specs.declared.token.Token.TheVariants.{Bool, Null, Bad}
 use Rattle.json.proofs.Grammar.{value_is, value-begin_array, value-begin_object}
-use Rattle.bson_tokens.specs.Normalizing.{elements, inside}
+use Rattle.bson_tokens.specs.NormalizerStates.{elements, inside}
 use Rattle.bson_v1.specs.WrittenTokens.{WritesTokens, upgraded_items_tokens, upgraded_object_tokens, upgraded_value_tokens}
 
 module _ (depth : ℕ) (t : found.Token) (ts : List Token) where

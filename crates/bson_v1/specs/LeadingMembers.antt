@@ -13,7 +13,7 @@ use Rattle.json.specs.declared.error.Error.{Error}
 use Rattle.json.specs.declared.error.Error.TheVariants.{Invalid}
 use Rattle.json.specs.declared.token.Token as found
 use Rattle.json.specs.declared.token.Token.TheVariants.{BeginObject, String, Bad}
-use Rattle.bson_tokens.specs.Normalizing.{inside}
+use Rattle.bson_tokens.specs.NormalizerStates.{inside}
 use Rattle.bson_v1.specs.Upgraded.{is_code, is_scope, upgraded, upgraded_members, upgraded_object, upgraded_scope}
 use Rattle.bson_v1.specs.declared.object_start.ObjectStart.{ObjectStart}
 use Rattle.bson_v1.specs.declared.object_start.ObjectStart.TheVariants.{Complete, Incomplete}

@@ -5,5 +5,5 @@ pub mod Text
 pub mod Version1
 -- what public clauses cite of the crates below, so that a caller names this crate alone
 pub use Rattle.bson_tokens.specs.Normalized
-pub use Rattle.bson_tokens.specs.Double
-pub use Rattle.bson_tokens.specs.Parts
+pub use Rattle.bson_tokens.specs.DuplicateKeys
+pub use Rattle.bson_tokens.specs.ReadOutcomes

@@ -5,18 +5,18 @@ use Rattle.json.specs.Print.{print}
 use Rattle.json.specs.Tree.{depth, json_tokens}
 use Rattle.serde_json.specs.Read.{max_depth}
 use Rattle.bson_tokens.specs.Normalized.{normalized, IsNormalizedText}
-use Rattle.bson_tokens.specs.Double.{json_of}
-use Rattle.bson_tokens.specs.declared.arrangement.Arrangement.TheVariants.{FirstPlaces}
+use Rattle.bson_tokens.specs.DuplicateKeys.{json_of}
+use Rattle.bson_tokens.specs.declared.arrangement.Arrangement.TheVariants.{FirstPositions}
 use Rattle.bson_v1.specs.Upgraded.{upgraded}
 
 -- the compact text of the tree of v2 that the text's tree denotes, with the last value of each of its keys; it is
 -- read as that tree if it nests no deeper than a text may
 pub record IsUpgradedText (text written : List ℕ) : Type 0 where
   pub resolved : List ℕ
-  pub is_resolved : IsNormalizedText FirstPlaces text resolved
-  pub compact : written ≡ print (json_tokens (upgraded (normalized FirstPlaces is_resolved.tree)))
-  pub read_again : depth (upgraded (normalized FirstPlaces is_resolved.tree)) ≤ max_depth
-      → json_of written ≡ Some (upgraded (normalized FirstPlaces is_resolved.tree))
+  pub is_resolved : IsNormalizedText FirstPositions text resolved
+  pub compact : written ≡ print (json_tokens (upgraded (normalized FirstPositions is_resolved.tree)))
+  pub read_again : depth (upgraded (normalized FirstPositions is_resolved.tree)) ≤ max_depth
+      → json_of written ≡ Some (upgraded (normalized FirstPositions is_resolved.tree))
 
 -- ---- for private clauses
 

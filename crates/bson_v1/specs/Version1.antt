@@ -5,8 +5,8 @@ use Rattle.std.specs.Prelude.{◌≡◌, ℕ, Bool, true, List, Some, codes}
 use Rattle.json.specs.Json.{Json, Items, no_items, item, Members, no_members, member}
 use Rattle.json.specs.Json as json
 use Rattle.bson_tokens.specs.Normalized.{normalized}
-use Rattle.bson_tokens.specs.Double.{json_of}
-use Rattle.bson_tokens.specs.declared.arrangement.Arrangement.TheVariants.{FirstPlaces}
+use Rattle.bson_tokens.specs.DuplicateKeys.{json_of}
+use Rattle.bson_tokens.specs.declared.arrangement.Arrangement.TheVariants.{FirstPositions}
 use Rattle.bson_v1.specs.Upgraded.{binary_json, date_json, ends_in_offset, regex_json}
 
 -- two members that are strings
@@ -57,4 +57,4 @@ mutual
 
 -- each key of the text's objects has its last value, and then the tree is one of v2
 abbrev pub IsTextOfVersion2 : List ℕ → Type 0
-IsTextOfVersion2 text = (j : Json) → json_of text ≡ Some j → IsVersion2 (normalized FirstPlaces j)
+IsTextOfVersion2 text = (j : Json) → json_of text ≡ Some j → IsVersion2 (normalized FirstPositions j)

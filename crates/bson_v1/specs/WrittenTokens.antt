@@ -3,7 +3,7 @@ use Rattle.std.specs.Prelude.{◌≡◌, ◌++◌, ℕ, List, Option, Some}
 use Rattle.json.specs.Json.{Json, object, Items, Members, member, value}
 use Rattle.json.specs.Token.{Token}
 use Rattle.json.specs.Tree.{json_tokens, items_tokens, members_tokens}
-use Rattle.bson_tokens.specs.Normalizing.{inside}
+use Rattle.bson_tokens.specs.NormalizerStates.{inside}
 use Rattle.bson_v1.specs.Upgraded.{upgraded, upgraded_items, upgraded_members}
 
 -- the tokens of what each denotes

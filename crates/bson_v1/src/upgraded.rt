@@ -6,9 +6,9 @@ ghost use Rattle.json.specs.Print.{print, IsPrintable};
 ghost use Rattle.json.specs.Reads.{token_of};
 ghost use Rattle.json.specs.Token as token;
 ghost use Rattle.serde_json.specs.Read.{read};
-ghost use Rattle.bson_tokens.specs.Double.{json_of};
-ghost use Rattle.bson_tokens.specs.Parts.{InvalidMeansNone};
-ghost use Rattle.bson_tokens.specs.Normalizing.{elements, inside};
+ghost use Rattle.bson_tokens.specs.DuplicateKeys.{json_of};
+ghost use Rattle.bson_tokens.specs.ReadOutcomes.{InvalidIfNotRead};
+ghost use Rattle.bson_tokens.specs.NormalizerStates.{elements, inside};
 ghost use Rattle.bson_v1.specs.LeadingMembers.{HasNoV1Shape, WritesRest, WritesScopeAndRest, WritesScope, with_leading_members};
 ghost use Rattle.bson_v1.specs.WrittenTokens.{WritesMembers, WritesTokens};
 ghost use Rattle.bson_v1.specs.WrittenTokens.{upgraded_items_tokens, upgraded_members_tokens, upgraded_object_tokens, upgraded_value_tokens};
@@ -47,16 +47,16 @@ use std::alloc::Global;
 /// ```
 pub fn upgraded_text(alloc: Global, text: &str) -> Result<String, Error>
     ensures ok { IfOk result (λ written. IsUpgradedText text.now (string_bytes written)) }
-    ensures broken { IfErr result (InvalidMeansNone (read text.now)) }
+    ensures broken { IfErr result (InvalidIfNotRead (read text.now)) }
 {
-    let resolved = normalize_text(alloc, Arrangement::FirstPlaces, text)?;
+    let resolved = normalize_text(alloc, Arrangement::FirstPositions, text)?;
     rewrite(alloc, resolved.as_str())
 }
 
 // The text in place of one in which each key occurs once.
 fn rewrite(alloc: Global, text: &str) -> Result<String, Error>
     ensures ok { IfOk result (λ written. IsRewritten text.now (string_bytes written)) }
-    ensures broken { IfErr result (InvalidMeansNone (json_of text.now)) }
+    ensures broken { IfErr result (InvalidIfNotRead (json_of text.now)) }
 {
     let mut scratch = Scratch::new(alloc);
     let mut reader = Reader::new(text, &mut scratch)?;
@@ -89,7 +89,7 @@ fn write_value<'a>(
 ) -> Result<(), Error>
     ensures ok { OnOk result
         (WritesTokens upgraded_value_tokens (value depth reader.old) reader.new out.old.tokens out.new.tokens) }
-    ensures broken { IfErr result (InvalidMeansNone (value depth reader.old)) }
+    ensures broken { IfErr result (InvalidIfNotRead (value depth reader.old)) }
     ensures before { OnOk result (out.new.before ≡ out.old.before) }
 {
     let first = reader.next().ok_or(Error::Invalid)?;
@@ -108,7 +108,7 @@ fn write_started_value<'a>(
     requires { first ≢ Token.Bad → IsPrintable (token_of first) }
     ensures ok { OnOk result (WritesTokens upgraded_value_tokens (value depth (token_of first.entry ∷ reader.old)) reader.new
         out.old.tokens out.new.tokens) }
-    ensures broken { IfErr result (InvalidMeansNone (value depth (token_of first.entry ∷ reader.old))) }
+    ensures broken { IfErr result (InvalidIfNotRead (value depth (token_of first.entry ∷ reader.old))) }
     ensures before { OnOk result (out.new.before ≡ out.old.before) }
 {
     match first {
@@ -140,7 +140,7 @@ fn write_items<'a>(
 ) -> Result<(), Error>
     ensures ok { OnOk result
         (WritesTokens upgraded_items_tokens (elements depth reader.old) reader.new out.old.tokens out.new.tokens) }
-    ensures broken { IfErr result (InvalidMeansNone (elements depth reader.old)) }
+    ensures broken { IfErr result (InvalidIfNotRead (elements depth reader.old)) }
     ensures before { OnOk result (out.new.before ≡ out.old.before) }
 {
     'items: while !reader.take_end_array() {
@@ -160,7 +160,7 @@ fn write_object<'a>(
 ) -> Result<(), Error>
     ensures ok { OnOk result
         (WritesTokens upgraded_object_tokens (inside depth reader.old) reader.new out.old.tokens out.new.tokens) }
-    ensures broken { IfErr result (InvalidMeansNone (inside depth reader.old)) }
+    ensures broken { IfErr result (InvalidIfNotRead (inside depth reader.old)) }
     ensures before { OnOk result (out.new.before ≡ out.old.before) }
 {
     match read_start(reader)? {
@@ -190,7 +190,7 @@ fn write_rest<'a>(
     ensures ok { OnOk result (WritesRest leading.entry depth key.now (token_of first.entry ∷ reader.old) reader.new
         out.old.tokens out.new.tokens) }
     ensures broken { IfErr result
-        (InvalidMeansNone (inside depth (token.key key.now ∷ token_of first.entry ∷ reader.old))) }
+        (InvalidIfNotRead (inside depth (token.key key.now ∷ token_of first.entry ∷ reader.old))) }
     ensures before { OnOk result (out.new.before ≡ out.old.before) }
 {
     match scope_candidate(leading, key, first) {
@@ -213,7 +213,7 @@ fn write_scope<'a>(
     ensures ok { OnOk result (WritesScope after_code depth key.now reader.old reader.new
         out.old.tokens out.new.tokens) }
     ensures broken { IfErr result
-        (InvalidMeansNone (inside depth (token.key key.now ∷ token.begin_object ∷ reader.old))) }
+        (InvalidIfNotRead (inside depth (token.key key.now ∷ token.begin_object ∷ reader.old))) }
     ensures before { OnOk result (out.new.before ≡ out.old.before) }
 {
     if depth == 0 {
@@ -243,7 +243,7 @@ fn write_complete_scope<'a>(
 ) -> Result<(), Error>
     ensures ok { OnOk result (WritesScopeAndRest after_code depth (with_leading_members leading.entry no_members) reader.old reader.new
         out.old.tokens out.new.tokens) }
-    ensures broken { IfErr result (InvalidMeansNone (inside depth reader.old)) }
+    ensures broken { IfErr result (InvalidIfNotRead (inside depth reader.old)) }
     ensures before { OnOk result (out.new.before ≡ out.old.before) }
 {
     let Some((key, first)) = next_member(reader)? else {
@@ -268,7 +268,7 @@ fn write_member<'a>(
     ensures ok { OnOk result (WritesMembers depth key.now (token_of first.entry ∷ reader.old) reader.new
         out.old.tokens out.new.tokens) }
     ensures broken { IfErr result
-        (InvalidMeansNone (inside depth (token.key key.now ∷ token_of first.entry ∷ reader.old))) }
+        (InvalidIfNotRead (inside depth (token.key key.now ∷ token_of first.entry ∷ reader.old))) }
     ensures before { OnOk result (out.new.before ≡ out.old.before) }
 {
     out.key(key)?;
@@ -286,7 +286,7 @@ fn write_members<'a>(
 ) -> Result<(), Error>
     ensures ok { OnOk result
         (WritesTokens upgraded_members_tokens (inside depth reader.old) reader.new out.old.tokens out.new.tokens) }
-    ensures broken { IfErr result (InvalidMeansNone (inside depth reader.old)) }
+    ensures broken { IfErr result (InvalidIfNotRead (inside depth reader.old)) }
     ensures before { OnOk result (out.new.before ≡ out.old.before) }
 {
     'members: while let Some(key) = reader.next_key()? {

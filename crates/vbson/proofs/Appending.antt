@@ -5,8 +5,8 @@ use Rattle.std.proofs.Common.{IsUtf8, Bool, false, true, cond, eqb, Option, None
 use Rattle.std.specs.Prelude.{is_none, min, option_map}
 use Rattle.std.proofs.lemmas.Bool.{eqb-false, false_from_ne_true, ne_eqb}
 use Rattle.bson_bytes.specs.Grammar.{NoZero}
-use Rattle.bson_bytes.specs.Putting.{is_free}
-use Rattle.bson_bytes.specs.Reading.{with_byte_before, split_zero}
+use Rattle.bson_bytes.specs.PutSteps.{has_no_nul}
+use Rattle.bson_bytes.specs.Reading.{prepend_byte, split_at_nul}
 use Rattle.std.proofs.lemmas.Str.{IsUtf8-from_is_utf8}
 use Rattle.vbson.specs.Builder.{IsAppended, IsTooSmall, built}
 use Rattle.vbson.specs.declared.builder.Builder.{Builder}
@@ -30,27 +30,27 @@ pub not_utf8 : (s : List ℕ) → (IsUtf8 s → ⊥) → is_utf8 s ≡ false
 not_utf8 s none = false_from_ne_true (is_utf8 s) (λ h. none (IsUtf8-from_is_utf8 s h))
 
 -- bytes that do not split at a 0 begin with none
-unsplit : (b : ℕ) (k : List ℕ) (is : Bool) → is_none (cond is (Some ([], k)) (option_map (with_byte_before b) (split_zero k))) ≡ true
-    → (is ≡ false) × (is_none (split_zero k) ≡ true)
+unsplit : (b : ℕ) (k : List ℕ) (is : Bool) → is_none (cond is (Some ([], k)) (option_map (prepend_byte b) (split_at_nul k))) ≡ true
+    → (is ≡ false) × (is_none (split_at_nul k) ≡ true)
 unsplit b k true e = absurd cc
-unsplit b k false e = (refl, kept (split_zero k) e)
+unsplit b k false e = (refl, kept (split_at_nul k) e)
   where
-    kept : (o : Option (List ℕ × List ℕ)) → is_none (option_map (with_byte_before b) o) ≡ true → is_none o ≡ true
+    kept : (o : Option (List ℕ × List ℕ)) → is_none (option_map (prepend_byte b) o) ≡ true → is_none o ≡ true
     kept None h = refl
     kept (Some p) h = absurd cc
 
-no_zero : (k : List ℕ) → is_free k ≡ true → NoZero k
+no_zero : (k : List ℕ) → has_no_nul k ≡ true → NoZero k
 no_zero [] e = tt
 no_zero (b ∷ k) e = let parts = unsplit b k (eqb b 0) e in (eqb-false b 0 parts.0, no_zero k parts.1)
 
-unsplit_again : (k : List ℕ) → NoZero k → split_zero k ≡ None
+unsplit_again : (k : List ℕ) → NoZero k → split_at_nul k ≡ None
 unsplit_again [] h = refl
 unsplit_again (b ∷ k) h = rw (ne_eqb b 0 h.0, unsplit_again k h.1) refl
 
-pub free_from : (k : List ℕ) → true ≡ is_free k → NoZero k
+pub free_from : (k : List ℕ) → true ≡ has_no_nul k → NoZero k
 free_from k e = no_zero k (sym e)
 
-pub zero_from : (k : List ℕ) → false ≡ is_free k → NoZero k → ⊥
+pub zero_from : (k : List ℕ) → false ≡ has_no_nul k → NoZero k → ⊥
 zero_from k e free = let is : false ≡ true = e ∙ ap is_none (unsplit_again k free) in absurd cc
 
 pub too_small : (n size : ℕ) (a b : Builder) → size ≡ min n (2 ^ 64 - 1) → IsTooSmall size a b → IsTooSmall n a b

@@ -18,8 +18,8 @@ use Rattle.bson.specs.declared.document.Document.{Document}
 use Rattle.bson.specs.declared.extjson.options.Options.{Options}
 use Rattle.bson.specs.OrderedTrees.{read_in_order}
 use Rattle.bson.specs.MeansInOrder.{MeansInOrder}
-use Rattle.bson_codec.specs.Laws.{IsRead}
-use Rattle.bson_codec.specs.Texts.{IsDocumentTextOf}
+use Rattle.bson_codec.specs.ReadDocuments.{IsRead}
+use Rattle.bson_codec.specs.DocumentText.{IsDocumentTextOf}
 use Rattle.bson_model.specs.Means.{MeansIn}
 use Rattle.bson_model.specs.Normal.{writable_in}
 use Rattle.bson_model.specs.Sorted.{sorted}

@@ -4,7 +4,7 @@ use Rattle.std.proofs.Common.{take, sym, ap, subst, ◌∙◌}
 use Rattle.std.proofs.lemmas.List.{take_at}
 use Rattle.std.proofs.lemmas.Str.{IsUtf8-append}
 use Rattle.bson_codec.proofs.Offered.{dump_utf8, ends_inside, diagnostic_utf8}
-use Rattle.bson_codec.specs.Documents.{EndsAt, EndsInside, IsOfBytes}
+use Rattle.bson_codec.specs.DumpRuns.{EndsAt, EndsInside, IsFaultOfDocument}
 use Rattle.bson_codec.specs.Diagnostics.{diagnostic_of}
 use Rattle.bson_codec.specs.declared.documents.Run.{Run}
 use Rattle.bson_codec.specs.declared.run_end.RunFault.{RunFault}
@@ -21,7 +21,7 @@ wrote had holds output is none = sym (is ∙ ap (λ x. x ++ output) none)
 pub cut_block : (run : Run) (block had output held diagnostics all : List ℕ) (after : Option (List ℕ)) (fault : RunFault)
     (number refused start : ℕ)
     → EndsAt run (Some block) after (Some had) (Some output) (Some held) (Some diagnostics) fault number refused start
-    → had ≡ [] → held ≡ [] → IsOfBytes fault → all ≡ diagnostics ++ diagnostic_of number start fault
+    → had ≡ [] → held ≡ [] → IsFaultOfDocument fault → all ≡ diagnostics ++ diagnostic_of number start fault
     → GivesDocuments run block output all number start
 cut_block run block had output held diagnostics all after fault number refused start h none also is said =
     let (out, reports, inside, written, reports_appended) =

@@ -11,7 +11,7 @@ use Rattle.bson_bytes.specs.declared.error.Error.TheVariants as sizes
 use Rattle.bson_convert.specs.Convert.{IsRefusedIn}
 use Rattle.bson_convert.specs.declared.error.Error.{Error}
 use Rattle.bson_convert.specs.declared.error.Error.TheVariants as errors
-use Rattle.bson_tokens.specs.Double.{DuplicateAt}
+use Rattle.bson_tokens.specs.DuplicateKeys.{DuplicateAt}
 use Rattle.bson_model.specs.Means.{MeansIn}
 use Rattle.bson_tree.specs.Place.{PathSegment}
 use Rattle.bson_tree.specs.declared.place.Reason.{Reason}

@@ -5,18 +5,18 @@ use Rattle.std.proofs.lemmas.List.{length-map}
 use Rattle.bson_tree.specs.Place.{segment_of}
 use Rattle.bson_tree.specs.declared.place.Segment.{Segment}
 use Rattle.bson_model.specs.Value.{Pairs, no_pairs, pair}
-use Rattle.bson_bytes.specs.Putting.{Put, then, put_name, put_value, put_elements, put_room, put_end, put_document, StopsFor}
+use Rattle.bson_bytes.specs.PutSteps.{PutResult, then, put_name, put_value, put_elements, put_length_placeholder, put_end, put_document, StopsFor}
 use Rattle.bson_bytes.specs.Writing.{type_of, FitsDocument, zero_in_key, zero_in_regex, too_long}
 use Rattle.bson_bytes.specs.declared.error.Error.{Error}
 use Rattle.bson_bytes.specs.declared.error.Error.TheVariants as errors
 use Rattle.bson_bytes.proofs.Offered.{told_err, document_fits}
 use Rattle.vbson.specs.Path.{path_pairs, segment_value, with_pairs}
 
-then_then : (r : Put) (f g : List ℕ → Put) → then (then r f) g ≡ then r (λ a. then (f a) g)
+then_then : (r : PutResult) (f g : List ℕ → PutResult) → then (then r f) g ≡ then r (λ a. then (f a) g)
 then_then (Ok out) f g = refl
 then_then (Err c) f g = refl
 
-same_then : (r : Put) (f g : List ℕ → Put) → ((a : List ℕ) → f a ≡ g a) → then r f ≡ then r g
+same_then : (r : PutResult) (f g : List ℕ → PutResult) → ((a : List ℕ) → f a ≡ g a) → then r f ≡ then r g
 same_then (Ok out) f g h = h out
 same_then (Err c) f g h = refl
 
@@ -31,7 +31,7 @@ put_with (pair k v ps) qs out =
     (λ b. put_with ps qs b) ∙ sym (then_then (put_value v a) (λ b. put_elements ps b) (put_elements qs)))
     ∙ sym (then_then (put_name (type_of v) k out) (λ a. then (put_value v a) (λ b. put_elements ps b)) (put_elements qs))
 
-pub stops_then : (e : Error) (r : Put) (f : List ℕ → Put) → StopsFor e r → StopsFor e (then r f)
+pub stops_then : (e : Error) (r : PutResult) (f : List ℕ → PutResult) → StopsFor e r → StopsFor e (then r f)
 stops_then errors.OutOfMemory r f h = tt
 stops_then errors.Key r f h = rw h refl
 stops_then errors.Regex r f h = rw h refl
@@ -67,7 +67,7 @@ pub segments_stop : (e : Error) (segments outer : List Segment) (segment : Segme
     → StopsFor e (put_elements (path_pairs (map segment_of segments)) out)
 segments_stop e segments outer segment out is h =
     subst (λ (xs : List Segment). StopsFor e (put_elements (path_pairs (map segment_of xs)) out)) (sym is)
-    (subst (λ (r : Put). StopsFor e r) (sym (one_more segment outer out))
+    (subst (λ (r : PutResult). StopsFor e r) (sym (one_more segment outer out))
     (stops_then e (put_elements (path_pairs (map segment_of outer)) out)
     (put_elements (pair (decimal (length outer)) (segment_value (segment_of segment)) no_pairs)) h))
 
@@ -77,12 +77,12 @@ pub segment_put : (segments outer : List Segment) (segment : Segment) (out a : L
     ≡ put_elements (pair (decimal (length outer)) (segment_value (segment_of segment)) no_pairs) a
 segment_put segments outer segment out a is put =
     ap (λ (xs : List Segment). put_elements (path_pairs (map segment_of xs)) out) is ∙ one_more segment outer out
-    ∙ ap (λ (r : Put). then r (put_elements (pair (decimal (length outer)) (segment_value (segment_of segment)) no_pairs))) put
+    ∙ ap (λ (r : PutResult). then r (put_elements (pair (decimal (length outer)) (segment_value (segment_of segment)) no_pairs))) put
 
 -- ---- a document
 
-pub document_put : (ps : Pairs) (out : List ℕ) → put_elements ps (put_room []) ≡ Ok out → put_document ps [] ≡ put_end 0 out
-document_put ps out put = ap (λ (r : Put). then r (put_end 0)) put
+pub document_put : (ps : Pairs) (out : List ℕ) → put_elements ps (put_length_placeholder []) ≡ Ok out → put_document ps [] ≡ put_end 0 out
+document_put ps out put = ap (λ (r : PutResult). then r (put_end 0)) put
 
-pub document_stops : (e : Error) (ps : Pairs) → StopsFor e (put_elements ps (put_room [])) → StopsFor e (put_document ps [])
-document_stops e ps h = stops_then e (put_elements ps (put_room [])) (put_end 0) h
+pub document_stops : (e : Error) (ps : Pairs) → StopsFor e (put_elements ps (put_length_placeholder [])) → StopsFor e (put_document ps [])
+document_stops e ps h = stops_then e (put_elements ps (put_length_placeholder [])) (put_end 0) h

@@ -4,11 +4,11 @@ use Rattle.json.specs.Json.{Json}
 use Rattle.json.specs.Strict.{HasUniqueKeys}
 use Rattle.serde_json.specs.Data.{Data}
 use Rattle.serde_json.specs.Read.{read}
-use Rattle.bson_tokens.specs.Double.{DuplicateAt}
+use Rattle.bson_tokens.specs.DuplicateKeys.{DuplicateAt}
 use Rattle.bson_tree.specs.Place.{PathSegment}
 use Rattle.bson_scalar.specs.declared.form.Doubles.{Doubles}
 use Rattle.bson_model.specs.Means.{MeansIn}
-use Rattle.bson_bytes.specs.Laws.{IsReadIn}
+use Rattle.bson_bytes.specs.ReadDocuments.{IsReadIn}
 use Rattle.bson_model.specs.Value.{Pairs, Value}
 use Rattle.bson.specs.TextMeaning.{HasTextMeaningIn, IsTextOf}
 use Rattle.bson.specs.declared.extjson.options.Options.{Options}

@@ -2,14 +2,14 @@
 use Rattle.std.proofs.Common.{◌≡◌, ℕ, ◌-◌, ◌≤◌, Bool, List, Option, None, Some, Ok, length, drop, refl, sym, ap, ◌∙◌, subst, arith}
 use Rattle.std.specs.Prelude.{◌↔◌, MatchOption, option_map}
 use Rattle.std.specs.Borrow.{Bor}
-use Rattle.bson_bytes.specs.Reading.{value_with, document_in}
-use Rattle.bson_bytes.specs.declared.keys.DuplicateKeys.TheVariants.{Replace}
+use Rattle.bson_bytes.specs.Reading.{read_value_in, read_document_in}
+use Rattle.bson_bytes.specs.declared.duplicate_keys.DuplicateKeys.TheVariants.{Replace}
 use Rattle.bson_model.specs.Value.{Value, Pairs, no_pairs, pair, scalar, code_scope, array, document}
-use Rattle.bson_bytes.specs.Elements.{HasValue, IsElement, IsFirstElement, IsFound, value_length}
-use Rattle.bson_bytes.specs.Held.{binary_of, boolean_value, date_value, double_value, int32_value, int64_value, object_id_value, string_value}
-use Rattle.bson_bytes.specs.Nested.{IsNested}
-use Rattle.bson_bytes.specs.Raw.{BeginsWithElements}
-use Rattle.bson_bytes.specs.declared.element.RawElement.{RawElement}
+use Rattle.bson_bytes.specs.RawElements.{HasValue, IsElement, IsFirstElement, IsValueOfElement, value_length}
+use Rattle.bson_bytes.specs.TypedGetters.{binary_of, boolean_value, date_value, double_value, int32_value, int64_value, object_id_value, string_value}
+use Rattle.bson_bytes.specs.NestedValues.{IsNested}
+use Rattle.bson_bytes.specs.ReadElements.{BeginsWithElements}
+use Rattle.bson_bytes.specs.declared.raw_element.RawElement.{RawElement}
 use Rattle.bson_types.specs.ElementTags.{tag_of}
 use Rattle.bson_types.specs.declared.spec.ElementType.{ElementType}
 use Rattle.vbson.specs.Raw.{IsGot, IsNextElement, IsTypedResult, IsValueAt, IsValueOf, bit, subtype_and_bytes}
@@ -23,15 +23,15 @@ at_value : (d : ℕ) (e : RawElement) (v : Value) (out : RawValue) → HasValue 
 at_value d e v out read is within = record {
   type = e.kind;
   tag = is.tag;
-  read = subst (λ (bytes : List ℕ). value_with Replace (document_in Replace d) e.kind bytes ≡ Ok (v, drop out.len bytes)) (sym is.bytes)
-      (subst (λ (n : ℕ). value_with Replace (document_in Replace d) e.kind e.value.now ≡ Ok (v, drop n e.value.now)) (sym is.len) read);
+  read = subst (λ (bytes : List ℕ). read_value_in Replace (read_document_in Replace d) e.kind bytes ≡ Ok (v, drop out.len bytes)) (sym is.bytes)
+      (subst (λ (n : ℕ). read_value_in Replace (read_document_in Replace d) e.kind e.value.now ≡ Ok (v, drop n e.value.now)) (sym is.len) read);
   within = omega (arith, within, is.len, ap length is.bytes);
 }
 
 pub got_none : (d : ℕ) (o : Option Value) (out : RawValue) → o ≡ None → IsGot d o 14 out
 got_none d o out none = subst (λ (p : Option Value). IsGot d p 14 out) (sym none) refl
 
-pub got_some : (d : ℕ) (o : Option Value) (e : RawElement) (out : RawValue) → IsFound d (Some e) o → IsValueOf e out
+pub got_some : (d : ℕ) (o : Option Value) (e : RawElement) (out : RawValue) → IsValueOfElement d (Some e) o → IsValueOf e out
     → length e.rest.now ≤ length e.value.now → IsGot d o 0 out
 got_some d o e out found is within =
     subst (λ (p : Option Value). IsGot d p 0 out) (sym found.1) (refl, at_value d e found.0 out found.2 is within)
@@ -61,10 +61,10 @@ some_kind x y e = cc
 
 pub read_at : (d : ℕ) (v : Value) (value : RawValue) (o : Option ElementType) (k : ElementType)
     → ((k : ElementType) → (o ≡ Some k) ↔ (tag_of k ≡ value.kind)) → o ≡ Some k → IsValueAt d v value
-    → value_with Replace (document_in Replace d) k value.bytes.now ≡ Ok (v, drop value.len value.bytes.now)
+    → read_value_in Replace (read_document_in Replace d) k value.bytes.now ≡ Ok (v, drop value.len value.bytes.now)
 read_at d v value o k h is at =
     let same : at.type ≡ k = some_kind at.type k (sym (kind_is o value.kind at.type h at.tag) ∙ is) in
-    subst (λ (t : ElementType). value_with Replace (document_in Replace d) t value.bytes.now ≡ Ok (v, drop value.len value.bytes.now)) same
+    subst (λ (t : ElementType). read_value_in Replace (read_document_in Replace d) t value.bytes.now ≡ Ok (v, drop value.len value.bytes.now)) same
     at.read
 
 pub no_kind : (d : ℕ) (v : Value) (value : RawValue) (o : Option ElementType)

@@ -1,7 +1,7 @@
 -- Documents that a builder writes in the caller's memory.
 use Rattle.std.specs.Prelude.{◌≡◌, ◌≢◌, ◌≤◌, ◌<◌, ◌+◌, ◌-◌, ◌^◌, ◌++◌, ℕ, Bool, List, [], ◌∷◌, length, take, drop, min, nat_lt}
-use Rattle.bson_bytes.specs.Grammar.{IsName, IsSize, NoZero, framed}
-use Rattle.bson_bytes.specs.Writing.{name_bytes, items_bytes, list_bytes, scalar_bytes}
+use Rattle.bson_bytes.specs.Grammar.{IsName, IsLength, NoZero, document_of_elements}
+use Rattle.bson_bytes.specs.Writing.{name_bytes, array_elements_bytes, elements_bytes, scalar_bytes}
 use Rattle.bson_model.specs.Value.{Value, Values, no_values, value, Pairs, no_pairs, pair}
 use Rattle.bson_scalar.specs.ElementType.{scalar_type}
 use Rattle.bson_scalar.specs.Scalar.{Scalar}
@@ -56,8 +56,8 @@ no_length = 0 ∷ 0 ∷ 0 ∷ 0 ∷ []
 pub record IsFramed (start : ℕ) (before after : Builder) : Type 0 where
   pub starts : start + 4 ≤ before.len
   pub fits : before.len + 1 ≤ length before.bytes.now
-  pub counts : IsSize (before.len - start + 1)
-  pub built : built after ≡ take start (built before) ++ framed (drop (start + 4) (built before))
+  pub counts : IsLength (before.len - start + 1)
+  pub built : built after ≡ take start (built before) ++ document_of_elements (drop (start + 4) (built before))
   pub len : after.len ≡ before.len + 1
   pub rest : drop after.len after.bytes.now ≡ drop after.len before.bytes.now
   pub size : length after.bytes.now ≡ length before.bytes.now
@@ -66,11 +66,11 @@ pub record IsFramed (start : ℕ) (before after : Builder) : Type 0 where
 
 -- after these first bytes a document begins, and these are its pairs so far
 abbrev pub IsOpenDocument : List ℕ → Pairs → Builder → Type 0
-IsOpenDocument front ps b = built b ≡ front ++ (no_length ++ list_bytes ps)
+IsOpenDocument front ps b = built b ≡ front ++ (no_length ++ elements_bytes ps)
 
 -- after these first bytes an array begins, and these are its values so far
 abbrev pub IsOpenArray : List ℕ → Values → Builder → Type 0
-IsOpenArray front vs b = built b ≡ front ++ (no_length ++ items_bytes 0 vs)
+IsOpenArray front vs b = built b ≡ front ++ (no_length ++ array_elements_bytes 0 vs)
 
 -- the pairs, and one more
 abbrev pub and_pair : Pairs → List ℕ → Value → Pairs

@@ -2,11 +2,11 @@
 use Rattle.std.specs.Prelude.{◌≡◌, ℕ, List, [], ◌++◌, IsUtf8, codes, false, true}
 use Rattle.std.specs.Fmt.{decimal}
 use Rattle.bson.specs.declared.extjson.options.Options.{Options}
-use Rattle.bson_bytes.specs.Laws.{IsReadIn}
+use Rattle.bson_bytes.specs.ReadDocuments.{IsReadIn}
 use Rattle.bson_bytes.specs.Writing.{document_bytes}
 use Rattle.bson_bytes.specs.declared.fault.FaultKind.{FaultKind}
 use Rattle.bson_codec.specs.Bytes.{reads_bytes_in}
-use Rattle.bson_codec.specs.Errors.{IsPlacedFault}
+use Rattle.bson_codec.specs.ReadErrors.{IsFaultAtOffset}
 use Rattle.bson_codec.specs.Diagnostics.{fault_kind_message}
 use Rattle.bson_convert.specs.Convert.{newline}
 use Rattle.bson_model.specs.Normal.{writable_in}
@@ -38,7 +38,7 @@ pub record HasNoDocumentText (options : CallOptions) (bytes : List ℕ) : Type 0
 
 abbrev pub IsFinding : CallOptions → List ℕ → Finding → Type 0
 IsFinding options bytes Nothing = HasDocumentText options bytes
-IsFinding options bytes (Malformed k n) = IsPlacedFault k n bytes (reads_bytes_in (duplicate_keys_of options) depth bytes)
+IsFinding options bytes (Malformed k n) = IsFaultAtOffset k n bytes (reads_bytes_in (duplicate_keys_of options) depth bytes)
 IsFinding options bytes FiniteDouble = HasNoDocumentText options bytes
 
 -- ---- the fields of the error struct for a finding

@@ -7,7 +7,7 @@ use Rattle.bson.specs.Form.TheVariants as form
 use Rattle.bson.specs.Texts.{IsTextBy}
 use Rattle.bson.specs.declared.extjson.options.Options.{Options}
 use Rattle.bson_codec.specs.Canonical.{Cause, zero_in_key, zero_in_regex, too_long}
-use Rattle.bson_codec.specs.Laws.{IsRead}
+use Rattle.bson_codec.specs.ReadDocuments.{IsRead}
 use Rattle.bson_model.specs.Displayed.{display_text}
 use Rattle.bson_model.specs.Normal.{writable_in}
 use Rattle.bson_model.specs.Value.{Value, Pairs, document}

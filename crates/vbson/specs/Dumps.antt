@@ -1,7 +1,7 @@
 -- A block of concatenated documents.
 use Rattle.std.specs.Prelude.{◌≡◌, ◌⊎◌, ℕ, IsUtf8, List, ◌++◌, Some, length, true}
 use Rattle.bson.specs.declared.extjson.options.Options.{Options}
-use Rattle.bson_codec.specs.Documents.{Dump, EndsInside, IsOfBytes}
+use Rattle.bson_codec.specs.DumpRuns.{Dump, EndsInside, IsFaultOfDocument}
 use Rattle.bson_codec.specs.Diagnostics.{diagnostic_of}
 use Rattle.bson_codec.specs.declared.documents.Line.{Line}
 use Rattle.bson_codec.specs.declared.documents.Line.TheVariants.{Text, Shown}
@@ -62,4 +62,4 @@ pub record AreDecoded (o : Options) (number : ℕ) (block : List ℕ) (out : giv
 
 -- the diagnostics, followed by that of the last document
 abbrev pub EndsAs : RunEnd → (diagnostics all : List ℕ) → Type 0
-EndsAs end diagnostics all = IsOfBytes end.fault × (all ≡ diagnostics ++ diagnostic_of end.number end.start end.fault)
+EndsAs end diagnostics all = IsFaultOfDocument end.fault × (all ≡ diagnostics ++ diagnostic_of end.number end.start end.fault)

@@ -1,11 +1,11 @@
 -- Values of documents that remain bytes. The depth says how deep documents, arrays and scopes may nest in a value.
 use Rattle.std.specs.Prelude.{◌≡◌, ◌≤◌, ℕ, Bool, true, false, List, Option, None, Some, Ok, length, drop}
-use Rattle.bson_bytes.specs.Reading.{value_with, document_in}
-use Rattle.bson_bytes.specs.declared.keys.DuplicateKeys.TheVariants.{Replace}
+use Rattle.bson_bytes.specs.Reading.{read_value_in, read_document_in}
+use Rattle.bson_bytes.specs.declared.duplicate_keys.DuplicateKeys.TheVariants.{Replace}
 use Rattle.bson_model.specs.Value.{Value, Pairs, no_pairs, pair}
-use Rattle.bson_bytes.specs.Elements.{value_length}
-use Rattle.bson_bytes.specs.Raw.{BeginsWithElements}
-use Rattle.bson_bytes.specs.declared.element.RawElement.{RawElement}
+use Rattle.bson_bytes.specs.RawElements.{value_length}
+use Rattle.bson_bytes.specs.ReadElements.{BeginsWithElements}
+use Rattle.bson_bytes.specs.declared.raw_element.RawElement.{RawElement}
 use Rattle.bson_types.specs.BinarySubtypes.{subtype_byte}
 use Rattle.bson_types.specs.ElementTags.{tag_of}
 use Rattle.bson_types.specs.declared.spec.BinarySubtype.{BinarySubtype}
@@ -17,7 +17,7 @@ use Rattle.vbson.specs.declared.raw.Slice.{Slice}
 pub record IsValueAt (d : ℕ) (v : Value) (out : RawValue) : Type 0 where
   pub type : ElementType
   pub tag : out.kind ≡ tag_of type
-  pub read : value_with Replace (document_in Replace d) type out.bytes.now ≡ Ok (v, drop out.len out.bytes.now)
+  pub read : read_value_in Replace (read_document_in Replace d) type out.bytes.now ≡ Ok (v, drop out.len out.bytes.now)
   pub within : out.len ≤ length out.bytes.now
 
 -- the status of a lookup: the document has no such key, or the output is the value of the key

@@ -1,9 +1,9 @@
 -- Which value the options read from a text, and from the bytes of a document.
 use Rattle.std.specs.Prelude.{◌≡◌, ◌⊎◌, ◌≤◌, ◌==◌, ℕ, List, Option, None, Some, if◌then◌else◌}
 use Rattle.bson.specs.TextMeaning.{HasTextMeaningIn, IsNoText}
-use Rattle.bson_bytes.specs.Laws.{IsReadIn}
-use Rattle.bson_bytes.specs.declared.keys.DuplicateKeys.{DuplicateKeys}
-use Rattle.bson_bytes.specs.declared.keys.DuplicateKeys.TheVariants.{Replace, Refuse}
+use Rattle.bson_bytes.specs.ReadDocuments.{IsReadIn}
+use Rattle.bson_bytes.specs.declared.duplicate_keys.DuplicateKeys.{DuplicateKeys}
+use Rattle.bson_bytes.specs.declared.duplicate_keys.DuplicateKeys.TheVariants.{Replace, Refuse}
 use Rattle.bson_model.specs.Value.{Value, Pairs, document}
 use Rattle.bson_tree.specs.declared.place.Place.{Place}
 use Rattle.bson.specs.declared.extjson.options.Options.{Options}

@@ -2,7 +2,7 @@
 ghost use Rattle.std.specs.Prelude.{◌≡◌, ◌≢◌, ◌⊎◌, ◌+◌, ◌<◌, ◌≤◌, ◌^◌, length, take, false};
 ghost use Rattle.std.specs.Int.{w32, w64};
 ghost use Rattle.std.specs.Str.{is_utf8};
-ghost use Rattle.bson_bytes.specs.Grammar.{IsSize, IsText, binary_bytes, le, old_binary_bytes};
+ghost use Rattle.bson_bytes.specs.Grammar.{IsLength, IsText, binary_bytes, little_endian, old_binary_bytes};
 ghost use Rattle.bson_bytes.specs.Writing.{subtyped_size};
 ghost use Rattle.bson_scalar.specs.Scalar as scalar;
 ghost use Rattle.bson_types.specs.BinarySubtypes.{subtype_of};
@@ -224,7 +224,7 @@ pub extern "C" fn vbson_append_binary(
     bytes: &[u8],
 ) -> u32
     ensures appended { AppendsScalar key.now (scalar.binary (subtype_of subtype) bytes.now) result builder.old builder.new }
-    ensures typed { result ≡ 0 → (subtype < 256) × IsSize (subtyped_size subtype bytes.now) }
+    ensures typed { result ≡ 0 → (subtype < 256) × IsLength (subtyped_size subtype bytes.now) }
     ensures no_subtype { result ≡ 1 → 256 ≤ subtype }
     ensures not_utf8 { result ≡ 6 → is_utf8 key.now ≡ false }
     ensures too_long { result ≡ 13 → 2 ^ 31 ≤ subtyped_size subtype bytes.now }
@@ -257,7 +257,7 @@ pub extern "C" fn vbson_append_decimal128(
 // Appends binary data, whose subtype is not 2.
 fn append_plain_binary(builder: &mut Builder<'_>, key: &[u8], subtype: u8, bytes: &[u8]) -> u32
     ensures appended { Appends tag.Binary key.now (binary_bytes subtype bytes.now) result builder.old builder.new }
-    ensures typed { result ≡ 0 → IsSize (length bytes.now) }
+    ensures typed { result ≡ 0 → IsLength (length bytes.now) }
     ensures not_utf8 { result ≡ 6 → is_utf8 key.now ≡ false }
     ensures too_long { result ≡ 13 → 2 ^ 31 ≤ length bytes.now }
     ensures listed { (result ≡ 0) ⊎ (result ≡ 6) ⊎ (result ≡ 8) ⊎ (result ≡ 11) ⊎ (result ≡ 13) }
@@ -277,10 +277,10 @@ fn append_plain_binary(builder: &mut Builder<'_>, key: &[u8], subtype: u8, bytes
 }
 
 // Appends binary data of the subtype 2, which has a length of its own before its bytes.
-#[tactic(auto, unfolding(bson_bytes::specs::Grammar::le))]
+#[tactic(auto, unfolding(bson_bytes::specs::Grammar::little_endian))]
 fn append_old_binary(builder: &mut Builder<'_>, key: &[u8], bytes: &[u8]) -> u32
     ensures appended { Appends tag.Binary key.now (old_binary_bytes bytes.now) result builder.old builder.new }
-    ensures typed { result ≡ 0 → IsSize (length bytes.now + 4) }
+    ensures typed { result ≡ 0 → IsLength (length bytes.now + 4) }
     ensures not_utf8 { result ≡ 6 → is_utf8 key.now ≡ false }
     ensures too_long { result ≡ 13 → 2 ^ 31 ≤ length bytes.now + 4 }
     ensures listed { (result ≡ 0) ⊎ (result ≡ 6) ⊎ (result ≡ 8) ⊎ (result ≡ 11) ⊎ (result ≡ 13) }
@@ -347,17 +347,17 @@ fn append_bytes(builder: &mut Builder<'_>, kind: ElementType, key: &[u8], bytes:
 }
 
 // Returns the bytes of a number of 32 bits, the lowest first.
-#[tactic(auto, unfolding(bson_bytes::specs::Grammar::le))]
+#[tactic(auto, unfolding(bson_bytes::specs::Grammar::little_endian))]
 fn le_32(number: u32) -> [u8; 4]
-    ensures { result ≡ le w32 number }
+    ensures { result ≡ little_endian w32 number }
 {
     number.to_le_bytes()
 }
 
 // Returns the bytes of a number of 64 bits, the lowest first.
-#[tactic(auto, unfolding(bson_bytes::specs::Grammar::le))]
+#[tactic(auto, unfolding(bson_bytes::specs::Grammar::little_endian))]
 fn le_64(number: u64) -> [u8; 8]
-    ensures { result ≡ le w64 number }
+    ensures { result ≡ little_endian w64 number }
 {
     number.to_le_bytes()
 }

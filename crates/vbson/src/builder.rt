@@ -3,15 +3,15 @@ ghost use Rattle.std.specs.Prelude.{◌≡◌, ◌≢◌, ◌≤◌, ◌<◌, �
 ghost use Rattle.std.specs.Prelude.{decimal, false};
 ghost use Rattle.std.specs.Int.{w32};
 ghost use Rattle.std.specs.Str.{is_utf8};
-ghost use Rattle.bson_bytes.specs.Grammar.{IsSize, le};
-ghost use Rattle.bson_bytes.specs.Writing.{document_bytes, list_bytes, name_bytes, type_of, value_bytes};
+ghost use Rattle.bson_bytes.specs.Grammar.{IsLength, little_endian};
+ghost use Rattle.bson_bytes.specs.Writing.{document_bytes, elements_bytes, name_bytes, type_of, value_bytes};
 ghost use Rattle.bson_model.specs.HashInput.{items_count};
 ghost use Rattle.bson_model.specs.Value.{Pairs, Value, Values, array, no_pairs, no_values};
 ghost use Rattle.vbson.specs.Builder.{Appends, IsAppended, IsBuilt, IsFramed, HasSameBytes, IsOpenDocument, IsOpenArray, IsTooSmall};
 ghost use Rattle.vbson.specs.Builder.{and_pair, and_value, built, no_length, value_in};
 
 use crate::status;
-use bson_bytes::parts::is_free;
+use bson_bytes::read_parts::has_no_nul;
 use bson_types::spec::ElementType;
 use std::str;
 
@@ -59,7 +59,7 @@ pub extern "C" fn vbson_document_end(builder: &mut Builder<'_>, start: usize) ->
     ensures done { result ≡ 0 → IsFramed start builder.old builder.new }
     // The elements become the canonical bytes of the document of their pairs, or of the array of their values.
     ensures document { (front : List ℕ) (ps : Pairs) → result ≡ 0 → start ≡ length front → IsOpenDocument front ps builder.old
-        → (built builder.new ≡ front ++ document_bytes ps) × IsSize (length (list_bytes ps) + 5) }
+        → (built builder.new ≡ front ++ document_bytes ps) × IsLength (length (elements_bytes ps) + 5) }
     ensures array { (front : List ℕ) (vs : Values) → result ≡ 0 → start ≡ length front
         → IsOpenArray front vs builder.old → built builder.new ≡ front ++ value_bytes (array vs) }
 
@@ -95,7 +95,7 @@ pub fn append(builder: &mut Builder<'_>, element: Element<'_>) -> u32
     ensures not_utf8 { result ≡ 6 → is_utf8 element.entry.key.now ≡ false }
     ensures listed { (result ≡ 0) ⊎ (result ≡ 6) ⊎ (result ≡ 8) ⊎ (result ≡ 11) }
 {
-    if !is_free(element.key) {
+    if !has_no_nul(element.key) {
         return status::ZERO_IN_KEY;
     }
     if !is_text(element.key) {
@@ -180,13 +180,13 @@ pub fn put(builder: &mut Builder<'_>, bytes: &[u8])
 }
 
 // Sets the length of the bytes from the start on.
-#[tactic(auto, unfolding(bson_bytes::specs::Grammar::le))]
+#[tactic(auto, unfolding(bson_bytes::specs::Grammar::little_endian))]
 fn put_length(builder: &mut Builder<'_>, start: usize)
     requires starts { start + 4 ≤ builder.old.len }
     requires built { builder.old.len ≤ length builder.old.bytes.now }
     requires counts { builder.old.len - start < 2 ^ 31 }
     ensures built { built builder.new
-        ≡ take start (built builder.old) ++ (le w32 (builder.old.len - start) ++ drop (start + 4) (built builder.old)) }
+        ≡ take start (built builder.old) ++ (little_endian w32 (builder.old.len - start) ++ drop (start + 4) (built builder.old)) }
     ensures rest { drop builder.old.len builder.new.bytes.now ≡ drop builder.old.len builder.old.bytes.now }
     ensures size { length builder.new.bytes.now ≡ length builder.old.bytes.now }
     ensures len { builder.new.len ≡ builder.old.len }

@@ -1,6 +1,6 @@
 //! Decodes the BSON bytes of a document to text that is written while they are read.
 ghost use Rattle.std.specs.Prelude.{◌≡◌, ◌⊎◌, ◌++◌, List, ℕ, IfOk, IfErr, IsUtf8};
-ghost use Rattle.bson_codec.specs.Texts.{IsDocumentTextOf};
+ghost use Rattle.bson_codec.specs.DocumentText.{IsDocumentTextOf};
 ghost use Rattle.bson_convert.specs.Convert.{newline};
 ghost use Rattle.vbson.specs.Documents.{IsOneDocument, depth, direct_form};
 

@@ -1,6 +1,6 @@
 //! A block of concatenated documents, as a dump has them.
 ghost use Rattle.std.specs.Prelude.{◌≡◌, ◌⊎◌, ◌↔◌, ◌<◌, ◌++◌, List, ℕ, IfSome};
-ghost use Rattle.bson_codec.specs.Documents.{Dump};
+ghost use Rattle.bson_codec.specs.DumpRuns.{Dump};
 ghost use Rattle.bson_codec.specs.declared.documents.Run.{Run};
 ghost use Rattle.bson_convert.specs.Convert.{newline};
 ghost use Rattle.vbson.specs.Convert.{options_of_flags};

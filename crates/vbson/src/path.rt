@@ -1,7 +1,7 @@
 //! The path to a wrong value, as bytes of BSON.
 ghost use Rattle.std.specs.Prelude.{◌≡◌, ◌≤◌, ◌++◌, decimal, length, map, IfOk, IfErr, OnOk};
 ghost use Rattle.bson_convert.specs.Convert.{newline};
-ghost use Rattle.bson_bytes.specs.Putting.{put_elements, PutsBytes};
+ghost use Rattle.bson_bytes.specs.PutSteps.{put_elements, PutsBytes};
 ghost use Rattle.bson_bytes.specs.Writing.{document_bytes, FitsDocument};
 ghost use Rattle.bson_bytes.specs.declared.error.Error.TheVariants as errors;
 ghost use Rattle.bson_model.specs.Value.{no_pairs, pair};
@@ -9,7 +9,7 @@ ghost use Rattle.bson_tree.specs.Place.{segment_of};
 ghost use Rattle.vbson.specs.Path.{index_value, name_value, path_pairs, segment_value};
 
 use bson_bytes::error::Error;
-use bson_bytes::put::{put_end, put_key, put_room, put_text, put_u64};
+use bson_bytes::write_parts::{put_end, put_key, put_length_placeholder, put_text, put_u64};
 use bson_tree::place::Segment;
 use bson_types::spec::ElementType;
 use std::alloc::Global;
@@ -38,7 +38,7 @@ fn path_bytes(alloc: Global, segments: &[Segment]) -> Result<Vec<u8>, Error>
         → IfErr result (λ e. e ≡ errors.OutOfMemory) }
 {
     let mut out = Vec::new(alloc);
-    put_room(&mut out)?;
+    put_length_placeholder(&mut out)?;
     put_segments(alloc, &mut out, segments)?;
     put_end(&mut out, 0)?;
     Ok(out)
@@ -75,7 +75,7 @@ fn put_segment(
 }
 
 // Appends a string with its key.
-#[tactic(auto, unfolding(bson_bytes::specs::Putting::put_value))]
+#[tactic(auto, unfolding(bson_bytes::specs::PutSteps::put_value))]
 fn put_name(out: &mut Vec<u8>, key: &str, name: &str) -> Result<(), Error>
     ensures put { PutsBytes result out.new.items (put_elements (pair key.now (name_value name.now) no_pairs) out.old.items) }
     ensures grows { OnOk result (length out.old.items ≤ length out.new.items) }
@@ -85,7 +85,7 @@ fn put_name(out: &mut Vec<u8>, key: &str, name: &str) -> Result<(), Error>
 }
 
 // Appends an integer of 64 bits with its key.
-#[tactic(auto, unfolding(bson_bytes::specs::Putting::put_value))]
+#[tactic(auto, unfolding(bson_bytes::specs::PutSteps::put_value))]
 fn put_index(out: &mut Vec<u8>, key: &str, index: usize) -> Result<(), Error>
     ensures put { PutsBytes result out.new.items (put_elements (pair key.now (index_value index) no_pairs) out.old.items) }
     ensures grows { OnOk result (length out.old.items ≤ length out.new.items) }

@@ -1,18 +1,18 @@
 //! Values of documents that remain bytes, which the caller has validated.
 ghost use Rattle.std.specs.Prelude.{◌≡◌, ◌⊎◌, ◌<◌, ◌≤◌, ◌-◌, ℕ, length, option_map, MatchOption};
-ghost use Rattle.bson_bytes.specs.Grammar.{one_each};
+ghost use Rattle.bson_bytes.specs.Grammar.{deduplicated};
 ghost use Rattle.bson_model.specs.Value.{Pairs, Value, value_at_key};
-ghost use Rattle.bson_bytes.specs.Held.{binary_of, boolean_value, date_value, double_value, int32_value, int64_value, object_id_value, string_value};
-ghost use Rattle.bson_bytes.specs.Nested.{IsNested};
-ghost use Rattle.bson_bytes.specs.Raw.{BeginsWithDocument, BeginsWithElements};
-ghost use Rattle.bson_bytes.specs.View.{raw_view};
+ghost use Rattle.bson_bytes.specs.TypedGetters.{binary_of, boolean_value, date_value, double_value, int32_value, int64_value, object_id_value, string_value};
+ghost use Rattle.bson_bytes.specs.NestedValues.{IsNested};
+ghost use Rattle.bson_bytes.specs.ReadElements.{BeginsWithDocument, BeginsWithElements};
+ghost use Rattle.bson_bytes.specs.RawView.{raw_view};
 ghost use Rattle.vbson.specs.Raw.{IsGot, IsNextElement, IsTypedResult, IsValueAt, IsValueOf, bit, subtype_and_bytes};
 
 use crate::status;
 use bson_bytes::RawBsonRef;
-use bson_bytes::element::{RawElement, elements_in, first_element};
-use bson_bytes::find::find;
-use bson_bytes::read::scalar_at;
+use bson_bytes::raw_element::{RawElement, elements_after_length, first_element};
+use bson_bytes::find_key::find;
+use bson_bytes::raw_read::read_scalar_value;
 use bson_types::spec::ElementType;
 
 /// A part of the caller's bytes.
@@ -37,7 +37,7 @@ pub struct RawValue<'a> {
 #[unsafe(no_mangle)]
 pub extern "C" fn vbson_raw_get<'a>(bytes: &'a [u8], key: &[u8], out: &mut RawValue<'a>) -> u32
     ensures found { (d : ℕ) (ps : Pairs) → BeginsWithDocument d bytes.now ps
-        → IsGot (d - 1) (value_at_key key.now (one_each ps)) result out.new }
+        → IsGot (d - 1) (value_at_key key.now (deduplicated ps)) result out.new }
     ensures listed { (result ≡ 0) ⊎ (result ≡ 14) }
     ensures kept { 0 < result → out.new ≡ out.old }
 {
@@ -58,7 +58,7 @@ pub extern "C" fn vbson_raw_elements<'a>(bytes: &'a [u8], cursor: &mut Slice<'a>
     ensures listed { (result ≡ 0) ⊎ (result ≡ 10) }
     ensures kept { 0 < result → cursor.new ≡ cursor.old }
 {
-    match elements_in(bytes) {
+    match elements_after_length(bytes) {
         Some(bytes) => {
             *cursor = Slice { bytes };
             status::OK
@@ -276,7 +276,7 @@ fn scalar_of<'a>(value: &RawValue<'a>) -> Option<RawBsonRef<'a>>
     let Some(kind) = ElementType::from(value.kind) else {
         return None;
     };
-    scalar_at(kind, value.bytes)
+    read_scalar_value(kind, value.bytes)
 }
 
 // Returns 1 for true and 0 for false.

@@ -5,7 +5,7 @@ ghost use Rattle.bson_tokens.specs.Normalized.{IsNormalizedText};
 ghost use Rattle.bson_tokens.specs.declared.arrangement.Arrangement.TheVariants as normalized;
 ghost use Rattle.bson_scalar.specs.declared.form.Doubles.{Doubles};
 ghost use Rattle.bson_model.specs.Value as model;
-ghost use Rattle.bson_tokens.specs.Parts.{InvalidMeansNone};
+ghost use Rattle.bson_tokens.specs.ReadOutcomes.{InvalidIfNotRead};
 ghost use Rattle.bson.specs.View.{bson_view};
 ghost use Rattle.bson.specs.TextMeaning.{HasTextMeaningBy, IsTextFaultIn};
 
@@ -76,7 +76,7 @@ fn normalize_by(
         KeyOrder::Ascending => Ok(ascending),
         KeyOrder::AsGiven => {
             drop(ascending);
-            match normalize_text(alloc, Arrangement::FirstPlaces, text) {
+            match normalize_text(alloc, Arrangement::FirstPositions, text) {
                 Ok(normalized) => Ok(normalized),
                 Err(error) => Err(no_tree(error)),
             }
@@ -86,7 +86,7 @@ fn normalize_by(
 
 // The error for a text of which no tree was read.
 fn no_tree(error: Error) -> TextError
-    ensures { (D : Doubles) (text : List ℕ) → InvalidMeansNone (tree_of text) error → IsTextFaultIn D text result }
+    ensures { (D : Doubles) (text : List ℕ) → InvalidIfNotRead (tree_of text) error → IsTextFaultIn D text result }
 {
     match error {
         Error::Invalid => TextError::NotJson,

@@ -8,7 +8,7 @@ ghost use Rattle.bson.specs.Collected.{collected_pairs, put_members, StandsAt, F
 use crate::bson::Bson;
 use crate::document::Document;
 use bson_store::{Pair, SmallPairs};
-use bson_tokens::prefix::prefix_of;
+use bson_tokens::key_prefix::prefix_of;
 use std::alloc::{AllocError, Global};
 use std::cmp::Ordering;
 

@@ -1,6 +1,6 @@
 use Rattle.std.proofs.Common.{◌≡◌, arith, sym, subst, ◌∙◌}
 use Rattle.bson_bytes.proofs.Offered.{grammar_from, is_read, fault_stands}
-use Rattle.bson_bytes.specs.Laws.{IsReadIn}
+use Rattle.bson_bytes.specs.ReadDocuments.{IsReadIn}
 use Rattle.bson_bytes.specs.Reading.{reads_bytes_in}
 use Rattle.bson_codec.proofs.Ends.{same_ok, memory_alone, stands, fault_of}
 use Rattle.bson_codec.proofs.de.from_bytes.Goals as goal
@@ -23,12 +23,12 @@ returns-in-Ok-clause-only c = λ ps h.
 pub returns-in-Err-clause-only : goal.returns-in-Err-clause-only
 returns-in-Err-clause-only c = λ ps h. (
   tt,
-  c.locate.ensures ∙ memory_alone c.in-Err.stop c.args.bytes.now (reads_bytes_in c.args.options.duplicate_keys c.args.options.depth c.args.bytes.now) ps
+  c.add_offset.ensures ∙ memory_alone c.in-Err.stop c.args.bytes.now (reads_bytes_in c.args.options.duplicate_keys c.args.options.depth c.args.bytes.now) ps
       c.in-Err.ensures (is_read c.args.options.duplicate_keys c.args.options.depth c.args.bytes.now ps h),
 )
 
-pub locate-requires : goal.locate-requires
-locate-requires c =
+pub add_offset-requires : goal.add_offset-requires
+add_offset-requires c =
     stands c.in-Err.stop c.args.bytes.now (reads_bytes_in c.args.options.duplicate_keys c.args.options.depth c.args.bytes.now)
     (λ f e. fault_stands c.args.options.duplicate_keys c.args.options.depth c.args.bytes.now f e) c.in-Err.ensures
 
@@ -37,4 +37,4 @@ returns-in-Err-clause-fault c =
     let read = reads_bytes_in c.args.options.duplicate_keys c.args.options.depth c.args.bytes.now in
     let place = stands c.in-Err.stop c.args.bytes.now read
     (λ f e. fault_stands c.args.options.duplicate_keys c.args.options.depth c.args.bytes.now f e) c.in-Err.ensures in
-    rw c.locate.ensures (fault_of c.in-Err.stop c.args.bytes.now read place c.in-Err.ensures)
+    rw c.add_offset.ensures (fault_of c.in-Err.stop c.args.bytes.now read place c.in-Err.ensures)

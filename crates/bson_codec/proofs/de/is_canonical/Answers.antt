@@ -1,7 +1,7 @@
 use Rattle.std.proofs.Common.{◌≡◌, sym, ap, subst, ◌∙◌}
 use Rattle.std.proofs.lemmas.Slice.Eq.{bytes_eq-Decides}
 use Rattle.bson_model.specs.Value.{Pairs}
-use Rattle.bson_bytes.specs.Laws.{IsCanonical}
+use Rattle.bson_bytes.specs.ReadDocuments.{IsCanonical}
 use Rattle.bson_bytes.specs.Writing.{FitsDocument, document_bytes}
 use Rattle.bson.specs.View.{document_view}
 use Rattle.bson_codec.proofs.Ends.{never, unless_written}

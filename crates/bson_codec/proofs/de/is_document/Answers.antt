@@ -1,7 +1,7 @@
 use Rattle.std.proofs.Common.{◌≡◌, Ok, Err, arith}
 use Rattle.bson_bytes.proofs.Offered.{grammar_from, is_read, fault_stands}
 use Rattle.bson_bytes.specs.Reading.{reads_bytes}
-use Rattle.bson_bytes.specs.declared.keys.DuplicateKeys.TheVariants.{Replace}
+use Rattle.bson_bytes.specs.declared.duplicate_keys.DuplicateKeys.TheVariants.{Replace}
 use Rattle.bson_codec.proofs.Ends.{fault_alone}
 use Rattle.bson_codec.proofs.de.is_document.Goals as goal
 
@@ -10,8 +10,8 @@ returns-in-Ok-clause-ok c =
     let read = c.in-Ok.ensures.ok in
     (read.0, grammar_from Replace c.args.depth c.args.bytes.now read.0 (λ i. omega (arith, c.type_inv.bytes i)) read.1)
 
-pub locate-requires : goal.locate-requires
-locate-requires c = fault_stands Replace c.args.depth c.args.bytes.now c.in-Err.fault c.in-Err.ensures.fault
+pub add_offset-requires : goal.add_offset-requires
+add_offset-requires c = fault_stands Replace c.args.depth c.args.bytes.now c.in-Err.fault c.in-Err.ensures.fault
 
 pub returns-in-Err-clause-only : goal.returns-in-Err-clause-only
 returns-in-Err-clause-only c = λ ps h.
@@ -21,5 +21,5 @@ returns-in-Err-clause-only c = λ ps h.
 
 pub returns-in-Err-clause-fault : goal.returns-in-Err-clause-fault
 returns-in-Err-clause-fault c =
-    rw c.locate.ensures (fault_alone c.in-Err.fault c.args.bytes.now (reads_bytes c.args.depth c.args.bytes.now)
+    rw c.add_offset.ensures (fault_alone c.in-Err.fault c.args.bytes.now (reads_bytes c.args.depth c.args.bytes.now)
     (fault_stands Replace c.args.depth c.args.bytes.now c.in-Err.fault c.in-Err.ensures.fault) c.in-Err.ensures.fault)

@@ -1,6 +1,6 @@
 use Rattle.std.proofs.Common.{◌≡◌, ◌++◌, IsUtf8, string_bytes}
 use Rattle.std.proofs.lemmas.Result.{IfOk-weaker}
-use Rattle.bson_codec.specs.Documents.{IsLine}
+use Rattle.bson_codec.specs.DumpRuns.{IsLine}
 use Rattle.bson_codec.specs.Diagnostics.{newline}
 use Rattle.bson_codec.proofs.Decoded.{line_is}
 use Rattle.bson_codec.proofs.documents.ordered_line.Goals as goal

@@ -1,14 +1,14 @@
 use Rattle.std.proofs.Common.{◌≡◌, Ok, Err, arith}
 use Rattle.bson_bytes.specs.Reading.{reads_bytes}
-use Rattle.bson_bytes.specs.declared.keys.DuplicateKeys.TheVariants.{Replace}
+use Rattle.bson_bytes.specs.declared.duplicate_keys.DuplicateKeys.TheVariants.{Replace}
 use Rattle.bson_bytes.proofs.Offered.{grammar_from, is_read, fault_stands}
 use Rattle.bson_bytes.proofs.OfferedSource.{stopped_at}
 use Rattle.bson_codec.proofs.Decoded.{printed_is}
 use Rattle.bson_codec.proofs.Ends.{fault_alone}
 use Rattle.bson_codec.proofs.text.decode_text.Goals as goal
 
-pub locate-requires : goal.locate-requires
-locate-requires c =
+pub add_offset-requires : goal.add_offset-requires
+add_offset-requires c =
     let fails = stopped_at (λ e. Unit {0}) c.in-Err-Fault.field-0 c.in-Err-Fault.fault (reads_bytes c.args.depth c.args.bytes.now)
     c.in-Err-Fault.field-0-is c.in-Err-Fault.ensures in
     fault_stands Replace c.args.depth c.args.bytes.now c.in-Err-Fault.fault fails
@@ -36,4 +36,4 @@ returns-in-Err-Fault-clause-fault c =
     let fails = stopped_at (λ e. Unit {0}) c.in-Err-Fault.field-0 c.in-Err-Fault.fault read c.in-Err-Fault.field-0-is
     c.in-Err-Fault.ensures in
     let place = fault_stands Replace c.args.depth c.args.bytes.now c.in-Err-Fault.fault fails in
-    rw c.locate.ensures (fault_alone c.in-Err-Fault.fault c.args.bytes.now read place fails)
+    rw c.add_offset.ensures (fault_alone c.in-Err-Fault.fault c.args.bytes.now read place fails)

@@ -3,7 +3,7 @@ use Rattle.std.proofs.lemmas.Str.{IsUtf8-string_bytes}
 use Rattle.std.specs.Prelude.{IsUtf8, string_bytes}
 use Rattle.bson_tokens.specs.Normalized.{IsNormalizedText}
 use Rattle.bson_tokens.specs.declared.arrangement.Arrangement.TheVariants.{Ascending}
-use Rattle.bson_tokens.specs.TextPlaces.{IsTextPlaceIn}
+use Rattle.bson_tokens.specs.TextErrors.{IsTextPlaceIn}
 use Rattle.bson_convert.proofs.converted.normalize_faultless.Goals as goal
 
 pub returns-in-Ok-None-clause-ok : goal.returns-in-Ok-None-clause-ok

@@ -1,6 +1,6 @@
 use Rattle.std.proofs.Common.{arith, subst}
 use Rattle.std.specs.Prelude.{IsUtf8}
-use Rattle.bson_tokens.specs.TextPlaces.{IsTextPlaceIn}
+use Rattle.bson_tokens.specs.TextErrors.{IsTextPlaceIn}
 use Rattle.bson_convert.proofs.converted.refuse.Goals as goal
 
 pub returns-in-Ok-None-clause-ok : goal.returns-in-Ok-None-clause-ok

@@ -4,7 +4,7 @@ use Rattle.bson.specs.Doubles.TheVariants.{Finite}
 use Rattle.bson.specs.Form.TheVariants.{Canonical}
 use Rattle.bson.specs.Texts.{IsTextInOrder}
 use Rattle.bson.specs.Value.{document}
-use Rattle.bson_codec.specs.Laws.{IsRead}
+use Rattle.bson_codec.specs.ReadDocuments.{IsRead}
 use Rattle.bson.specs.Options.{mongodb_options}
 use Rattle.bson.specs.declared.extjson.key_order.KeyOrder.TheVariants.{AsGiven}
 use Rattle.bson.specs.declared.extjson.options.Options.{Options}

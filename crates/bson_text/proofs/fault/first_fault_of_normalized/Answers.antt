@@ -1,5 +1,5 @@
 use Rattle.std.proofs.Common.{Some, subst, sym}
-use Rattle.bson_tokens.specs.TextPlaces.{IsTextPlaceIn}
+use Rattle.bson_tokens.specs.TextErrors.{IsTextPlaceIn}
 use Rattle.bson_text.proofs.FirstFaults.{none_in_text, first_in_text}
 use Rattle.bson_text.proofs.fault.first_fault_of_normalized.Goals as goal
 

@@ -4,8 +4,8 @@ use Rattle.json.specs.Json.{array, object, after_end_array, parse_map, read_key,
 use Rattle.json.specs.Reads.{token_of}
 use Rattle.json.proofs.Grammar.{read_key-shorter}
 use Rattle.bson_tokens.specs.Normalized.{normalized}
-use Rattle.bson_tokens.specs.Normalizing.{Passes, elements, inside, put_json_entries, ranged, ranged_items, ranged_members}
-use Rattle.bson_tokens.specs.Normalizing.{sound}
+use Rattle.bson_tokens.specs.NormalizerStates.{NormalizesRead, elements, inside, put_json_members, numbers_in_range, item_numbers_in_range, member_numbers_in_range}
+use Rattle.bson_tokens.specs.NormalizerStates.{if_valid}
 use Rattle.bson_tokens.proofs.Standing.{grown_more, none_stand}
 use Rattle.bson_tokens.proofs.Values.{array_opened, array_too_deep, none_begins, number_fails, number_passes}
 use Rattle.bson_tokens.proofs.Values.{object_opened, object_too_deep, opened_passes, plain_passes}
@@ -41,7 +41,7 @@ write_value-returns-else-depth-eq0-clause-ok t c =
     let first : c.args.reader.now ≡ token_of c.in_ok-token.token ∷ c.next.new.self = grind arith in
     on_ok_weaker c.write_items.result
     (opened_passes c.args.depth c.args.reader.now c.next.new.self array
-    (sound ranged_items (elements (c.args.depth - 1) c.next.new.self)) c.write_items.new.reader c.args.out.now
+    (if_valid item_numbers_in_range (elements (c.args.depth - 1) c.next.new.self)) c.write_items.new.reader c.args.out.now
     c.write_items.new.out (array_opened c.args.depth c.args.reader.now c.next.new.self
     (first ∙ ap (λ k. token_of k ∷ c.next.new.self) c.in-BeginArray.is) (omega arith))) c.write_items.ensures.ok
 
@@ -50,7 +50,7 @@ write_value-returns-else-depth-eq0-2-clause-ok t c =
     let first : c.args.reader.now ≡ token_of c.in_ok-token.token ∷ c.next.new.self = grind arith in
     on_ok_weaker c.write_members.result
     (opened_passes c.args.depth c.args.reader.now c.next.new.self object
-    (sound ranged_members (inside (c.args.depth - 1) c.next.new.self)) c.write_members.new.reader c.args.out.now
+    (if_valid member_numbers_in_range (inside (c.args.depth - 1) c.next.new.self)) c.write_members.new.reader c.args.out.now
     c.write_members.new.out (object_opened c.args.depth c.args.reader.now c.next.new.self
     (first ∙ ap (λ k. token_of k ∷ c.next.new.self) c.in-BeginObject.is) (omega arith))) c.write_members.ensures.ok
 
@@ -99,7 +99,7 @@ pub write_items-items-preserved : goal.write_items-items-preserved
 write_items-items-preserved t c =
     let l = c.items in
     let going : (after_end_array l.reader ≡ None) × (c.take_end_array.new.self ≡ l.reader) = grind arith in
-    let read : Passes (sound ranged (value c.args.depth l.reader)) (normalized l.out.arrangement) c.write_value.new.reader
+    let read : NormalizesRead (if_valid numbers_in_range (value c.args.depth l.reader)) (normalized l.out.arrangement) c.write_value.new.reader
     l.out c.write_value.new.out = rw (← going.1) c.in_ok-write_value.ensures.ok in
     record {
       arrangement = read.2.arrangement ∙ l.invariant.arrangement;
@@ -130,7 +130,7 @@ write_items-returns-in_err-write_value-clause-broken t c =
     c.from_residual-in_err-write_value.ensures.1 in
     rw (p.1, p.2) (λ broken. all_breaks (whole_at c.open.new.self) (whole_at l.out) _ _ l.invariant.whole
     (item_fails c.args.depth l.reader going.0
-    (ap (λ ts. sound ranged (value c.args.depth ts)) (sym going.1) ∙ c.in_err-write_value.ensures.broken broken)))
+    (ap (λ ts. if_valid numbers_in_range (value c.args.depth ts)) (sym going.1) ∙ c.in_err-write_value.ensures.broken broken)))
 
 -- ---- objects
 
@@ -161,17 +161,17 @@ write_members-members-preserved t c =
     let (j, read, added) = c.in_ok-write_value.ensures.ok in
     let a = l.out.arrangement in
     let es = h.entries ++ (k, normalized mid.arrangement j) ∷ [] in
-    let rest = sound ranged_members (inside c.args.depth c.write_value.new.reader) in
+    let rest = if_valid member_numbers_in_range (inside c.args.depth c.write_value.new.reader) in
     let begun = c.in_ok-start.ensures.0 in
     let g = grown_more first l.out mid later c.in_ok-start.start c.in_ok-place.place c.place.result l.spans.items
-    c.hold.new.spans.items h.entries c.in-Some.key (normalized mid.arrangement j) h.grown begun c.in_ok-place.ensures added
-    c.place.ensures c.in_ok-hold.ensures in
+    c.push_span.new.spans.items h.entries c.in-Some.key (normalized mid.arrangement j) h.grown begun c.in_ok-place.ensures added
+    c.place.ensures c.in_ok-push_span.ensures in
     let early = c.in_ok-most.ensures in
     let (body, fs, text, stand, put, some) = early.2 first g.body es g.text_is begun g.stand in
     let same : later.arrangement ≡ a = added.arrangement ∙ c.in_ok-place.ensures.1.arrangement in
     let all = member_passed c.args.depth _ a h.entries k l.reader s c.write_value.new.reader j h.found named read
     ∙ ap (λ x. found a (h.entries ++ (k, normalized x j) ∷ []) rest) (sym c.in_ok-place.ensures.1.arrangement)
-    ∙ ap (λ ms. found_from a ms rest) (sym (ap (λ x. put_json_entries x fs) (sym same) ∙ put ∙ ap (λ x. put_json_entries x es) same)) in
+    ∙ ap (λ ms. found_from a ms rest) (sym (ap (λ x. put_json_members x fs) (sym same) ∙ put ∙ ap (λ x. put_json_members x es) same)) in
     record {
       arrangement = early.0 ∙ same ∙ h.arrangement;
       entries = fs;
@@ -181,7 +181,7 @@ write_members-members-preserved t c =
         stand = stand;
         behind_is = early.1 ∙ g.behind_is ∙ sym some;
       };
-      found = subst (λ x. found x [] (sound ranged_members (inside c.args.depth c.args.reader.now)) ≡ found x fs rest)
+      found = subst (λ x. found x [] (if_valid member_numbers_in_range (inside c.args.depth c.args.reader.now)) ≡ found x fs rest)
           (sym (early.0 ∙ same)) all;
     }
 
@@ -222,7 +222,7 @@ write_members-returns-clause-ok t c =
     let h = l.invariant in
     let first = c.begin_object.new.self.text.items in
     let later = c.close.new.self in
-    let settled = c.in_ok-settle.ensures in
+    let settled = c.in_ok-normalize_members.ensures in
     let (body, text, (fs, stand, put)) = settled.2 first h.grown.body h.entries h.grown.text_is c.in_ok-start.ensures.0 h.grown.stand in
     let ended : read_key l.reader ≡ Some (None, c.next_key.new.self) = grind arith in
     let close = c.in_ok-close.ensures in

@@ -2,7 +2,7 @@ use Rattle.std.proofs.Common.{◌≡◌, [], arith, string_bytes}
 use Rattle.std.proofs.lemmas.Result.{IfErr-weaker, IfOk-weaker, err_from_is_err_and}
 use Rattle.json.specs.Lex.{tokens}
 use Rattle.serde_json.specs.Read.{read}
-use Rattle.bson_tokens.specs.Parts.{InvalidMeansNone}
+use Rattle.bson_tokens.specs.ReadOutcomes.{InvalidIfNotRead}
 use Rattle.json.specs.declared.error.Error.TheVariants.{OutOfMemory}
 use Rattle.bson_tokens.specs.Normalized.{IsNormalizedText}
 use Rattle.bson_tokens.proofs.Ranged.{text_none}
@@ -30,5 +30,5 @@ returns-clause-ok c =
 
 pub returns-clause-broken : goal.returns-clause-broken
 returns-clause-broken c =
-    IfErr-weaker c.into_text.result (λ e. e ≡ OutOfMemory) (InvalidMeansNone (read c.args.text.now))
+    IfErr-weaker c.into_text.result (λ e. e ≡ OutOfMemory) (InvalidIfNotRead (read c.args.text.now))
     (λ e refused broken. absurd (unlike e refused broken)) c.into_text.ensures.refused

@@ -1,5 +1,5 @@
 use Rattle.std.proofs.Common.{◌≡◌, ◌+◌, ◌*◌, length}
-use Rattle.bson_tokens.specs.Normalizing.{elements, inside}
+use Rattle.bson_tokens.specs.NormalizerStates.{elements, inside}
 use Rattle.bson_v1.specs.WrittenTokens.{upgraded_items_tokens, upgraded_members_tokens}
 use Rattle.bson_v1.proofs.Passing.{whole}
 use Rattle.bson_v1.proofs.upgraded.+write.Given as goal

@@ -5,8 +5,8 @@ use Rattle.vbson.specs.Builder.{IsAppended, value_in}
 use Rattle.vbson.proofs.Appending.{both, too_small, free_from, zero_from}
 use Rattle.vbson.proofs.builder.append.Goals as goal
 
-pub returns-then-not-is_free-clause-appended : goal.returns-then-not-is_free-clause-appended
-returns-then-not-is_free-clause-appended c =
+pub returns-then-not-has_no_nul-clause-appended : goal.returns-then-not-has_no_nul-clause-appended
+returns-then-not-has_no_nul-clause-appended c =
     record {
       done = λ h. absurd (omega (arith, h));
       too_small = λ h. absurd (omega (arith, h));

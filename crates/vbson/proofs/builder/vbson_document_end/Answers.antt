@@ -1,5 +1,5 @@
 use Rattle.std.proofs.Common.{◌≡◌, ◌+◌, ◌-◌, ◌^◌, ◌≤◌, ◌<◌, ap, arith, rules, subst}
-use Rattle.bson_bytes.specs.Writing.{list_bytes, items_bytes}
+use Rattle.bson_bytes.specs.Writing.{elements_bytes, array_elements_bytes}
 use Rattle.vbson.specs.Builder.{IsFramed}
 use Rattle.vbson.proofs.Elements.{ended, is_ended, sized}
 use Rattle.vbson.proofs.builder.vbson_document_end.Goals as goal
@@ -19,7 +19,7 @@ returns-clause-done c = λ ok. done c
 
 pub returns-clause-document : goal.returns-clause-document
 returns-clause-document c =
-    λ front ps ok is h. (ended front (list_bytes ps) c.args.start _ _ is h (done c), sized front (list_bytes ps) c.args.start _ _ is h (done c))
+    λ front ps ok is h. (ended front (elements_bytes ps) c.args.start _ _ is h (done c), sized front (elements_bytes ps) c.args.start _ _ is h (done c))
 
 pub returns-clause-array : goal.returns-clause-array
-returns-clause-array c = λ front vs ok is h. ended front (items_bytes 0 vs) c.args.start _ _ is h (done c)
+returns-clause-array c = λ front vs ok is h. ended front (array_elements_bytes 0 vs) c.args.start _ _ is h (done c)

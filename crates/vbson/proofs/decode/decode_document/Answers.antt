@@ -1,6 +1,6 @@
 use Rattle.std.proofs.Common.{◌≡◌, ◌⊎◌, ◌++◌, List, ℕ, Some, IsUtf8}
 use Rattle.std.proofs.lemmas.Result.{IfErr-weaker, IfOk-weaker}
-use Rattle.bson_codec.specs.Texts.{IsDocumentTextOf}
+use Rattle.bson_codec.specs.DocumentText.{IsDocumentTextOf}
 use Rattle.bson_convert.specs.Convert.{newline}
 use Rattle.vbson.proofs.Decoding.{directly, unread}
 use Rattle.vbson.specs.Documents.{Decodes, IsOneDocument, IsUndecoded, depth, direct_form}

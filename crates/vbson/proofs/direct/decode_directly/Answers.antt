@@ -1,6 +1,6 @@
 use Rattle.std.proofs.Common.{◌≡◌, ◌⊎◌, ◌++◌, inl, inr, refl, List, ℕ, IsUtf8, string_bytes}
 use Rattle.std.proofs.lemmas.Result.{IfErr-weaker, IfOk-weaker}
-use Rattle.bson_codec.specs.Texts.{IsDocumentTextOf}
+use Rattle.bson_codec.specs.DocumentText.{IsDocumentTextOf}
 use Rattle.bson_convert.specs.Convert.{newline}
 use Rattle.vbson.specs.Documents.{IsOneDocument, depth}
 use Rattle.vbson.proofs.direct.decode_directly.Goals as goal

@@ -1,7 +1,7 @@
 use Rattle.std.proofs.Common.{◌≡◌, subst, sym, true}
 use Rattle.std.proofs.lemmas.Result.{IfOk-weaker}
 use Rattle.bson.specs.View.{document_view}
-use Rattle.bson_bytes.specs.Laws.{IsReadIn}
+use Rattle.bson_bytes.specs.ReadDocuments.{IsReadIn}
 use Rattle.bson_model.specs.Normal.{writable_in}
 use Rattle.bson_model.specs.Value.{document}
 use Rattle.vbson.proofs.DocumentErrors.{nothing_found, of_document}

@@ -1,6 +1,6 @@
 use Rattle.std.proofs.Common.{◌≡◌, ◌∷◌, length, rules, subst, sym}
 use Rattle.std.proofs.lemmas.Result.{err_from_is_err_and}
-use Rattle.bson_bytes.specs.Putting.{Put, PutsBytes}
+use Rattle.bson_bytes.specs.PutSteps.{PutResult, PutsBytes}
 use Rattle.vbson.proofs.Paths.{no_segments, segment_put, segments_stop}
 use Rattle.vbson.proofs.path.+put_segments.Goals as goal
 
@@ -21,4 +21,4 @@ returns-clause-put t c =
     let some : c.args.segments.now ≡ c.in-Some.segment.now ∷ c.in-Some.outer.now = search rules in
     let put = segment_put c.args.segments.now c.in-Some.outer.now c.in-Some.segment.now c.args.out.now.items
     c.put_segments.new.out.items some c.in_ok-put_segments.ensures.put in
-    subst (λ (r : Put). PutsBytes c.put_segment.result c.put_segment.new.out.items r) (sym put) c.put_segment.ensures.put
+    subst (λ (r : PutResult). PutsBytes c.put_segment.result c.put_segment.new.out.items r) (sym put) c.put_segment.ensures.put

@@ -1,7 +1,7 @@
 use Rattle.std.proofs.Common.{◌∙◌, List, ap, map, subst, sym, ℕ}
 use Rattle.std.proofs.lemmas.Result.{err_from_is_err_and}
 use Rattle.bson_bytes.proofs.Offered.{told_ok}
-use Rattle.bson_bytes.specs.Putting.{Put, StopsFor, put_elements, put_room}
+use Rattle.bson_bytes.specs.PutSteps.{PutResult, StopsFor, put_elements, put_length_placeholder}
 use Rattle.bson_tree.specs.Place.{segment_of}
 use Rattle.vbson.proofs.Paths.{only_memory, document_put, document_stops}
 use Rattle.vbson.specs.Path.{path_pairs}
@@ -12,7 +12,7 @@ returns-in_err-put_segments-clause-only c =
     let p = err_from_is_err_and c.from_residual-in_err-put_segments.result c.from_residual-in_err-put_segments.ensures.1 in
     let e = c.in_err-put_segments.field-0.0 in
     let ps = path_pairs (map segment_of c.args.segments.now) in
-    let room = c.in_ok-put_room.ensures ∙ ap put_room c.new-out.ensures.items in
+    let room = c.in_ok-put_length_placeholder.ensures ∙ ap put_length_placeholder c.new-out.ensures.items in
     let h = subst (λ (out : List ℕ). StopsFor e (put_elements ps out)) room c.in_err-put_segments.ensures.put in
     rw p.1 (λ fits. p.2 ∙ only_memory e ps fits (document_stops e ps h))
 
@@ -21,14 +21,14 @@ returns-in_err-put_end-clause-only c =
     let p = err_from_is_err_and c.from_residual-in_err-put_end.result c.from_residual-in_err-put_end.ensures.1 in
     let e = c.in_err-put_end.field-0.0 in
     let ps = path_pairs (map segment_of c.args.segments.now) in
-    let room = c.in_ok-put_room.ensures ∙ ap put_room c.new-out.ensures.items in
+    let room = c.in_ok-put_length_placeholder.ensures ∙ ap put_length_placeholder c.new-out.ensures.items in
     let put = ap (put_elements ps) (sym room) ∙ c.in_ok-put_segments.ensures.put in
-    let h = subst (λ (r : Put). StopsFor e r) (sym (document_put ps c.put_segments.new.out.items put)) c.in_err-put_end.ensures.put in
+    let h = subst (λ (r : PutResult). StopsFor e r) (sym (document_put ps c.put_segments.new.out.items put)) c.in_err-put_end.ensures.put in
     rw p.1 (λ fits. p.2 ∙ only_memory e ps fits h)
 
 pub returns-clause-ok : goal.returns-clause-ok
 returns-clause-ok c =
     let ps = path_pairs (map segment_of c.args.segments.now) in
-    let room = c.in_ok-put_room.ensures ∙ ap put_room c.new-out.ensures.items in
+    let room = c.in_ok-put_length_placeholder.ensures ∙ ap put_length_placeholder c.new-out.ensures.items in
     let put = ap (put_elements ps) (sym room) ∙ c.in_ok-put_segments.ensures.put in
     (told_ok ps c.put_end.new.out.items (document_put ps c.put_segments.new.out.items put ∙ c.in_ok-put_end.ensures.put)).1

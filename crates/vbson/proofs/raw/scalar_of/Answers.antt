@@ -6,4 +6,4 @@ returns-in_default c = λ d v h. absurd (no_kind d v c.args.value.now c.from.res
 
 pub returns : goal.returns
 returns c =
-    λ d v h. c.scalar_at.ensures d v _ (read_at d v c.args.value.now c.from.result c.in-Some.kind c.from.ensures c.in-Some.is h)
+    λ d v h. c.read_scalar_value.ensures d v _ (read_at d v c.args.value.now c.from.result c.in-Some.kind c.from.ensures c.in-Some.is h)

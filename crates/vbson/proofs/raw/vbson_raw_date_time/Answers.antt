@@ -1,5 +1,5 @@
 use Rattle.std.proofs.Common.{rules, FitsSigned, w64, to_z-of_z, ◌∙◌}
-use Rattle.bson_bytes.specs.Held.{date_value}
+use Rattle.bson_bytes.specs.TypedGetters.{date_value}
 use Rattle.vbson.proofs.RawValues.{never_date_time, typed_none, typed_other, typed_some}
 use Rattle.vbson.proofs.raw.vbson_raw_date_time.Goals as goal
 

@@ -1,5 +1,5 @@
 use Rattle.std.proofs.Common.{refl}
-use Rattle.bson_bytes.specs.Held.{double_value}
+use Rattle.bson_bytes.specs.TypedGetters.{double_value}
 use Rattle.vbson.proofs.RawValues.{never_double, typed_none, typed_other, typed_some}
 use Rattle.vbson.proofs.raw.vbson_raw_double.Goals as goal
 

@@ -1,5 +1,5 @@
 use Rattle.std.proofs.Common.{rules, FitsSigned, w64, to_z-of_z}
-use Rattle.bson_bytes.specs.Held.{int64_value}
+use Rattle.bson_bytes.specs.TypedGetters.{int64_value}
 use Rattle.vbson.proofs.RawValues.{never_int64, typed_none, typed_other, typed_some}
 use Rattle.vbson.proofs.raw.vbson_raw_int64.Goals as goal
 

@@ -1,4 +1,4 @@
-use Rattle.bson_bytes.specs.Held.{object_id_value}
+use Rattle.bson_bytes.specs.TypedGetters.{object_id_value}
 use Rattle.vbson.proofs.RawValues.{never_object_id, typed_none, typed_other, typed_some}
 use Rattle.vbson.proofs.raw.vbson_raw_object_id.Goals as goal
 

@@ -1,4 +1,4 @@
-use Rattle.bson_bytes.specs.Held.{string_value}
+use Rattle.bson_bytes.specs.TypedGetters.{string_value}
 use Rattle.vbson.proofs.RawValues.{never_string, typed_none, typed_other, typed_some}
 use Rattle.vbson.proofs.raw.vbson_raw_string.Goals as goal
 

@@ -1,5 +1,5 @@
 use Rattle.std.proofs.Common.{ap, subst, sym, ◌∙◌}
-use Rattle.bson_bytes.specs.Laws.{IsReadIn}
+use Rattle.bson_bytes.specs.ReadDocuments.{IsReadIn}
 use Rattle.bson_model.specs.Value.{document}
 use Rattle.vbson.proofs.Decoding.{document_seen}
 use Rattle.vbson.proofs.Preprocessed.{no_document_under}

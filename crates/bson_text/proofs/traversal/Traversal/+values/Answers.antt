@@ -239,7 +239,7 @@ write_code-returns-in_ok-end_object-in-Object-clause-ok g t c =
 
 pub write_wrapper-returns-in_default-clause-ok : goal.write_wrapper-returns-in_default-clause-ok
 write_wrapper-returns-in_default-clause-ok g t c =
-    let ended : read_key c.read_held.new.reader ≡ Some (None, c.next_key.new.self) = grind arith in
+    let ended : read_key c.read_wrapper_content.new.reader ≡ Some (None, c.next_key.new.self) = grind arith in
     let named : wrapper_of c.args.key.now ≡ Some c.args.wrapper = grind arith in
     on_ok_weaker c.scalar.result
     (single_means _ _ _ _ _ _ _ _ _ _ named c.in_ok-held.ensures.ok c.in_ok-held.ensures.shorter ended
@@ -249,7 +249,7 @@ pub write_wrapper-returns-clause-ok : goal.write_wrapper-returns-clause-ok
 write_wrapper-returns-clause-ok g t c =
     let k = c.args.key.now in
     let l = c.in-Some.other.now in
-    let named : read_key c.read_held.new.reader ≡ Some (Some l, c.next_key.new.self) = grind arith in
+    let named : read_key c.read_wrapper_content.new.reader ≡ Some (Some l, c.next_key.new.self) = grind arith in
     let are : (bytes_eq k (codes "$code") && bytes_eq l (codes "$scope")) ≡ true = grind arith in
     on_ok_weaker c.write_code.result
     (code_means _ _ _ _ _ _ _ _ _ _ _ c.in_ok-held.ensures.ok c.in_ok-held.ensures.shorter named are

@@ -2,7 +2,7 @@ use Rattle.std.proofs.Common.{ℕ, List, string_bytes, rules}
 use Rattle.std.proofs.lemmas.List.Sorted.{answers_always}
 use Rattle.std.specs.Cmp.{nat_cmp_total}
 use Rattle.bson_model.proofs.Offered.{sorted_by}
-use Rattle.bson_tokens.specs.Prefix.{prefix}
+use Rattle.bson_tokens.specs.KeyPrefix.{prefix}
 use Rattle.bson.specs.Collected.{member_key}
 use Rattle.bson.proofs.extjson.text_reader.members.sort_by_prefix.Goals as goal
 

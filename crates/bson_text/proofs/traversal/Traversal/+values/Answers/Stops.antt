@@ -272,11 +272,11 @@ write_wrapper-returns-in_err-held-clause-fails g t c =
 
 pub write_wrapper-returns-in_err-other-clause-fails : goal.write_wrapper-returns-in_err-other-clause-fails
 write_wrapper-returns-in_err-other-clause-fails g t c =
-    let none : read_key c.read_held.new.reader ≡ None = grind arith in
+    let none : read_key c.read_wrapper_content.new.reader ≡ None = grind arith in
     let back = c.from_residual-in_err-other in
     let p = err_from_is_err_and back.result back.ensures.1 in
     rw (p.1, p.2) (
-      no_second c.args.level.doubles (g.W.ValueWriter.leaves c.args.level.doubles) g.W.ValueWriter.sorts stop.Syntax c.args.level.depth c.args.key.now c.args.self.now.reader c.read_held.new.reader _
+      no_second c.args.level.doubles (g.W.ValueWriter.leaves c.args.level.doubles) g.W.ValueWriter.sorts stop.Syntax c.args.level.depth c.args.key.now c.args.self.now.reader c.read_wrapper_content.new.reader _
           c.in_ok-held.ensures.ok none,
       tt,
     )
@@ -284,16 +284,16 @@ write_wrapper-returns-in_err-other-clause-fails g t c =
 pub write_wrapper-returns-in_err-value-clause-fails : goal.write_wrapper-returns-in_err-value-clause-fails
 write_wrapper-returns-in_err-value-clause-fails g t c =
     let k = c.args.key.now in
-    let ended : read_key c.read_held.new.reader ≡ Some (None, c.next_key.new.self) = grind arith in
+    let ended : read_key c.read_wrapper_content.new.reader ≡ Some (None, c.next_key.new.self) = grind arith in
     let named : wrapper_of k ≡ Some c.args.wrapper = grind arith in
     let p = err_from_is_err_and c.from_residual-in_err-value.result c.from_residual-in_err-value.ensures.1 in
     let (e, read, becomes) = c.in_err-value.ensures.kind in
     let (f, at, keyed) = c.in_err-value.ensures.placed in
     rw (p.1, p.2) (
       lacks_became _ _ _ _ _ becomes (scalar_denied c.args.level.doubles (g.W.ValueWriter.leaves c.args.level.doubles) g.W.ValueWriter.sorts e c.args.level.depth k c.args.wrapper
-          c.args.self.now.reader c.read_held.new.reader c.next_key.new.self (view c.in_ok-held.held) named c.in_ok-held.ensures.ok
+          c.args.self.now.reader c.read_wrapper_content.new.reader c.next_key.new.self (view c.in_ok-held.held) named c.in_ok-held.ensures.ok
           ended read),
-      alone_placed c.args.level.doubles f _ c.args.level.depth k c.args.wrapper c.args.self.now.reader c.read_held.new.reader
+      alone_placed c.args.level.doubles f _ c.args.level.depth k c.args.wrapper c.args.self.now.reader c.read_wrapper_content.new.reader
           c.next_key.new.self (view c.in_ok-held.held) named c.in_ok-held.ensures.ok ended at keyed,
     )
 
@@ -302,14 +302,14 @@ write_wrapper-returns-then-not-is_code_with_scope-clause-fails g t c =
     let k = c.args.key.now in
     let l = c.in-Some.other.now in
     let named : wrapper_of k ≡ Some c.args.wrapper = grind arith in
-    let key : read_key c.read_held.new.reader ≡ Some (Some l, c.next_key.new.self) = grind arith in
+    let key : read_key c.read_wrapper_content.new.reader ≡ Some (Some l, c.next_key.new.self) = grind arith in
     let are : (bytes_eq k (codes "$code") && bytes_eq l (codes "$scope")) ≡ false = grind arith in
     let held = c.in_ok-held.ensures.ok in (
       lacks_became _ _ _ _ _ c.shape_at_value.ensures.kind (strange_denied c.args.level.doubles (g.W.ValueWriter.leaves c.args.level.doubles) g.W.ValueWriter.sorts c.args.level.depth k l
-          c.args.wrapper c.args.self.now.reader c.read_held.new.reader c.next_key.new.self (view c.in_ok-held.held) named held key
+          c.args.wrapper c.args.self.now.reader c.read_wrapper_content.new.reader c.next_key.new.self (view c.in_ok-held.held) named held key
           are),
       strange_placed c.args.level.doubles c.shape_at_value.result c.args.level.depth k l c.args.wrapper c.args.self.now.reader
-          c.read_held.new.reader c.next_key.new.self c.shape_at_value.new.reader (view c.in_ok-held.held) named held key are
+          c.read_wrapper_content.new.reader c.next_key.new.self c.shape_at_value.new.reader (view c.in_ok-held.held) named held key are
           c.shape_at_value.ensures.placed,
     )
 
@@ -318,14 +318,14 @@ write_wrapper-returns-clause-fails g t c =
     let k = c.args.key.now in
     let l = c.in-Some.other.now in
     let wrapper : wrapper_of k ≡ Some c.args.wrapper = grind arith in
-    let named : read_key c.read_held.new.reader ≡ Some (Some l, c.next_key.new.self) = grind arith in
+    let named : read_key c.read_wrapper_content.new.reader ≡ Some (Some l, c.next_key.new.self) = grind arith in
     let are : (bytes_eq k (codes "$code") && bytes_eq l (codes "$scope")) ≡ true = grind arith in
     let held = c.in_ok-held.ensures.ok in
     if_err c.write_code.result c.write_code.ensures.fails (λ e h. (
-      code_denied c.args.level.doubles (g.W.ValueWriter.leaves c.args.level.doubles) g.W.ValueWriter.sorts e c.args.level.depth k l c.args.wrapper c.args.self.now.reader c.read_held.new.reader c.next_key.new.self _
+      code_denied c.args.level.doubles (g.W.ValueWriter.leaves c.args.level.doubles) g.W.ValueWriter.sorts e c.args.level.depth k l c.args.wrapper c.args.self.now.reader c.read_wrapper_content.new.reader c.next_key.new.self _
           wrapper held named h.0,
       code_placed c.args.level.doubles e c.args.level.depth k l (string_bytes c.in-Ok.code) c.args.wrapper
-          c.args.self.now.reader c.read_held.new.reader c.next_key.new.self c.write_code.new.self.reader (view c.in_ok-held.held)
+          c.args.self.now.reader c.read_wrapper_content.new.reader c.next_key.new.self c.write_code.new.self.reader (view c.in_ok-held.held)
           wrapper held named are c.in-Ok.ensures.ok h.1,
     ))
 
@@ -334,14 +334,14 @@ write_wrapper-returns-in_default-text_of-clause-fails g t c =
     let k = c.args.key.now in
     let l = c.in-Some.other.now in
     let wrapper : wrapper_of k ≡ Some c.args.wrapper = grind arith in
-    let named : read_key c.read_held.new.reader ≡ Some (Some l, c.next_key.new.self) = grind arith in
+    let named : read_key c.read_wrapper_content.new.reader ≡ Some (Some l, c.next_key.new.self) = grind arith in
     let none = err_of c.text_of.result _ c.in_default-text_of.not-Ok c.text_of.ensures.textless in
     let held = c.in_ok-held.ensures.ok in
     let at = c.shape_at_value-in_default-text_of in (
       lacks_became _ _ _ _ _ at.ensures.kind (textless_denied c.args.level.doubles (g.W.ValueWriter.leaves c.args.level.doubles) g.W.ValueWriter.sorts c.args.level.depth k l c.args.wrapper
-          c.args.self.now.reader c.read_held.new.reader c.next_key.new.self (view c.in_ok-held.held) wrapper held named none),
+          c.args.self.now.reader c.read_wrapper_content.new.reader c.next_key.new.self (view c.in_ok-held.held) wrapper held named none),
       textless_placed c.args.level.doubles at.result c.args.level.depth k l c.args.wrapper c.args.self.now.reader
-          c.read_held.new.reader c.next_key.new.self at.new.reader (view c.in_ok-held.held) wrapper held named none
+          c.read_wrapper_content.new.reader c.next_key.new.self at.new.reader (view c.in_ok-held.held) wrapper held named none
           at.ensures.placed,
     )
 

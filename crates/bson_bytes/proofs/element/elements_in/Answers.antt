@@ -1,5 +1,0 @@
-use Rattle.bson_bytes.proofs.Finding.{elements_found}
-use Rattle.bson_bytes.proofs.element.elements_in.Goals as goal
-
-pub returns-clause-elements : goal.returns-clause-elements
-returns-clause-elements c = λ d ps h. elements_found c.skip.result d c.args.bytes.now ps c.skip.ensures.given h

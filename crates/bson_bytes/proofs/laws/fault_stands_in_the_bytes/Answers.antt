@@ -1,5 +1,0 @@
-use Rattle.bson_bytes.proofs.Within.{fault_stands}
-use Rattle.bson_bytes.proofs.laws.fault_stands_in_the_bytes.Goals as goal
-
-pub returns : goal.returns
-returns c = fault_stands

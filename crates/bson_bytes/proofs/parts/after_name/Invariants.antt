@@ -1,9 +1,0 @@
-use Rattle.std.proofs.Common.{◌≡◌, take, drop}
-use Rattle.std.specs.Str.{IsAscii}
-use Rattle.bson_bytes.specs.Reading.{split_zero}
-use Rattle.bson_bytes.proofs.Splits.{before}
-use Rattle.bson_bytes.proofs.parts.after_name.Given as goal
-
-abbrev pub invariant-loop-i : goal.invariant-loop-i
-invariant-loop-i l =
-    (before (take l.i l.bytes) (split_zero (drop l.i l.bytes)) ≡ split_zero l.bytes) × IsAscii (take l.i l.bytes)

@@ -1,0 +1,34 @@
+-- What an iterator over elements in their bytes has left.
+use Rattle.std.specs.Prelude.{ℕ, List, [], ◌∷◌}
+use Rattle.std.specs.Borrow.{Bor}
+use Rattle.bson_model.specs.Value.{Value, Values, no_values, value, Pairs, no_pairs, pair}
+use Rattle.bson_bytes.specs.Grammar.{pair_values}
+use Rattle.bson_bytes.specs.ReadElements.{pairs_or_none, elements_from_bytes}
+use Rattle.bson_bytes.specs.RawView.{raw_view}
+use Rattle.bson_bytes.specs.declared.raw_iter.RawArrayIter.{RawArrayIter}
+use Rattle.bson_bytes.specs.declared.raw_iter.RawIter.{RawIter}
+use Rattle.bson_bytes.specs.declared.raw_value.RawBsonRef.{RawBsonRef}
+
+-- the elements in the order of the bytes, in which a key may occur twice
+abbrev pub remaining_elements : RawIter → Pairs
+remaining_elements i = pairs_or_none (elements_from_bytes i.depth i.bytes.now)
+
+-- the pairs as a list
+abbrev pub pairs_list : Pairs → List (List ℕ × Value)
+pairs_list no_pairs = []
+pairs_list (pair k v ps) = (k, v) ∷ pairs_list ps
+
+abbrev pub remaining_pairs_list : RawIter → List (List ℕ × Value)
+remaining_pairs_list i = pairs_list (remaining_elements i)
+
+-- the pair that a key and a value in its bytes are
+abbrev pub element_view : Bor (List ℕ) × RawBsonRef → List ℕ × Value
+element_view x = (x.0.now, raw_view x.1)
+
+-- the values as a list
+abbrev pub values_list : Values → List Value
+values_list no_values = []
+values_list (value v vs) = v ∷ values_list vs
+
+abbrev pub remaining_items : RawArrayIter → List Value
+remaining_items i = values_list (pair_values (remaining_elements i.elements))

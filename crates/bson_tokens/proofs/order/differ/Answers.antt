@@ -1,6 +1,0 @@
-use Rattle.std.proofs.Common.{arith}
-use Rattle.bson_tokens.proofs.Distinct.{differ_distinct}
-use Rattle.bson_tokens.proofs.order.differ.Goals as goal
-
-pub returns : goal.returns
-returns c = λ yes. differ_distinct c.args.spans.now.items (λ j less. c.loop-at.invariant j (omega (arith, less)))

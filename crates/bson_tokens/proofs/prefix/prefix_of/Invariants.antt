@@ -1,6 +1,0 @@
-use Rattle.std.proofs.Common.{◌≡◌}
-use Rattle.bson_tokens.specs.Prefix.{prefix}
-use Rattle.bson_tokens.proofs.prefix.prefix_of.Given as goal
-
-abbrev pub invariant-bytes : goal.invariant-bytes
-invariant-bytes l = l.prefix ≡ prefix l.key l.at
