@@ -8,7 +8,7 @@ use Rattle.bson_tree.specs.Place.{PathSegment, IsReason, path_of}
 use Rattle.bson_tree.specs.declared.place.Place.{Place}
 use Rattle.bson_tree.specs.declared.place.Reason.{Reason}
 use Rattle.bson_tree.specs.declared.place.Reason.TheVariants.{BadObjectId, WrongShape}
-use Rattle.bson.specs.Refused.{IsErrorOf}
+use Rattle.bson.specs.ReadErrors.{IsErrorOf}
 
 fails : {Y : Type 0} (read : Result Y Fault) (f : Fault) (reason : Reason) (e : Error) → IsErrorOf reason e
     → IsReason f reason → read ≡ Err f → IsReadError e read

@@ -3,7 +3,7 @@ use Rattle.std.proofs.Common.{◌≡◌, ℕ, suc, ◌+◌, cond, List, [], ◌�
 use Rattle.std.proofs.Common.{String, Global, string_bytes, refl, sym, ap, ◌∙◌}
 use Rattle.std.specs.Str.{bytes_eq}
 use Rattle.bson_store.specs.Pairs.{position_of, insert_pair, keys, values, HasDistinctKeys}
-use Rattle.bson.specs.Put.{put_all}
+use Rattle.bson.specs.InsertedPairs.{put_all}
 use Rattle.bson_store.proofs.Offered.{absent-before, take-next}
 use Rattle.bson_model.specs.Value.{Value}
 use Rattle.bson.specs.View.{bson_view}

@@ -18,7 +18,7 @@ use Rattle.bson_scalar.specs.declared.form.Doubles.TheVariants.{Finite}
 use Rattle.bson_scalar.specs.declared.form.Form.TheVariants.{Canonical}
 use Rattle.bson_scalar.specs.declared.write_error.WriteError.{WriteError}
 use Rattle.bson_scalar.specs.declared.write_error.WriteError.TheVariants.{OutOfMemory}
-use Rattle.bson.specs.Room.{Spends, SpendsOrStops}
+use Rattle.bson.specs.OutputCapacity.{Spends, SpendsOrStops}
 use Rattle.bson.specs.Texts.{Prints}
 use Rattle.bson_scalar.proofs.Offered.{in_turn, pattern_is_double, written_to}
 

@@ -5,7 +5,7 @@ use Rattle.std.specs.Borrow.{Bor, MutBor}
 use Rattle.std.specs.Fn.{Mut}
 use Rattle.std.specs.declared.alloc.Global.{Global}
 use Rattle.bson.specs.declared.bson.Bson.{Bson}
-use Rattle.bson.specs.Changes.{ChangesValue, ChangesEach}
+use Rattle.bson.specs.ChangedValues.{ChangesValue, ChangesEach}
 
 module _ {F : Type 0}
     (g : Mut F (Bor (String Global) × (MutBor Bson × Unit {0})) (Unit {0} × (MutBor Bson × Unit {0})))

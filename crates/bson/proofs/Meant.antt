@@ -11,7 +11,7 @@ use Rattle.bson_model.proofs.OfferedInOrder.{forgets, read_forgotten, comes_back
 use Rattle.bson_tokens.specs.Normalized.{IsNormalizedText}
 use Rattle.bson_tokens.specs.declared.arrangement.Arrangement.TheVariants as normalized
 use Rattle.bson_tokens.proofs.Offered.{text_read, meant_in_order}
-use Rattle.bson.specs.TextMeaning.{IsTextOf, HasTextMeaningIn, HasTextMeaningBy, IsTextFaultIn, MeansBy, ComesBackBy}
+use Rattle.bson.specs.TextMeaning.{IsTextOf, HasTextMeaningIn, HasTextMeaningBy, IsTextFaultIn, TextMeansBy, ComesBackBy}
 use Rattle.bson.specs.declared.extjson.key_order.KeyOrder.{KeyOrder}
 use Rattle.bson.specs.declared.extjson.key_order.KeyOrder.TheVariants.{Ascending, AsGiven}
 use Rattle.bson.specs.declared.extjson.text_error.TextError.{TextError}
@@ -52,7 +52,7 @@ module _ (D : Doubles) {X : Type 0} (see : X → Value) (bytes : List ℕ) where
 
   -- a text that has a meaning in the order is not refused
   pub accepted_by : (o : KeyOrder) (r : Result X TextError) → IfErr r (λ e. IsTextFaultIn D bytes e) → (v : Value)
-      → MeansBy o D bytes v → IfErr r (λ e. e ≡ OutOfMemory)
+      → TextMeansBy o D bytes v → IfErr r (λ e. e ≡ OutOfMemory)
   accepted_by Ascending r fault v means = accepted D bytes r fault means.0 v means.1 means.2
   accepted_by AsGiven r fault v means =
       let by_default : IsTextOf bytes (tree_sorted_by_key means.0) =

@@ -25,7 +25,7 @@ use Rattle.bson_model.specs.Writing.{with_scope}
 use Rattle.bson_model.specs.DistinctKeys.{has_pair, AllKeysDistinct, PairKeysDistinct}
 use Rattle.bson_store.proofs.Offered.{find-in_order, lacks}
 use Rattle.bson.specs.KeyOrders.{ordered, writes_by, writes_items_by, writes_pairs_by, EachValue}
-use Rattle.bson.specs.Texts.{tokens_of, code_tokens, writes_in_turn}
+use Rattle.bson.specs.Texts.{tokens_of, code_tokens, writes_each_pair}
 use Rattle.bson.specs.View.{bson_view, pairs_view}
 use Rattle.bson.specs.declared.bson.Bson.{Bson}
 use Rattle.bson.specs.declared.extjson.key_order.KeyOrder.{KeyOrder}
@@ -73,45 +73,45 @@ EndsMembers w old end = (ms : Members) × (w ≡ Ok ms) × (end ≡ old ++ membe
 module _ (w : Value → Result Data WriteFault) where
   pub members_more : (k : List ℕ) (v : Value) (ps : Pairs) (old near new end : List Token) → near ≡ old ++ key k ∷ []
       → ((x : Data) × (w v ≡ Ok x) × (new ≡ near ++ tokens_of x))
-      → EndsMembers (writes_in_turn w ps) new end → EndsMembers (writes_in_turn w (pair k v ps)) old end
+      → EndsMembers (writes_each_pair w ps) new end → EndsMembers (writes_each_pair w (pair k v ps)) old end
   members_more k v ps old near new end n p q = (
     member k p.0 q.0,
-    ap (λ r. r >>= λ d. writes_in_turn w ps >>= λ ms. Ok (member k d ms)) p.1
+    ap (λ r. r >>= λ d. writes_each_pair w ps >>= λ ms. Ok (member k d ms)) p.1
         ∙ ap (λ r. r >>= λ ms. Ok (member k p.0 ms)) q.1,
     in_turn old (key k ∷ []) near (tokens_of p.0 ++ members_tokens (json_of_members q.0)) end n
         (in_turn near (tokens_of p.0) new (members_tokens (json_of_members q.0)) end p.2 q.2),
   )
 
   members_here : (e : WriteError) (k : List ℕ) (v : Value) (ps : Pairs) → Stops e (w v)
-      → Stops e (writes_in_turn w (pair k v ps))
+      → Stops e (writes_each_pair w (pair k v ps))
   members_here OutOfMemory k v ps h = tt
-  members_here FiniteDouble k v ps h = ap (λ r. r >>= λ d. writes_in_turn w ps >>= λ ms. Ok (member k d ms)) h
+  members_here FiniteDouble k v ps h = ap (λ r. r >>= λ d. writes_each_pair w ps >>= λ ms. Ok (member k d ms)) h
 
   members_later : (e : WriteError) (k : List ℕ) (v : Value) (d : Data) (ps : Pairs) → w v ≡ Ok d
-      → Stops e (writes_in_turn w ps) → Stops e (writes_in_turn w (pair k v ps))
+      → Stops e (writes_each_pair w ps) → Stops e (writes_each_pair w (pair k v ps))
   members_later OutOfMemory k v d ps g h = tt
-  members_later FiniteDouble k v d ps g h = ap (λ r. r >>= λ c. writes_in_turn w ps >>= λ ms. Ok (member k c ms)) g
+  members_later FiniteDouble k v d ps g h = ap (λ r. r >>= λ c. writes_each_pair w ps >>= λ ms. Ok (member k c ms)) g
       ∙ ap (λ r. r >>= λ ms. Ok (member k d ms)) h
 
   -- one more pair of what is left
   module _ (left rest : List Entry) (k : List ℕ) (v : Bson) (here : left ≡ (k, v) ∷ rest) where
     pub ends_more : (old near new end : List Token) → near ≡ old ++ key k ∷ []
         → ((x : Data) × (w (bson_view v) ≡ Ok x) × (new ≡ near ++ tokens_of x))
-        → EndsMembers (writes_in_turn w (pairs_view rest)) new end
-        → EndsMembers (writes_in_turn w (pairs_view left)) old end
+        → EndsMembers (writes_each_pair w (pairs_view rest)) new end
+        → EndsMembers (writes_each_pair w (pairs_view left)) old end
     ends_more old near new end n p h =
-        subst (λ (xs : List Entry). EndsMembers (writes_in_turn w (pairs_view xs)) old end) (sym here)
+        subst (λ (xs : List Entry). EndsMembers (writes_each_pair w (pairs_view xs)) old end) (sym here)
         (members_more k (bson_view v) (pairs_view rest) old near new end n p h)
 
-    pub stops_here : (e : WriteError) → Stops e (w (bson_view v)) → Stops e (writes_in_turn w (pairs_view left))
+    pub stops_here : (e : WriteError) → Stops e (w (bson_view v)) → Stops e (writes_each_pair w (pairs_view left))
     stops_here e h =
-        subst (λ (xs : List Entry). Stops e (writes_in_turn w (pairs_view xs))) (sym here)
+        subst (λ (xs : List Entry). Stops e (writes_each_pair w (pairs_view xs))) (sym here)
         (members_here e k (bson_view v) (pairs_view rest) h)
 
     pub stops_more : (e : WriteError) (d : Data) → w (bson_view v) ≡ Ok d
-        → Stops e (writes_in_turn w (pairs_view rest)) → Stops e (writes_in_turn w (pairs_view left))
+        → Stops e (writes_each_pair w (pairs_view rest)) → Stops e (writes_each_pair w (pairs_view left))
     stops_more e d p h =
-        subst (λ (xs : List Entry). Stops e (writes_in_turn w (pairs_view xs))) (sym here)
+        subst (λ (xs : List Entry). Stops e (writes_each_pair w (pairs_view xs))) (sym here)
         (members_later e k (bson_view v) d (pairs_view rest) p h)
 
 pub ranged_more : (left rest : List Entry) (k : List ℕ) (v : Bson) → left ≡ (k, v) ∷ rest → InRange (bson_view v)
@@ -145,16 +145,16 @@ put_later k l h (Err finite) (Err finite) r = refl
 
 module _ (D : Doubles) (f : Form) where
   written_put : (k : List ℕ) (v : Bson) (es : List Entry) → find key_cmp k es ≡ None
-      → writes_in_turn (writes_by Ascending D f) (pairs_view (put_entry key_cmp k v es))
+      → writes_each_pair (writes_by Ascending D f) (pairs_view (put_entry key_cmp k v es))
       ≡ (writes_by Ascending D f (bson_view v)
-      >>= λ d. writes_in_turn (writes_by Ascending D f) (pairs_view es) >>= λ ms. Ok (put k d ms))
+      >>= λ d. writes_each_pair (writes_by Ascending D f) (pairs_view es) >>= λ ms. Ok (put k d ms))
   written_put k v [] h = refl
   written_put k v (e ∷ es) h =
       let w : Value → Result Data WriteFault = writes_by Ascending D f in
       let a = w (bson_view e.1) in
-      let r = writes_in_turn w (pairs_view es) in
+      let r = writes_each_pair w (pairs_view es) in
       elim (key_cmp k e.0) as (λ o. key_cmp k e.0 ≡ o → cond (is_eq o) (Some e.1) (find key_cmp k es) ≡ None
-      → writes_in_turn w (pairs_view (by_order o ((k, v) ∷ e ∷ es) ((e.0, v) ∷ es) (e ∷ put_entry key_cmp k v es)))
+      → writes_each_pair w (pairs_view (by_order o ((k, v) ∷ e ∷ es) ((e.0, v) ∷ es) (e ∷ put_entry key_cmp k v es)))
       ≡ (w (bson_view v) >>= λ d. (a >>= λ x. r >>= λ ms. Ok (member e.0 x ms)) >>= λ ms. Ok (put k d ms))) [
         | Less ↦ λ o n. bind_same (w (bson_view v)) _ _ (λ d. put_first k e.0 d o a r)
         | Equal ↦ λ o n. cc
@@ -164,7 +164,7 @@ module _ (D : Doubles) (f : Form) where
 
   -- the map of a document has its members by ascending key
   by_key_is : (ps : List Entry) → HasDistinctKeys ps
-      → writes_in_turn (writes_by Ascending D f) (pairs_view (sorted_by_key ps))
+      → writes_each_pair (writes_by Ascending D f) (pairs_view (sorted_by_key ps))
       ≡ writes_pairs_by Ascending D f (pairs_view ps)
   unfolding IsDistinct
   by_key_is [] d = refl
@@ -230,14 +230,14 @@ distinct_in o ps d h = distinct_pairs ps d (each_in AllKeysDistinct o ps d h)
 
 -- ---- documents in their own order
 
-given_is : (D : Doubles) (f : Form) (ps : Pairs) → writes_in_turn (writes_by AsGiven D f) ps ≡ writes_pairs_by AsGiven D f ps
+given_is : (D : Doubles) (f : Form) (ps : Pairs) → writes_each_pair (writes_by AsGiven D f) ps ≡ writes_pairs_by AsGiven D f ps
 given_is D f no_pairs = refl
 given_is D f (pair k v ps) =
     bind_same (writes_by AsGiven D f v) _ _ (λ d. ap (λ r. r >>= λ ms. Ok (member k d ms)) (given_is D f ps))
 
 -- the members are those of the pairs in the order
 pub ordered_is : (o : KeyOrder) (D : Doubles) (f : Form) (ps : List Entry) → HasDistinctKeys ps
-    → writes_in_turn (writes_by o D f) (pairs_view (ordered o ps)) ≡ writes_pairs_by o D f (pairs_view ps)
+    → writes_each_pair (writes_by o D f) (pairs_view (ordered o ps)) ≡ writes_pairs_by o D f (pairs_view ps)
 ordered_is Ascending D f ps d = by_key_is D f ps d
 ordered_is AsGiven D f ps d = given_is D f (pairs_view ps)
 

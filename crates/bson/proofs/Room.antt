@@ -13,8 +13,8 @@ use Rattle.bson_store.specs.Pairs.{HasDistinctKeys}
 use Rattle.bson_store.proofs.Offered.{find-in_order, lacks}
 use Rattle.bson_model.specs.Value.{Value, Values, value, Pairs, pair}
 use Rattle.bson.specs.KeyOrders.{ordered}
-use Rattle.bson.specs.Room.{IsDirect, ValuesDirect, PairsDirect, SpendsOrStops, key_room}
-use Rattle.bson.specs.Room.{value_room, values_room, pairs_room}
+use Rattle.bson.specs.OutputCapacity.{IsAllocationFree, ValuesAreAllocationFree, PairsAreAllocationFree, SpendsOrStops, key_room}
+use Rattle.bson.specs.OutputCapacity.{value_room, values_room, pairs_room}
 use Rattle.bson.specs.View.{bson_view, pairs_view}
 use Rattle.bson.specs.declared.bson.Bson.{Bson}
 use Rattle.bson.specs.declared.extjson.key_order.KeyOrder.{KeyOrder}
@@ -40,23 +40,23 @@ module _ (D : Doubles) (f : Form) where
   -- ---- arrays
 
   abbrev pub ValuesCost : Values → Result (Unit {0}) WriteError → ℕ → ℕ → Type 0
-  ValuesCost vs r old new = ValuesDirect f vs → SpendsOrStops r old new (values_room D f vs)
+  ValuesCost vs r old new = ValuesAreAllocationFree f vs → SpendsOrStops r old new (values_room D f vs)
 
   pub values_cost_more : (v : Value) (vs : Values) (r : Result (Unit {0}) WriteError) (old mid new : ℕ)
-      → (IsDirect f v → old ≤ mid + value_room D f v) → ValuesCost vs r mid new → ValuesCost (value v vs) r old new
+      → (IsAllocationFree f v → old ≤ mid + value_room D f v) → ValuesCost vs r mid new → ValuesCost (value v vs) r old new
   values_cost_more v vs r old mid new p q (d, ds) = after r old mid new (value_room D f v) (values_room D f vs) (p d) (q ds)
 
   pub values_cost_here : (v : Value) (vs : Values) (e : WriteError) (old mid new : ℕ)
-      → (IsDirect f v → SpendsOrStops (Err e) old mid (value_room D f v)) → ValuesCost (value v vs) (Err e) old new
+      → (IsAllocationFree f v → SpendsOrStops (Err e) old mid (value_room D f v)) → ValuesCost (value v vs) (Err e) old new
   values_cost_here v vs e old mid new p (d, ds) = stopped_within e old mid new (value_room D f v) (values_room D f vs) (p d)
 
   -- ---- pairs
 
   abbrev pub PairsCost : Pairs → Result (Unit {0}) WriteError → ℕ → ℕ → Type 0
-  PairsCost ps r old new = PairsDirect f ps → SpendsOrStops r old new (pairs_room D f ps)
+  PairsCost ps r old new = PairsAreAllocationFree f ps → SpendsOrStops r old new (pairs_room D f ps)
 
   pair_cost_more : (k : List ℕ) (v : Value) (ps : Pairs) (r : Result (Unit {0}) WriteError) (old near mid new : ℕ)
-      → old ≤ near + key_room k → (IsDirect f v → near ≤ mid + value_room D f v) → PairsCost ps r mid new
+      → old ≤ near + key_room k → (IsAllocationFree f v → near ≤ mid + value_room D f v) → PairsCost ps r mid new
       → PairsCost (pair k v ps) r old new
   pair_cost_more k v ps r old near mid new n p q (d, ds) =
       let first = p d in
@@ -65,7 +65,7 @@ module _ (D : Doubles) (f : Form) where
   -- one more pair of what is left
   module _ (left rest : List Entry) (k : List ℕ) (v : Bson) (here : left ≡ (k, v) ∷ rest) where
     pub pairs_cost_more : (r : Result (Unit {0}) WriteError) (old near mid new : ℕ) → old ≤ near + key_room k
-        → (IsDirect f (bson_view v) → near ≤ mid + value_room D f (bson_view v))
+        → (IsAllocationFree f (bson_view v) → near ≤ mid + value_room D f (bson_view v))
         → PairsCost (pairs_view rest) r mid new → PairsCost (pairs_view left) r old new
     pairs_cost_more r old near mid new n p q =
         subst (λ (xs : List Entry). PairsCost (pairs_view xs) r old new) (sym here)
@@ -82,7 +82,7 @@ module _ (D : Doubles) (f : Form) where
     here_cost FiniteDouble old near mid new n h = tt
 
     pub pairs_cost_here : (e : WriteError) (old near mid new : ℕ) → old ≤ near + key_room k
-        → (IsDirect f (bson_view v) → SpendsOrStops (Err e) near mid (value_room D f (bson_view v)))
+        → (IsAllocationFree f (bson_view v) → SpendsOrStops (Err e) near mid (value_room D f (bson_view v)))
         → PairsCost (pairs_view left) (Err e) old new
     pairs_cost_here e old near mid new n p =
         subst (λ (xs : List Entry). PairsCost (pairs_view xs) (Err e) old new) (sym here)
@@ -113,19 +113,19 @@ module _ (D : Doubles) (f : Form) where
       let rest = room_in_order ps d.1 in
       omega arith
 
-  direct_put : (k : List ℕ) (v : Bson) (es : List Entry) → find key_cmp k es ≡ None → IsDirect f (bson_view v)
-      → PairsDirect f (pairs_view es) → PairsDirect f (pairs_view (put_entry key_cmp k v es))
+  direct_put : (k : List ℕ) (v : Bson) (es : List Entry) → find key_cmp k es ≡ None → IsAllocationFree f (bson_view v)
+      → PairsAreAllocationFree f (pairs_view es) → PairsAreAllocationFree f (pairs_view (put_entry key_cmp k v es))
   direct_put k v [] h p r = (p, tt)
   direct_put k v (e ∷ es) h p r =
       elim (key_cmp k e.0) as (λ o. cond (is_eq o) (Some e.1) (find key_cmp k es) ≡ None
-      → PairsDirect f (pairs_view (by_order o ((k, v) ∷ e ∷ es) ((e.0, v) ∷ es) (e ∷ put_entry key_cmp k v es)))) [
+      → PairsAreAllocationFree f (pairs_view (by_order o ((k, v) ∷ e ∷ es) ((e.0, v) ∷ es) (e ∷ put_entry key_cmp k v es)))) [
         | Less ↦ λ n. (p, r)
         | Equal ↦ λ n. cc
         | Greater ↦ λ n. (r.0, direct_put k v es n p r.1)
       ] h
 
-  direct_in_order : (ps : List Entry) → HasDistinctKeys ps → PairsDirect f (pairs_view ps)
-      → PairsDirect f (pairs_view (sorted_by_key ps))
+  direct_in_order : (ps : List Entry) → HasDistinctKeys ps → PairsAreAllocationFree f (pairs_view ps)
+      → PairsAreAllocationFree f (pairs_view (sorted_by_key ps))
   unfolding IsDistinct
   direct_in_order [] d r = tt
   direct_in_order (p ∷ ps) d r =

@@ -6,7 +6,7 @@ use Rattle.std.specs.List.{join_by}
 use Rattle.bson_model.specs.Value.{array, document}
 use Rattle.bson_model.specs.Displayed.{display_text, item_texts, entry_texts, entry}
 use Rattle.bson_model.specs.Pretty.{pretty, item_lines, entry_lines, closing}
-use Rattle.bson.specs.Lines.{item_line, entry_line}
+use Rattle.bson.specs.PrettyLines.{item_line, entry_line}
 use Rattle.bson.specs.View.{bson_view, values_view, pairs_view}
 use Rattle.bson.specs.declared.bson.Bson.{Bson}
 use Rattle.bson.proofs.Joined.{enclosed_all}

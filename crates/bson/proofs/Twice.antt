@@ -20,7 +20,7 @@ use Rattle.bson_model.specs.Value.{no_pairs, pair}
 use Rattle.bson_model.proofs.Offered.{bind_ok, un_ok, has_text_in}
 use Rattle.bson_model.specs.OrderedWriting.{writes_in_order, values_in_order, pairs_in_order}
 use Rattle.bson_model.proofs.OfferedInOrder.{has_no_float, written_to}
-use Rattle.bson.specs.Room.{value_room, values_room, pairs_room, written_room, tree_room}
+use Rattle.bson.specs.OutputCapacity.{value_room, values_room, pairs_room, written_room, tree_room}
 use Rattle.bson.specs.Texts.{IsTextInOrder}
 
 -- ---- tokens: each has a byte

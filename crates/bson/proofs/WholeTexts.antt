@@ -12,7 +12,7 @@ use Rattle.bson_model.specs.Normal.{writable_in, InRange}
 use Rattle.bson_model.specs.Writing.{writes_in}
 use Rattle.bson_model.proofs.Offered.{has_text_in, has_no_float, tree_is_in, writable_from_in, writable_is_in}
 use Rattle.bson.specs.KeyOrders.{writes_by}
-use Rattle.bson.specs.Texts.{GivesText, IsTextUnder}
+use Rattle.bson.specs.Texts.{GivesText, IsTextWithDoubles}
 use Rattle.bson.specs.declared.extjson.key_order.KeyOrder.TheVariants.{Ascending}
 use Rattle.bson.proofs.KeyOrders.{ascending_is}
 
@@ -22,7 +22,7 @@ text_by_default D f v r g = subst (λ w. GivesText r w) (ascending_is D f v) g
 
 pub text_is : (D : Doubles) (f : Form) (v : Value) (r : Result (String Global) WriteError)
     → GivesText r (writes_in D f v)
-    → OnOk r (InRange v) → IfOk r (λ s. IsTextUnder D f v (string_bytes s))
+    → OnOk r (InRange v) → IfOk r (λ s. IsTextWithDoubles D f v (string_bytes s))
 text_is D f v (Ok s) g r =
     record {
       tree = g.0;

@@ -19,25 +19,25 @@ ordered Ascending ps = sorted_by_key ps
 ordered AsGiven ps = ps
 
 -- where a member goes among those of the pairs after it: only here the orders differ
-abbrev pub put_in_order : KeyOrder → List ℕ → Data → Members → Members
-put_in_order Ascending k d ms = put k d ms
-put_in_order AsGiven k d ms = member k d ms
+abbrev pub insert_by_order : KeyOrder → List ℕ → Data → Members → Members
+insert_by_order Ascending k d ms = put k d ms
+insert_by_order AsGiven k d ms = member k d ms
 
 abbrev mutual
   pub writes_by : KeyOrder → Doubles → Form → Value → Result Data WriteFault
-  writes_by o D f (scalar x) = writes_scalar_in D f x
-  writes_by o D f (code_scope s ps) = writes_pairs_by o D f ps >>= λ ms. Ok (with_scope s ms)
-  writes_by o D f (array vs) = writes_items_by o D f vs >>= λ ds. Ok (tree.array ds)
-  writes_by o D f (document ps) = writes_pairs_by o D f ps >>= λ ms. Ok (tree.object ms)
+  writes_by key_order doubles form (scalar x) = writes_scalar_in doubles form x
+  writes_by key_order doubles form (code_scope s ps) = writes_pairs_by key_order doubles form ps >>= λ ms. Ok (with_scope s ms)
+  writes_by key_order doubles form (array vs) = writes_items_by key_order doubles form vs >>= λ ds. Ok (tree.array ds)
+  writes_by key_order doubles form (document ps) = writes_pairs_by key_order doubles form ps >>= λ ms. Ok (tree.object ms)
 
   pub writes_items_by : KeyOrder → Doubles → Form → Values → Result Items WriteFault
-  writes_items_by o D f no_values = Ok no_items
-  writes_items_by o D f (value v vs) = writes_by o D f v >>= λ d. writes_items_by o D f vs >>= λ ds. Ok (item d ds)
+  writes_items_by key_order doubles form no_values = Ok no_items
+  writes_items_by key_order doubles form (value v vs) = writes_by key_order doubles form v >>= λ d. writes_items_by key_order doubles form vs >>= λ ds. Ok (item d ds)
 
   pub writes_pairs_by : KeyOrder → Doubles → Form → Pairs → Result Members WriteFault
-  writes_pairs_by o D f no_pairs = Ok no_members
-  writes_pairs_by o D f (pair k v ps) =
-      writes_by o D f v >>= λ d. writes_pairs_by o D f ps >>= λ ms. Ok (put_in_order o k d ms)
+  writes_pairs_by key_order doubles form no_pairs = Ok no_members
+  writes_pairs_by key_order doubles form (pair k v ps) =
+      writes_by key_order doubles form v >>= λ d. writes_pairs_by key_order doubles form ps >>= λ ms. Ok (insert_by_order key_order k d ms)
 
 -- each value of the pairs is so
 abbrev pub EachValue : (Value → Type 0) → Pairs → Type 0

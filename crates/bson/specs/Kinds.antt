@@ -114,8 +114,8 @@ access_result f None = Err NotPresent
 access_result f (Some v) = type_result (f v)
 
 -- what a getter answers at a key of a document
-abbrev pub held_at : {T : Type 0} → (Bson → Option T) → List ℕ → Document → Result T ValueAccessError
-held_at f key d = access_result f (get key (contents d))
+abbrev pub typed_get : {T : Type 0} → (Bson → Option T) → List ℕ → Document → Result T ValueAccessError
+typed_get f key d = access_result f (get key (contents d))
 
 -- an answer with the value behind its reference
 abbrev pub ok_copied : {T E : Type 0} → Result (Bor T) E → Result T E
@@ -125,5 +125,5 @@ abbrev pub ok_copied_mut : {T E : Type 0} → Result (MutBor T) E → Result T E
 ok_copied_mut r = result_map_both (λ x. x.now) (λ e. e) r
 
 -- an integer as the smaller of the two kinds that it fits
-abbrev pub whole_number : ℕ → Bson
-whole_number n = if nat_lt n (2 ^ 31) then bson.Int32 (pos n) else bson.Int64 (pos n)
+abbrev pub smallest_integer : ℕ → Bson
+smallest_integer n = if nat_lt n (2 ^ 31) then bson.Int32 (pos n) else bson.Int64 (pos n)

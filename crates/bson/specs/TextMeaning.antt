@@ -23,20 +23,20 @@ pub record IsTextOf (bytes : List ℕ) (tree : Data) : Type 0 where
   pub tree_read : read bytes ≡ Some tree
 
 -- the bytes are no UTF-8, or no JSON text
-abbrev pub IsNoText : List ℕ → Type 0
-IsNoText bytes = IsUtf8 bytes → read bytes ≡ None
+abbrev pub IsNotJsonText : List ℕ → Type 0
+IsNotJsonText bytes = IsUtf8 bytes → read bytes ≡ None
 
 -- the bytes are the text of a tree that means the value
-pub record HasTextMeaningIn (D : Doubles) (bytes : List ℕ) (v : Value) : Type 0 where
+pub record HasTextMeaningIn (doubles : Doubles) (bytes : List ℕ) (v : Value) : Type 0 where
   pub tree : Data
   pub text : IsTextOf bytes tree
-  pub meaning : HasMeaningIn D tree v
+  pub meaning : HasMeaningIn doubles tree v
 
 -- why the bytes give no value
 abbrev pub IsTextFaultIn : Doubles → List ℕ → TextError → Type 0
-IsTextFaultIn D bytes NotJson = IsNoText bytes
-IsTextFaultIn D bytes (NotExtendedJson place) = (t : Data) × IsTextOf bytes t × IsFirstFaultIn D t place
-IsTextFaultIn D bytes OutOfMemory = Unit {0}
+IsTextFaultIn doubles bytes NotJson = IsNotJsonText bytes
+IsTextFaultIn doubles bytes (NotExtendedJson place) = (t : Data) × IsTextOf bytes t × IsFirstFaultIn doubles t place
+IsTextFaultIn doubles bytes OutOfMemory = Unit {0}
 
 abbrev pub HasTextMeaning : List ℕ → Value → Type 0
 HasTextMeaning = HasTextMeaningIn Special
@@ -48,15 +48,15 @@ IsTextFault = IsTextFaultIn Special
 
 -- the bytes are a text that means the value, whose keys are in the order
 abbrev pub HasTextMeaningBy : KeyOrder → Doubles → List ℕ → Value → Type 0
-HasTextMeaningBy Ascending D bytes v = HasTextMeaningIn D bytes v
-HasTextMeaningBy AsGiven D bytes v = IsUtf8 bytes × HasMeaningInOrder D bytes v
+HasTextMeaningBy Ascending doubles bytes v = HasTextMeaningIn doubles bytes v
+HasTextMeaningBy AsGiven doubles bytes v = IsUtf8 bytes × HasMeaningInOrder doubles bytes v
 
 -- the bytes are the text of a tree that means the value in the order
-abbrev pub MeansBy : KeyOrder → Doubles → List ℕ → Value → Type 0
-MeansBy Ascending D bytes v = (t : Data) × IsTextOf bytes t × MeansIn D t v
-MeansBy AsGiven D bytes v = (t : Data) × IsUtf8 bytes × (read_in_order bytes ≡ Some t) × MeansInOrder D t v
+abbrev pub TextMeansBy : KeyOrder → Doubles → List ℕ → Value → Type 0
+TextMeansBy Ascending doubles bytes v = (t : Data) × IsTextOf bytes t × MeansIn doubles t v
+TextMeansBy AsGiven doubles bytes v = (t : Data) × IsUtf8 bytes × (read_in_order bytes ≡ Some t) × MeansInOrder doubles t v
 
 -- the text of the value in the order and in either form is read as the same value again
 abbrev pub ComesBackBy : KeyOrder → Doubles → Value → Type 0
-ComesBackBy Ascending D v = ValueRoundTripsIn D v
-ComesBackBy AsGiven D v = ValueRoundTripsInOrder D v
+ComesBackBy Ascending doubles v = ValueRoundTripsIn doubles v
+ComesBackBy AsGiven doubles v = ValueRoundTripsInOrder doubles v

@@ -22,35 +22,35 @@ use Rattle.bson.specs.declared.extjson.key_order.KeyOrder.{KeyOrder}
 use Rattle.bson.specs.declared.extjson.key_order.KeyOrder.TheVariants.{Ascending, AsGiven}
 
 -- the compact text of the value's tree in the form
-pub record IsTextUnder (D : Doubles) (f : Form) (v : Value) (text : List ℕ) : Type 0 where
+pub record IsTextWithDoubles (doubles : Doubles) (form : Form) (v : Value) (text : List ℕ) : Type 0 where
   pub tree : Data
-  pub is_tree : IsTreeOfIn D f v tree
-  pub reads_again : ReadsAgainIn D f v tree
-  pub compact : text ≡ tree_text D f tree
+  pub is_tree : IsTreeOfIn doubles form v tree
+  pub reads_again : ReadsAgainIn doubles form v tree
+  pub compact : text ≡ tree_text doubles form tree
 
 abbrev pub IsTextIn : Form → Value → List ℕ → Type 0
-IsTextIn = IsTextUnder Special
+IsTextIn = IsTextWithDoubles Special
 
 -- the compact text of the value's tree in its own order in the form
-pub record IsTextInOrder (D : Doubles) (f : Form) (v : Value) (text : List ℕ) : Type 0 where
+pub record IsTextInOrder (doubles : Doubles) (form : Form) (v : Value) (text : List ℕ) : Type 0 where
   pub tree : Data
   -- the grammar's tree of the normal form, its keys in the value's order, and its only one
-  pub written : WrittenInOrder D f (normal_form v) tree
-  pub one : (u : Data) → WrittenInOrder D f (normal_form v) u → u ≡ tree
+  pub written : WrittenInOrder doubles form (normal_form v) tree
+  pub one : (u : Data) → WrittenInOrder doubles form (normal_form v) u → u ≡ tree
   -- of a plain value it is read again, order included, and no other value has its text
-  pub ordered : plain v ≡ true → IsOrderedTextOf D f v tree
+  pub ordered : plain v ≡ true → IsOrderedTextOf doubles form v tree
   -- with the order forgotten it is the tree that is written by default
-  pub by_default : IsTreeOfIn D f v (tree_sorted_by_key tree)
-  pub compact : text ≡ tree_text D f tree
+  pub by_default : IsTreeOfIn doubles form v (tree_sorted_by_key tree)
+  pub compact : text ≡ tree_text doubles form tree
 
 -- the compact text of the value in the form, its keys in the order
 abbrev pub IsTextBy : KeyOrder → Doubles → Form → Value → List ℕ → Type 0
-IsTextBy Ascending D f v text = IsTextUnder D f v text
-IsTextBy AsGiven D f v text = IsTextInOrder D f v text
+IsTextBy Ascending doubles form v text = IsTextWithDoubles doubles form v text
+IsTextBy AsGiven doubles form v text = IsTextInOrder doubles form v text
 
 -- why a value is not written: where finite doubles are, for running out of memory alone
 abbrev pub IsWriteErrorIn : Doubles → WriteError → Type 0
-IsWriteErrorIn D OutOfMemory = Unit {0}
+IsWriteErrorIn doubles OutOfMemory = Unit {0}
 IsWriteErrorIn Special FiniteDouble = Unit {0}
 IsWriteErrorIn Finite FiniteDouble = ⊥
 
@@ -60,8 +60,8 @@ IsWriteErrorIn Finite FiniteDouble = ⊥
 -- ones.
 module _ {X : Type 0} where
   abbrev pub Prints : (X → Data) → Result (Unit {0}) WriteError → Result X WriteFault → List Token → List Token → Type 0
-  Prints see (Ok done) written old new = (x : X) × (written ≡ Ok x) × (new ≡ old ++ tokens_of (see x))
-  Prints see (Err e) written old new = Stops e written
+  Prints view_of (Ok done) written old new = (x : X) × (written ≡ Ok x) × (new ≡ old ++ tokens_of (view_of x))
+  Prints view_of (Err e) written old new = Stops e written
 
 -- the same of a whole text
 abbrev pub GivesText : Result (String Global) WriteError → Result Data WriteFault → Type 0
@@ -74,6 +74,6 @@ AppendsText (Ok done) written old new = (t : Data) × (written ≡ Ok t) × (new
 AppendsText (Err e) written old new = Stops e written × (new ≡ old)
 
 -- the members of pairs as they stand, where each value is written by w
-abbrev pub writes_in_turn : (Value → Result Data WriteFault) → Pairs → Result Members WriteFault
-writes_in_turn w no_pairs = Ok no_members
-writes_in_turn w (pair k v ps) = w v >>= λ d. writes_in_turn w ps >>= λ ms. Ok (member k d ms)
+abbrev pub writes_each_pair : (Value → Result Data WriteFault) → Pairs → Result Members WriteFault
+writes_each_pair w no_pairs = Ok no_members
+writes_each_pair w (pair k v ps) = w v >>= λ d. writes_each_pair w ps >>= λ ms. Ok (member k d ms)

@@ -14,8 +14,8 @@ abbrev pub contents : Document → List (List ℕ × Bson)
 contents d = d.pairs
 
 -- the document that holds them
-abbrev pub holding : List (List ℕ × Bson) → Document
-holding ps = record { pairs = ps }
+abbrev pub document_of_pairs : List (List ℕ × Bson) → Document
+document_of_pairs ps = record { pairs = ps }
 
 abbrev pub values_of : List Value → Values
 values_of [] = no_values

@@ -5,8 +5,8 @@ ghost use Rattle.bson.specs.declared.bson.Bson.TheVariants as value;
 ghost use Rattle.bson.specs.Kinds.{array_of, boolean_of, text_bytes_of, date_of, db_pointer_of};
 ghost use Rattle.bson.specs.Kinds.{document_of, double_of, int32_of, int64_of, object_id_of};
 ghost use Rattle.bson.specs.Kinds.{string_of, symbol_of, timestamp_of};
-ghost use Rattle.bson.specs.Rows.{array_row, bson_row, date_row, document_row, object_id_row};
-ghost use Rattle.bson.specs.Rows.{string_row};
+ghost use Rattle.bson.specs.LoanTypes.{array_row, bson_row, date_row, document_row, object_id_row};
+ghost use Rattle.bson.specs.LoanTypes.{string_row};
 
 use crate::bson::{Array, Bson};
 use crate::document::Document;

@@ -4,7 +4,7 @@ ghost use Rattle.bson.specs.View.{bson_view, document_view, scoped_view, values_
 
 use crate::bson::{Bson, JavaScriptCodeWithScope};
 use crate::document::Document;
-use crate::extjson::scalars::of_scalar;
+use crate::extjson::scalars::from_scalar;
 use crate::scalar::scalar_ref;
 use bson_store::{PairStore, SmallPairs};
 use std::alloc::{AllocError, Global};
@@ -59,7 +59,7 @@ fn copy(alloc: Global, value: &Bson) -> Result<Bson, AllocError>
         Bson::JavaScriptCodeWithScope(scoped) => Bson::JavaScriptCodeWithScope(copy_scoped(
             alloc, scoped,
         )?),
-        value => of_scalar(scalar_ref(value).to_owned(alloc)?),
+        value => from_scalar(scalar_ref(value).to_owned(alloc)?),
     })
 }
 

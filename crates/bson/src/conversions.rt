@@ -106,9 +106,9 @@ impl From<i64> for Bson {
 
 /// An `Int32` where the number fits, and else an `Int64`.
 impl From<u32> for Bson {
-    ghost use Rattle.bson.specs.Kinds.{whole_number};
+    ghost use Rattle.bson.specs.Kinds.{smallest_integer};
 
-    ghost from_gives = { λ n v. v ≡ whole_number n };
+    ghost from_gives = { λ n v. v ≡ smallest_integer n };
 
     fn from(number: u32) -> Bson {
         match i32::try_from(number) {

@@ -59,11 +59,11 @@ fn debug_scoped<W: fmt::Write>(
 #[cycle(debug)]
 fn debug_values<W: fmt::Write>(values: &Vec<Bson>, f: &mut fmt::Formatter<W>) -> fmt::Result {
     f.write_str("Array([")?;
-    let mut between = "";
+    let mut separator = "";
     for value in values {
-        f.write_str(between)?;
+        f.write_str(separator)?;
         debug(value, f)?;
-        between = ", ";
+        separator = ", ";
     }
     f.write_str("])")
 }
@@ -71,11 +71,11 @@ fn debug_values<W: fmt::Write>(values: &Vec<Bson>, f: &mut fmt::Formatter<W>) ->
 #[cycle(debug)]
 fn debug_pairs<W: fmt::Write>(document: &Document, f: &mut fmt::Formatter<W>) -> fmt::Result {
     f.write_str("Document({")?;
-    let mut between = "";
+    let mut separator = "";
     for i in 0..document.pairs.len() {
-        write!(f, "{between}{:?}: ", document.pairs.key_at(i))?;
+        write!(f, "{separator}{:?}: ", document.pairs.key_at(i))?;
         debug(document.pairs.value_at(i), f)?;
-        between = ", ";
+        separator = ", ";
     }
     f.write_str("})")
 }

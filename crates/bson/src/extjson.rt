@@ -2,9 +2,9 @@
 //!
 //! In reading order: `options` (which doubles are read and written, and the `key_order`); `de` (the calls that read
 //! trees) over `read` (by the walk of `bson_tree`), `builder` (what is built as it walks) and
-//! `scalars`; `ser` (the calls that write) over `write` (trees) and `text` (texts, in either order of
-//! keys), which has `direct` for scalars whose text is made where it is written;
-//! `text_reader` (values from texts) with `text_error`; `value_writer` (values in memory, made as a
+//! `scalars`; `ser` (the calls that write) over `write` (trees) and `text_writer` (texts, in either order of
+//! keys), which has `without_allocation` for scalars whose text is made where it is written;
+//! `text_reader` (values from texts) with `text_error`; `bson_writer` (values in memory, made as a
 //! text is read).
 mod builder;
 pub mod de;
@@ -13,11 +13,11 @@ mod options;
 mod read;
 pub(crate) mod scalars;
 mod ser;
-mod text;
+mod text_writer;
 mod text_error;
 mod text_reader;
-mod value_writer;
-mod without_tree;
+mod bson_writer;
+mod without_allocation;
 mod write;
 
 pub use crate::extjson::key_order::KeyOrder;

@@ -4,7 +4,7 @@ ghost use Rattle.std.specs.Borrow.{LendsIf, sem};
 ghost use Rattle.bson.specs.declared.bson.Bson.{Bson};
 ghost use Rattle.bson.specs.declared.bson.Bson.TheVariants as value;
 ghost use Rattle.bson.specs.Kinds.{generic_binary, generic_bytes};
-ghost use Rattle.bson.specs.Rows.{binary_row, bson_row, bytes_row};
+ghost use Rattle.bson.specs.LoanTypes.{binary_row, bson_row, bytes_row};
 
 use crate::bson::{Array, Bson};
 use crate::document::Document;
@@ -18,27 +18,27 @@ use bson_types::timestamp::Timestamp;
 /// A type whose values are what one kind of `Bson` holds.
 pub(crate) trait Kind {
     // What a value of the kind holds.
-    ghost held: { Bson → Option Self };
+    ghost content_of: { Bson → Option Self };
 
     // The value of the kind that holds it.
-    ghost made: { Self → Bson };
+    ghost value_of: { Self → Bson };
 
     /// What the value holds, if it is of the kind.
     fn kind(value: &Bson) -> Option<&Self>
-        ensures { option_copied result ≡ held value.now };
+        ensures { option_copied result ≡ content_of value.now };
 
     /// The same, to write.
     fn kind_mut(value: &mut Bson) -> Option<&mut Self>
-        ensures* writes_back { sem 𝓛 (LendsIf bson_row Self.row value.entry result made value.old) }
-        ensures value { option_map (λ x. x.now) result ≡ held value.old };
+        ensures* writes_back { sem 𝓛 (LendsIf bson_row Self.row value.entry result value_of value.old) }
+        ensures value { option_map (λ x. x.now) result ≡ content_of value.old };
 }
 
 impl Kind for u64 {
     ghost use Rattle.bson.specs.Kinds.{double_of};
 
-    ghost held = { double_of };
+    ghost content_of = { double_of };
 
-    ghost made = { value.Double };
+    ghost value_of = { value.Double };
 
     fn kind(value: &Bson) -> Option<&u64> {
         match value {
@@ -58,9 +58,9 @@ impl Kind for u64 {
 impl Kind for String {
     ghost use Rattle.bson.specs.Kinds.{string_of};
 
-    ghost held = { string_of };
+    ghost content_of = { string_of };
 
-    ghost made = { value.String };
+    ghost value_of = { value.String };
 
     fn kind(value: &Bson) -> Option<&String> {
         match value {
@@ -80,9 +80,9 @@ impl Kind for String {
 impl Kind for Array {
     ghost use Rattle.bson.specs.Kinds.{array_of};
 
-    ghost held = { array_of };
+    ghost content_of = { array_of };
 
-    ghost made = { value.Array };
+    ghost value_of = { value.Array };
 
     fn kind(value: &Bson) -> Option<&Array> {
         match value {
@@ -102,9 +102,9 @@ impl Kind for Array {
 impl Kind for Document {
     ghost use Rattle.bson.specs.Kinds.{document_of};
 
-    ghost held = { document_of };
+    ghost content_of = { document_of };
 
-    ghost made = { value.Document };
+    ghost value_of = { value.Document };
 
     fn kind(value: &Bson) -> Option<&Document> {
         match value {
@@ -124,9 +124,9 @@ impl Kind for Document {
 impl Kind for bool {
     ghost use Rattle.bson.specs.Kinds.{boolean_of};
 
-    ghost held = { boolean_of };
+    ghost content_of = { boolean_of };
 
-    ghost made = { value.Boolean };
+    ghost value_of = { value.Boolean };
 
     fn kind(value: &Bson) -> Option<&bool> {
         match value {
@@ -146,9 +146,9 @@ impl Kind for bool {
 impl Kind for i32 {
     ghost use Rattle.bson.specs.Kinds.{int32_of};
 
-    ghost held = { int32_of };
+    ghost content_of = { int32_of };
 
-    ghost made = { value.Int32 };
+    ghost value_of = { value.Int32 };
 
     fn kind(value: &Bson) -> Option<&i32> {
         match value {
@@ -168,9 +168,9 @@ impl Kind for i32 {
 impl Kind for i64 {
     ghost use Rattle.bson.specs.Kinds.{int64_of};
 
-    ghost held = { int64_of };
+    ghost content_of = { int64_of };
 
-    ghost made = { value.Int64 };
+    ghost value_of = { value.Int64 };
 
     fn kind(value: &Bson) -> Option<&i64> {
         match value {
@@ -190,9 +190,9 @@ impl Kind for i64 {
 impl Kind for Timestamp {
     ghost use Rattle.bson.specs.Kinds.{timestamp_of};
 
-    ghost held = { timestamp_of };
+    ghost content_of = { timestamp_of };
 
-    ghost made = { value.Timestamp };
+    ghost value_of = { value.Timestamp };
 
     fn kind(value: &Bson) -> Option<&Timestamp> {
         match value {
@@ -213,9 +213,9 @@ impl Kind for Timestamp {
 impl Kind for Vec<u8> {
     ghost use Rattle.bson.specs.Kinds.{generic, generic_of};
 
-    ghost held = { generic_of };
+    ghost content_of = { generic_of };
 
-    ghost made = { generic };
+    ghost value_of = { generic };
 
     fn kind(value: &Bson) -> Option<&Vec<u8>> {
         match value {
@@ -251,9 +251,9 @@ fn generic_mut(binary: &mut Binary) -> Option<&mut Vec<u8>>
 impl Kind for ObjectId {
     ghost use Rattle.bson.specs.Kinds.{object_id_of};
 
-    ghost held = { object_id_of };
+    ghost content_of = { object_id_of };
 
-    ghost made = { value.ObjectId };
+    ghost value_of = { value.ObjectId };
 
     fn kind(value: &Bson) -> Option<&ObjectId> {
         match value {
@@ -273,9 +273,9 @@ impl Kind for ObjectId {
 impl Kind for DateTime {
     ghost use Rattle.bson.specs.Kinds.{date_of};
 
-    ghost held = { date_of };
+    ghost content_of = { date_of };
 
-    ghost made = { value.DateTime };
+    ghost value_of = { value.DateTime };
 
     fn kind(value: &Bson) -> Option<&DateTime> {
         match value {
@@ -295,9 +295,9 @@ impl Kind for DateTime {
 impl Kind for Decimal128 {
     ghost use Rattle.bson.specs.Kinds.{decimal_of};
 
-    ghost held = { decimal_of };
+    ghost content_of = { decimal_of };
 
-    ghost made = { value.Decimal128 };
+    ghost value_of = { value.Decimal128 };
 
     fn kind(value: &Bson) -> Option<&Decimal128> {
         match value {

@@ -2,8 +2,8 @@
 //!
 //! In reading order: `bson` (a value) and `document` (pairs over a store); `conversions`,
 //! `accessors` and `kinds` (values from what they hold, and back), `element_type`; `extjson`
-//! (readers and writers of trees and texts). The recursions over values have a module each, `same`,
-//! `hash`, `clone`, `show`, `debug`, `pretty`, and end in one arm for all scalars, of `scalar`.
+//! (readers and writers of trees and texts). The recursions over values have a module each, `equality`,
+//! `hash`, `clone`, `display`, `debug`, `pretty`, and end in one arm for all scalars, of `scalar`.
 //! `store` names the stores of `bson_store`.
 #![tactic(auto)]
 
@@ -18,9 +18,9 @@ pub mod extjson;
 mod hash;
 mod kinds;
 mod pretty;
-mod same;
+mod equality;
 mod scalar;
-mod show;
+mod display;
 pub mod store;
 
 pub use bson::{Array, Bson, JavaScriptCodeWithScope};

@@ -2,7 +2,7 @@
 ghost use Rattle.std.specs.Prelude.{◌≡◌, ◌==◌, cond, [], IfOk, string_bytes};
 ghost use Rattle.bson_model.specs.Value.{array, document as document_of};
 ghost use Rattle.bson_model.specs.Pretty.{pretty, blanks, inner, closing};
-ghost use Rattle.bson.specs.Lines.{AppendsOnOk, entry_line, item_line};
+ghost use Rattle.bson.specs.PrettyLines.{AppendsOnOk, entry_line, item_line};
 ghost use Rattle.bson.specs.View.{bson_view, values_view, pairs_view, document_view};
 
 use crate::bson::Bson;

@@ -9,7 +9,7 @@ use Rattle.bson_bytes.specs.Reading.{read_key, read_name}
 use Rattle.bson_bytes.specs.declared.duplicate_keys.DuplicateKeys.{DuplicateKeys}
 use Rattle.bson_bytes.specs.declared.duplicate_keys.DuplicateKeys.TheVariants.{Replace, Refuse}
 use Rattle.bson.specs.Pairs.{insert_pair}
-use Rattle.bson.specs.Put.{put_entries}
+use Rattle.bson.specs.InsertedPairs.{insert_entries}
 use Rattle.bson.specs.View.{bson_view, document_view, values_view, pairs_view, contents}
 use Rattle.bson.specs.declared.bson.Bson.{Bson}
 use Rattle.bson.specs.declared.document.Document.{Document}
@@ -29,16 +29,16 @@ pub pairs_view-put : (k : List ℕ) (v : Bson) (ps : List (List ℕ × Bson)) �
 pairs_view-put k v [] = refl
 pairs_view-put k v (p ∷ ps) = put_view_by (bytes_eq k p.0) k v p ps (insert_pair k v ps) (insert_value k (bson_view v) (pairs_view ps)) (pairs_view-put k v ps)
 
-view-put_entries : (es : List (Pair Bson)) (ps : List (List ℕ × Bson))
-    → pairs_view (put_entries es ps) ≡ insert_pairs (pairs_view ps) (entries_view es)
-view-put_entries [] ps = refl
-view-put_entries (e ∷ es) ps =
-    view-put_entries es (insert_pair (string_bytes e.key) e.value ps)
+view-insert_entries : (es : List (Pair Bson)) (ps : List (List ℕ × Bson))
+    → pairs_view (insert_entries es ps) ≡ insert_pairs (pairs_view ps) (entries_view es)
+view-insert_entries [] ps = refl
+view-insert_entries (e ∷ es) ps =
+    view-insert_entries es (insert_pair (string_bytes e.key) e.value ps)
     ∙ ap (λ (q : Pairs). insert_pairs q (entries_view es)) (pairs_view-put (string_bytes e.key) e.value ps)
 
-pub document_is : (d : Document) (es : List (Pair Bson)) (ps : Pairs) → contents d ≡ put_entries es []
+pub document_is : (d : Document) (es : List (Pair Bson)) (ps : Pairs) → contents d ≡ insert_entries es []
     → entries_view es ≡ ps → document_view d ≡ deduplicated ps
-document_is d es ps h made = document_view-pairs d ∙ ap pairs_view h ∙ view-put_entries es [] ∙ ap deduplicated made
+document_is d es ps h made = document_view-pairs d ∙ ap pairs_view h ∙ view-insert_entries es [] ∙ ap deduplicated made
 
 -- ---- one more
 

@@ -14,7 +14,7 @@ use Rattle.bson_bytes.specs.PutSteps.{PutResult, then, has_no_nul, put_scalar, p
 use Rattle.bson_bytes.specs.PutSteps.{put_length_placeholder, put_length, put_end, put_document, PutsBytes}
 use Rattle.bson_bytes.specs.Writing.{type_of, name_bytes, zero_in_key, IsWellTypedScalar, AreWellTyped, PairsAreWellTyped}
 use Rattle.bson_bytes.specs.declared.error.Error.{Error}
-use Rattle.bson_text.specs.Walked.{ItemsWritten, PairsWritten, keys_of}
+use Rattle.bson_text.specs.TraversalResults.{ItemsWritten, PairsWritten, keys_of}
 use Rattle.bson_codec.specs.PackedText.{ElementPut, DocumentPut, LengthReserved, ElementArrayOpened, ElementCodeOpened}
 use Rattle.bson_codec.specs.declared.element_writer.ElementWriter.{ElementWriter}
 use Rattle.bson_codec.proofs.Once.{once}

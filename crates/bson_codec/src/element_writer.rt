@@ -2,16 +2,16 @@
 ghost use Rattle.std.specs.Prelude.{◌≡◌, true, ⊤};
 ghost use Rattle.std.specs.Str.{is_utf8};
 ghost use Rattle.bson_bytes.specs.PutSteps.{has_no_nul};
-ghost use Rattle.bson_text.specs.Stops.{MayStop};
+ghost use Rattle.bson_text.specs.TraversalErrors.{MayFail};
 
 use crate::put_scalars::{put_scalar, type_of};
 use bson_bytes::error::Error;
 use bson_bytes::read_parts::has_no_nul;
 use bson_bytes::write_parts::{put_end, put_length, put_name, put_length_placeholder, put_text};
 use bson_scalar::scalar::Scalar;
-use bson_text::distinct::are_distinct;
-use bson_text::stop::Stop;
-use bson_text::writer::ValueWriter;
+use bson_text::distinct_keys::are_distinct;
+use bson_text::traversal_error::Stop;
+use bson_text::value_writer::ValueWriter;
 use bson_types::spec::ElementType;
 use itoa::Buffer;
 
@@ -116,7 +116,7 @@ impl ValueWriter for ElementWriter {
 
 // Returns the reason to stop if a part has no bytes.
 fn to_stop(error: Error) -> Stop
-    ensures { MayStop (λ D. ⊤) result }
+    ensures { MayFail (λ D. ⊤) result }
 {
     match error {
         Error::OutOfMemory => Stop::OutOfMemory,

@@ -4,7 +4,7 @@ ghost use Rattle.bson_codec.specs.PackedText.{IsPackedText};
 
 use crate::element_writer::ElementWriter;
 use bson_scalar::form::Doubles;
-use bson_text::stop::Stop;
+use bson_text::traversal_error::TraversalError;
 use bson_text::traversal::write_document_text;
 use bson_tokens::arrangement::Arrangement;
 use bson_tokens::normalize::normalize_text;
@@ -27,12 +27,12 @@ pub fn pack_text(
     doubles: Doubles,
     text: &str,
     scratch: &mut Scratch,
-) -> Result<Vec<u8>, Stop>
+) -> Result<Vec<u8>, TraversalError>
     ensures ok { IfOk result (λ out. IsPackedText doubles text.now out.items) }
 {
     match write_packed(alloc, doubles, text, scratch) {
         Ok(packed) => Ok(packed),
-        Err(Stop::OutOfMemory) => Err(Stop::OutOfMemory),
+        Err(TraversalError::OutOfMemory) => Err(TraversalError::OutOfMemory),
         Err(_) => pack_normalized(alloc, doubles, text, scratch),
     }
 }
@@ -43,7 +43,7 @@ fn pack_normalized(
     doubles: Doubles,
     text: &str,
     scratch: &mut Scratch,
-) -> Result<Vec<u8>, Stop>
+) -> Result<Vec<u8>, TraversalError>
     ensures ok { IfOk result (λ out. IsPackedText doubles text.now out.items) }
 {
     let normalized = normalize_text(alloc, Arrangement::FirstPositions, text)?;
@@ -56,7 +56,7 @@ fn write_packed(
     doubles: Doubles,
     text: &str,
     scratch: &mut Scratch,
-) -> Result<Vec<u8>, Stop>
+) -> Result<Vec<u8>, TraversalError>
     ensures ok { IfOk result (λ out. IsPackedText doubles text.now out.items) }
 {
     if text.len() > LONG_TEXT {
@@ -67,7 +67,7 @@ fn write_packed(
 
 // Encodes a long text with a scratch buffer of its own.
 #[inline(never)]
-fn write_long(alloc: Global, doubles: Doubles, text: &str) -> Result<Vec<u8>, Stop>
+fn write_long(alloc: Global, doubles: Doubles, text: &str) -> Result<Vec<u8>, TraversalError>
     ensures ok { IfOk result (λ out. IsPackedText doubles text.now out.items) }
 {
     let mut scratch = Scratch::new(alloc);
@@ -80,7 +80,7 @@ fn write_whole(
     doubles: Doubles,
     text: &str,
     scratch: &mut Scratch,
-) -> Result<Vec<u8>, Stop>
+) -> Result<Vec<u8>, TraversalError>
     ensures ok { IfOk result (λ out. IsPackedText doubles text.now out.items) }
 {
     let writer = ElementWriter {

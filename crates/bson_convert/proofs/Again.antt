@@ -7,11 +7,11 @@ use Rattle.bson_model.specs.Written.{WrittenIn}
 use Rattle.bson_model.specs.Laws.{IsReadFormIn}
 use Rattle.bson_model.proofs.Offered.{means_one_in}
 use Rattle.bson.specs.declared.extjson.options.Options.{Options}
-use Rattle.bson.specs.Texts.{IsTextUnder}
+use Rattle.bson.specs.Texts.{IsTextWithDoubles}
 use Rattle.bson_convert.specs.Convert.{IsWrittenIn, newline}
 
 pub is_written : (o : Options) (f : Form) (v : Value) (text output : List ℕ) → IsReadFormIn o.doubles v
-    → IsTextUnder o.doubles f v text → output ≡ text ++ newline → IsWrittenIn o f v output
+    → IsTextWithDoubles o.doubles f v text → output ≡ text ++ newline → IsWrittenIn o f v output
 is_written o f v text output p i l =
     let t = i.tree in
     let has = i.reads_again p.0 in

@@ -14,8 +14,8 @@ use Rattle.bson_model.specs.Normal.{normal_form}
 use Rattle.bson_model.specs.Written.{WrittenIn}
 use Rattle.bson_model.specs.Laws.{HasMeaningIn, IsTreeOfIn}
 use Rattle.bson_tree.specs.Place.{IsFirstFaultIn}
-use Rattle.bson.specs.TextMeaning.{IsTextOf, IsNoText, HasTextMeaningIn}
-use Rattle.bson.specs.Texts.{IsTextUnder}
+use Rattle.bson.specs.TextMeaning.{IsTextOf, IsNotJsonText, HasTextMeaningIn}
+use Rattle.bson.specs.Texts.{IsTextWithDoubles}
 use Rattle.bson_convert.specs.declared.converted.Attempt.{Attempt}
 use Rattle.bson_convert.specs.declared.converted.Attempt.TheVariants.{Written, Normalized}
 use Rattle.bson_convert.specs.declared.mode.Mode.{Mode}
@@ -74,7 +74,7 @@ IsKeptIn o Show output = Unit {0}
 
 -- what each fault says of the bytes
 abbrev pub IsRefusedIn : Options → Error → List ℕ → Type 0
-IsRefusedIn o NotJson bytes = IsNoText bytes
+IsRefusedIn o NotJson bytes = IsNotJsonText bytes
 IsRefusedIn o (NotExtendedJson place) bytes = (tree : Data) × IsTextOf bytes tree × IsFirstFaultIn o.doubles tree place
 IsRefusedIn o OutOfMemory bytes = Unit {0}
 IsRefusedIn o other bytes = ⊥
@@ -119,8 +119,8 @@ IsUncanonicalIn o fault bytes = IsRefusedIn o fault bytes
 
 -- a text of the value in the mode's form, or the one that shows it
 abbrev pub IsTextFor : Options → Mode → Value → List ℕ → Type 0
-IsTextFor o Canonical value text = IsTextUnder o.doubles form.Canonical value text
-IsTextFor o Relaxed value text = IsTextUnder o.doubles form.Relaxed value text
+IsTextFor o Canonical value text = IsTextWithDoubles o.doubles form.Canonical value text
+IsTextFor o Relaxed value text = IsTextWithDoubles o.doubles form.Relaxed value text
 IsTextFor o Show value text = text ≡ display_text value
 
 -- a text for the mode, of the value that the bytes denote

@@ -13,9 +13,9 @@ ghost use Rattle.bson.specs.declared.extjson.options.Options.{Options};
 use crate::error::Error;
 use crate::mode::Mode;
 use bson::extjson::{Form, Options};
-use bson_text::fault::{first_fault_in, first_fault_of_normalized};
+use bson_text::first_fault::{first_fault_in, first_fault_of_normalized};
 use bson_text::filter::{show_text, sort_text};
-use bson_text::stop::Stop;
+use bson_text::traversal_error::TraversalError;
 use bson_tokens::arrangement::Arrangement;
 use bson_tokens::normalize::normalize_text;
 use json::Scratch;
@@ -71,7 +71,7 @@ pub(crate) fn try_line(
     };
     match stream_text(alloc, options, mode, text, scratch) {
         Ok(written) => Ok(Attempt::Written(written)),
-        Err(Stop::OutOfMemory) => Err(Error::OutOfMemory),
+        Err(TraversalError::OutOfMemory) => Err(Error::OutOfMemory),
         Err(_) => Ok(Attempt::Normalized(normalize_faultless(alloc, options, text)?)),
     }
 }
@@ -101,7 +101,7 @@ fn stream_text(
     mode: Mode,
     text: &str,
     scratch: &mut Scratch,
-) -> Result<Vec<u8>, Stop>
+) -> Result<Vec<u8>, TraversalError>
     ensures ok { IfOk result (λ written. IsConvertedText options mode text.now written.items) }
     ensures utf8 { IfOk result (λ written. IsUtf8 written.items) }
 {

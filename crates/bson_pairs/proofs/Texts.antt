@@ -1,14 +1,14 @@
 -- Equal texts, from what the writers say of each.
 use Rattle.std.proofs.Common.{◌≡◌, true, ℕ, List, sym, ◌∙◌}
 use Rattle.std.specs.Prelude.{◌↔◌}
-use Rattle.bson.specs.Texts.{IsTextUnder}
+use Rattle.bson.specs.Texts.{IsTextWithDoubles}
 use Rattle.bson.specs.Doubles.{Doubles}
 use Rattle.bson.specs.Form.{Form}
 use Rattle.bson.specs.Same.{same}
 use Rattle.bson.specs.Value.{Value}
 use Rattle.bson.specs.Normal.{normal_form, as_read_back, plain, InRange}
 
-pub texts_equal : (D : Doubles) (f : Form) (v w : Value) (s t : List ℕ) → IsTextUnder D f v s → IsTextUnder D f w t
+pub texts_equal : (D : Doubles) (f : Form) (v w : Value) (s t : List ℕ) → IsTextWithDoubles D f v s → IsTextWithDoubles D f w t
     → InRange w → plain v ≡ true → plain w ≡ true
     → (s ≡ t) ↔ (same (as_read_back f (normal_form v)) (as_read_back f (normal_form w)) ≡ true)
 texts_equal D f v w s t a b r p q =

@@ -1,7 +1,7 @@
 -- The bytes of the document that a text denotes are unique, and each meaning has bytes or none of them has.
 use Rattle.std.proofs.Common.{◌≡◌, ℕ, List, Some, sym, ap, ◌∙◌, subst, rules}
 use Rattle.std.specs.Prelude.{IsUtf8}
-use Rattle.bson.specs.TextMeaning.{HasTextMeaningBy, MeansBy}
+use Rattle.bson.specs.TextMeaning.{HasTextMeaningBy, TextMeansBy}
 use Rattle.bson.specs.View.{bson_view, document_view}
 use Rattle.bson.specs.declared.bson.Bson.{the_lemmas}
 use Rattle.bson.specs.declared.bson.Bson.TheVariants.{Document as held}
@@ -90,7 +90,7 @@ value_one AsGiven o text v w h m =
 
 -- the pairs that a text means are those that were read
 pub is_meant : (k : KeyOrder) (o : Options) (text : List ℕ) (ps : Pairs) (value : Value)
-    → MeansBy k o.doubles text (document ps) → HasTextMeaningBy k o.doubles text value → value ≡ document ps
+    → TextMeansBy k o.doubles text (document ps) → HasTextMeaningBy k o.doubles text value → value ≡ document ps
 is_meant Ascending o text ps value m h =
     sym (h.meaning.one (document ps)
     (subst (λ d. MeansIn o.doubles d (document ps)) (tree_one text m.0 h.tree m.1 h.text) m.2))

@@ -4,7 +4,7 @@ use Rattle.std.proofs.lemmas.List.{append_cancel_right}
 use Rattle.std.specs.Prelude.{IsUtf8}
 use Rattle.serde_json.specs.Read.{read}
 use Rattle.bson.proofs.Offered.{tree_one}
-use Rattle.bson.specs.TextMeaning.{HasTextMeaningBy, HasTextMeaningIn, IsNoText}
+use Rattle.bson.specs.TextMeaning.{HasTextMeaningBy, HasTextMeaningIn, IsNotJsonText}
 use Rattle.bson.specs.declared.extjson.key_order.KeyOrder.{KeyOrder}
 use Rattle.bson.specs.declared.extjson.key_order.KeyOrder.TheVariants.{Ascending, AsGiven}
 use Rattle.bson.specs.declared.extjson.options.Options.{Options}
@@ -134,7 +134,7 @@ module _ (o : Options) where
   works (work.Write mode) text out x = converts_by o.key_order mode text out x
   works work.Check text out x = checks Valid text x.0
 
-  pub no_text : (text : List ℕ) → IsAccepted o text → IsNoText text → ⊥
+  pub no_text : (text : List ℕ) → IsAccepted o text → IsNotJsonText text → ⊥
   no_text text (t, v, is, m) h =
       let none : read text ≡ None = h is.utf8 in let some : read text ≡ Some t = is.tree_read in cc
 
@@ -142,7 +142,7 @@ module _ (o : Options) where
   no_fault text place (t, v, is, m) h =
       h.2.nothing v (subst (λ u. MeansIn o.doubles u v) (tree_one text t h.0 is h.1) m)
 
-  pub fault_text : (text : List ℕ) (place : Place) → IsRefusedIn o (NotExtendedJson place) text → IsNoText text → ⊥
+  pub fault_text : (text : List ℕ) (place : Place) → IsRefusedIn o (NotExtendedJson place) text → IsNotJsonText text → ⊥
   fault_text text place (t, is, first) h =
       let none : read text ≡ None = h is.utf8 in let some : read text ≡ Some t = is.tree_read in cc
 

@@ -3,7 +3,7 @@ use Rattle.std.proofs.Common.{◌≡◌, inl, inr, ℕ, List, refl, subst}
 use Rattle.json.specs.Json.{Json}
 use Rattle.json.specs.Strict.{HasUniqueKeys}
 use Rattle.serde_json.specs.Read.{read}
-use Rattle.bson.specs.TextMeaning.{HasTextMeaningBy, IsNoText, IsTextOf}
+use Rattle.bson.specs.TextMeaning.{HasTextMeaningBy, IsNotJsonText, IsTextOf}
 use Rattle.bson.specs.declared.extjson.options.Options.{Options}
 use Rattle.bson_codec.specs.Canonical.{Cause, DocumentFails, FitsDocument}
 use Rattle.bson_tokens.specs.DuplicateKeys.{DuplicateAt}
@@ -37,7 +37,7 @@ pub record Decided (o : Options) (task : Task) : Type 0 where
 -- ---- why a line is refused
 
 data View (o : Options) (task : Task) (text : List ℕ) : Error → Type 0 where
-  unread : (read : List ℕ) → Reads task text read → IsNoText read → (IsBlank text → ⊥) → View o task text NotJson
+  unread : (read : List ℕ) → Reads task text read → IsNotJsonText read → (IsBlank text → ⊥) → View o task text NotJson
   meaningless : (place : Place) (read : List ℕ) → Reads task text read → IsRefusedIn o (NotExtendedJson place) read
       → View o task text (NotExtendedJson place)
   turned : (place : Place) → Turned task place text → View o task text (NotExtendedJson place)
@@ -99,8 +99,8 @@ module _ (twice : (j : Json) (path : List PathSegment) → DuplicateAt j path �
 
   module _ (task : Task) (text : List ℕ) where
     -- what is read is no text of a value, and one
-    apart : (a b : List ℕ) → Reads task text a → Reads task text b → IsAccepted o a → IsNoText b → ⊥
-    apart a b x y accepted none = no_text o a accepted (subst IsNoText (one_read task text b a y x) none)
+    apart : (a b : List ℕ) → Reads task text a → Reads task text b → IsAccepted o a → IsNotJsonText b → ⊥
+    apart a b x y accepted none = no_text o a accepted (subst IsNotJsonText (one_read task text b a y x) none)
 
     unmeant : (a b : List ℕ) (place : Place) → Reads task text a → Reads task text b → IsAccepted o a
         → IsRefusedIn o (NotExtendedJson place) b → ⊥
@@ -108,9 +108,9 @@ module _ (twice : (j : Json) (path : List PathSegment) → DuplicateAt j path �
         no_fault o a place accepted (subst (IsRefusedIn o (NotExtendedJson place)) (one_read task text b a y x) h)
 
     untexted : (a b : List ℕ) (place : Place) → Reads task text a → Reads task text b
-        → IsRefusedIn o (NotExtendedJson place) a → IsNoText b → ⊥
+        → IsRefusedIn o (NotExtendedJson place) a → IsNotJsonText b → ⊥
     untexted a b place x y h none =
-        fault_text o a place h (subst IsNoText (one_read task text b a y x) none)
+        fault_text o a place h (subst IsNotJsonText (one_read task text b a y x) none)
 
     viewed_written : (a : List ℕ) (fault : Error) → WritesIn o task text a → View o task text fault → ⊥
     viewed_written a fault w (unread read is none some) =

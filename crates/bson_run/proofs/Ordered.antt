@@ -18,7 +18,7 @@ use Rattle.bson.specs.declared.extjson.options.Options.{Options}
 use Rattle.bson_tokens.proofs.Offered.{meant_in_order}
 use Rattle.bson_tokens.specs.Normalized.{IsNormalizedText}
 use Rattle.bson_tokens.specs.declared.arrangement.Arrangement.TheVariants.{FirstPositions}
-use Rattle.bson_text.specs.Filtered.{IsFilteredText}
+use Rattle.bson_text.specs.OutputTexts.{IsFilteredText}
 use Rattle.bson_convert.specs.Convert.{newline}
 use Rattle.bson_run.specs.InOrder.{ConvertsInOrder, IsConvertedTextInOrder, IsOutputInOrder, IsTextInOrderFor}
 use Rattle.bson_convert.specs.declared.mode.Mode.{Mode}

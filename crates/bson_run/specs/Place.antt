@@ -11,7 +11,7 @@ use Rattle.json.specs.Lex.{tokens}
 use Rattle.json.specs.Token.{Token, begin_object, end_object, begin_array, end_array, bad}
 use Rattle.serde_json.specs.Data.{Data}
 use Rattle.serde_json.specs.Read.{max_depth}
-use Rattle.bson.specs.TextMeaning.{IsNoText, IsTextOf}
+use Rattle.bson.specs.TextMeaning.{IsNotJsonText, IsTextOf}
 use Rattle.bson_tree.specs.Place.{path_text, path_of}
 use Rattle.bson_tree.specs.declared.place.Place.{Place}
 use Rattle.bson_tree.specs.declared.place.Reason.{Reason}
@@ -123,7 +123,7 @@ IsOfBad rule = ⊥
 -- if the rewritten text, which is read instead, nests too deep
 pub record Breaks (bytes : List ℕ) (rule : Rule) : Type 0 where
   pub utf8 : rule ≡ Utf8 ↔ ¬ (IsUtf8 bytes)
-  pub number : rule ≡ OutOfRange ↔ HasGrammar bytes × IsNoText bytes
+  pub number : rule ≡ OutOfRange ↔ HasGrammar bytes × IsNotJsonText bytes
   pub rewritten : rule ≡ RewrittenDepth ↔ HasTree bytes
   pub more : rule ≡ TrailingData ↔ HasTrailingData bytes
   pub blank : IsUtf8 bytes → tokens bytes ≡ [] → rule ≡ UnexpectedEnd

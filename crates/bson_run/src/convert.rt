@@ -13,7 +13,7 @@ use bson_convert::converted::{normalize, refuse};
 use bson_convert::error::Error;
 use bson_convert::mode::Mode;
 use bson_text::filter::{filter_text, show_text_in_order};
-use bson_text::stop::Stop;
+use bson_text::traversal_error::TraversalError;
 use bson_tokens::arrangement::Arrangement;
 use json::Scratch;
 use std::alloc::Global;
@@ -218,7 +218,7 @@ pub(crate) fn filter_once(
 {
     match filter(alloc, options, mode, text, scratch) {
         Ok(written) => Ok(Some(written)),
-        Err(Stop::OutOfMemory) => Err(Error::OutOfMemory),
+        Err(TraversalError::OutOfMemory) => Err(Error::OutOfMemory),
         Err(_) => Ok(None),
     }
 }
@@ -230,7 +230,7 @@ fn filter(
     mode: Mode,
     text: &str,
     scratch: &mut Scratch,
-) -> Result<Vec<u8>, Stop>
+) -> Result<Vec<u8>, TraversalError>
     ensures ok { IfOk result (λ written. IsConvertedTextInOrder options mode text.now written.items) }
     ensures utf8 { IfOk result (λ written. IsUtf8 written.items) }
 {

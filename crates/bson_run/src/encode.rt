@@ -2,7 +2,7 @@
 ghost use Rattle.std.specs.Prelude.{◌≡◌, IfOk, IfErr, IfSome, ℕ, List};
 ghost use Rattle.bson_model.specs.Value.{Pairs, document};
 ghost use Rattle.bson.specs.View.{bson_view};
-ghost use Rattle.bson.specs.TextMeaning.{MeansBy};
+ghost use Rattle.bson.specs.TextMeaning.{TextMeansBy};
 ghost use Rattle.bson_codec.specs.Canonical.{FitsDocument};
 ghost use Rattle.bson_codec.specs.WriteErrors.{IsWriteErrorFor};
 ghost use Rattle.bson_codec.specs.Unwritten.TheVariants as errors;
@@ -15,7 +15,7 @@ use bson_codec::{ser, to_vec};
 use bson_convert::convert::error_of;
 use bson_convert::error::Error;
 use bson_convert::no_bytes::NoBytes;
-use bson_text::stop::Stop;
+use bson_text::traversal_error::TraversalError;
 use json::Scratch;
 use std::alloc::Global;
 
@@ -43,7 +43,7 @@ pub fn encode(alloc: Global, options: Options, bytes: &[u8]) -> Result<Vec<u8>, 
     ensures ok { IfOk result (λ out. Encodes options.key_order options bytes.now out.items) }
     ensures one { IfOk result (λ out. (other : List ℕ) → Encodes options.key_order options bytes.now other
         → other ≡ out.items) }
-    ensures accepts { (ps : Pairs) → MeansBy options.key_order options.doubles bytes.now (document ps)
+    ensures accepts { (ps : Pairs) → TextMeansBy options.key_order options.doubles bytes.now (document ps)
         → FitsDocument ps → IfErr result (λ fault. fault ≡ Error.OutOfMemory) }
     ensures fault { IfErr result (λ fault. IsUnencodedBy options.key_order options fault bytes.now) }
 {
@@ -60,7 +60,7 @@ pub(crate) fn encode_line(
     ensures ok { IfOk result (λ out. Encodes options.key_order options bytes.now out.items) }
     ensures one { IfOk result (λ out. (other : List ℕ) → Encodes options.key_order options bytes.now other
         → other ≡ out.items) }
-    ensures accepts { (ps : Pairs) → MeansBy options.key_order options.doubles bytes.now (document ps)
+    ensures accepts { (ps : Pairs) → TextMeansBy options.key_order options.doubles bytes.now (document ps)
         → FitsDocument ps → IfErr result (λ fault. fault ≡ Error.OutOfMemory) }
     ensures fault { IfErr result (λ fault. IsUnencodedBy options.key_order options fault bytes.now) }
 {
@@ -90,7 +90,7 @@ fn pack_document(
     };
     match pack_text(alloc, options.doubles, text, scratch) {
         Ok(document) => Ok(Some(document)),
-        Err(Stop::OutOfMemory) => Err(Error::OutOfMemory),
+        Err(TraversalError::OutOfMemory) => Err(Error::OutOfMemory),
         Err(_) => Ok(None),
     }
 }
@@ -98,7 +98,7 @@ fn pack_document(
 // The bytes of the value, which is read whole.
 fn encode_whole(alloc: Global, options: Options, bytes: &[u8]) -> Result<Vec<u8>, Error>
     ensures ok { IfOk result (λ out. Encodes options.key_order options bytes.now out.items) }
-    ensures accepts { (ps : Pairs) → MeansBy options.key_order options.doubles bytes.now (document ps)
+    ensures accepts { (ps : Pairs) → TextMeansBy options.key_order options.doubles bytes.now (document ps)
         → FitsDocument ps → IfErr result (λ fault. fault ≡ Error.OutOfMemory) }
     ensures fault { IfErr result (λ fault. IsUnencodedBy options.key_order options fault bytes.now) }
 {

@@ -1,6 +1,6 @@
 //! The offset at which bytes are not JSON.
 ghost use Rattle.std.specs.Prelude.{◌≡◌, ◌↔◌, IfOk, IsTrue, false, string_bytes};
-ghost use Rattle.bson.specs.TextMeaning.{IsNoText};
+ghost use Rattle.bson.specs.TextMeaning.{IsNotJsonText};
 ghost use Rattle.bson_run.specs.Place.{Breaks, HasGrammar, HasTree, at_column, before_stop, column_at, line_at};
 
 use crate::broken::rule_of;
@@ -44,7 +44,7 @@ impl Stop {
     ///
     /// Returns `AllocError` if a request for memory is refused.
     pub fn of(alloc: Global, bytes: &[u8]) -> Result<Stop, AllocError>
-        ensures grammar { IfOk result (λ stop. IsTrue stop.is_number ↔ HasGrammar bytes.now × IsNoText bytes.now) }
+        ensures grammar { IfOk result (λ stop. IsTrue stop.is_number ↔ HasGrammar bytes.now × IsNotJsonText bytes.now) }
         ensures rule { IfOk result (λ stop. Breaks bytes.now stop.rule) }
     {
         match simdutf8::compat::from_utf8(bytes) {
@@ -96,7 +96,7 @@ impl Stop {
 
 // Finds the offset at which the text is not JSON.
 fn stop_in(alloc: Global, text: &str) -> Result<Stop, AllocError>
-    ensures grammar { IfOk result (λ stop. IsTrue stop.is_number ↔ HasGrammar text.now × IsNoText text.now) }
+    ensures grammar { IfOk result (λ stop. IsTrue stop.is_number ↔ HasGrammar text.now × IsNotJsonText text.now) }
     ensures rule { IfOk result (λ stop. Breaks text.now stop.rule) }
 {
     let mut scratch = Scratch::new(alloc);
@@ -133,7 +133,7 @@ fn stop_in(alloc: Global, text: &str) -> Result<Stop, AllocError>
 // Whether a text is that of a tree: it has the grammar of JSON, and its numbers are in range.
 fn has_tree(alloc: Global, text: &str) -> Result<bool, AllocError>
     ensures yes { IfOk result (λ has. IsTrue has → HasTree text.now) }
-    ensures no { IfOk result (λ has. has ≡ false → IsNoText text.now) }
+    ensures no { IfOk result (λ has. has ≡ false → IsNotJsonText text.now) }
 {
     match normalize_text(alloc, Arrangement::FirstPositions, text) {
         Ok(_) => Ok(true),

@@ -31,24 +31,24 @@ use Rattle.bson_tokens.specs.FirstFault.{FaultAndPath, fault_in_tree, first_item
 use Rattle.bson_tokens.proofs.Offered.{Is, is_found}
 use Rattle.bson_text.proofs.Objects.{step_more}
 use Rattle.bson_text.proofs.Denials.{mapped_parse, then_parsed, split_kept, mapped}
-use Rattle.bson_text.specs.Placed.{IsUnder, Rises, ItemsRise, MembersRise, trees_of, any_wrapper, FirstPlain, IsOf}
-use Rattle.bson_text.specs.Placed.{IsShapeFault, IsPlaceWithin, ElementStops, AtKey, MemberStops, verdict_of}
-use Rattle.bson_text.specs.Placed.{ValuePlaced, ItemsPlaced, MembersPlaced, ObjectPlaced}
-use Rattle.bson_text.specs.declared.stop.Stop.{Stop}
+use Rattle.bson_text.specs.ErrorPaths.{IsLessThanKeys, HasAscendingKeys, ItemsHaveAscendingKeys, MembersHaveAscendingKeys, member_trees, has_wrapper_key, FirstKeyIsPlain, IsPlaceOfFault}
+use Rattle.bson_text.specs.ErrorPaths.{IsWrongShape, IsPlaceFromParent, IsElementError, IsPlaceOfMember, IsMemberError, first_fault_of_members}
+use Rattle.bson_text.specs.ErrorPaths.{LocatesValueError, LocatesItemsError, LocatesMembersError, LocatesObjectError}
+use Rattle.bson_text.specs.declared.traversal_error.TraversalError.{TraversalError}
 use Rattle.bson_text.proofs.Passing.{at_map}
 
 -- ---- places
 
 -- seen from one segment further out
-pub placed_within : (v w : FaultAndPath) (s : PathSegment) (x : FaultAndPath) (p q : Place) → IsOf v p → IsPlaceWithin s p q
-    → w ≡ or (add_segment s v) x → IsOf w q
+pub placed_within : (v w : FaultAndPath) (s : PathSegment) (x : FaultAndPath) (p q : Place) → IsPlaceOfFault v p → IsPlaceFromParent s p q
+    → w ≡ or (add_segment s v) x → IsPlaceOfFault w q
 placed_within v w s x p q is (path, reason) e = record {
   fault = is.fault;
   path = e ∙ ap (λ y. or (add_segment s y) x) is.path ∙ ap (λ y. Some (is.fault, y)) (sym path);
   reason = subst (IsReason is.fault) (sym reason) is.reason;
 }
 
-pub placed_here : (w : FaultAndPath) (q : Place) → IsShapeFault q → w ≡ wrong_shape_here → IsOf w q
+pub placed_here : (w : FaultAndPath) (q : Place) → IsWrongShape q → w ≡ wrong_shape_here → IsPlaceOfFault w q
 placed_here w q (path, reason) e = record {
   fault = wrong_shape;
   path = e ∙ ap (λ y. Some (wrong_shape, y)) (sym path);
@@ -86,9 +86,9 @@ items_step_at p n ts going = ap (items_step p (items p n) ts) going
 
 module _ (D : Doubles) where
   abbrev pub ItemsFrom : Option (json.Items × List Token) → Option (json.Items × List Token) → ℕ → Type 0
-  ItemsFrom whole wrong_shape_here n = (js : json.Items) (r : List Token) (ts : Items) → whole ≡ Some (js, r) → ItemsRise js
+  ItemsFrom whole wrong_shape_here n = (js : json.Items) (r : List Token) (ts : Items) → whole ≡ Some (js, r) → ItemsHaveAscendingKeys js
       → of_items js ≡ Some ts
-      → (ks : json.Items) × (us : Items) × (wrong_shape_here ≡ Some (ks, r)) × ItemsRise ks × (of_items ks ≡ Some us)
+      → (ks : json.Items) × (us : Items) × (wrong_shape_here ≡ Some (ks, r)) × ItemsHaveAscendingKeys ks × (of_items ks ≡ Some us)
       × (first_item_fault D 0 ts ≡ first_item_fault D n us)
 
   pub items_from : (whole : Option (json.Items × List Token)) → ItemsFrom whole whole 0
@@ -101,7 +101,7 @@ module _ (D : Doubles) where
   item_from whole p n place ts r j t0 v left going read is reads from js rest ds whole_is rise of =
       let g = from js rest ds whole_is rise of in
       let more = mapped_parse (json.item j) (items p (n - 1) r) g.0 rest (sym (items_more p n ts r j left going read) ∙ g.2) in
-      let rises = subst ItemsRise more.2 g.3 in
+      let rises = subst ItemsHaveAscendingKeys more.2 g.3 in
       let a = split_kept item (of_json j) (of_items more.0) g.1 (subst (λ x. of_items x ≡ Some g.1) more.2 g.4) in
       let none = sound D j t0 a.0 v is reads a.2 in (
         more.0,
@@ -113,9 +113,9 @@ module _ (D : Doubles) where
             ∙ ap (λ x. or (add_segment (element place) x) (first_item_fault D (place + 1) a.1)) none,
       )
 
-  pub items_placed : (e f : Stop) (whole : Option (json.Items × List Token)) (depth n place : ℕ) (ts mid rest : List Token)
-      → after_end_array ts ≡ None → ItemsFrom whole (items (value depth) n ts) place → ValuePlaced D e (value depth ts) mid
-      → ElementStops depth place e mid f rest → ItemsPlaced D f whole rest
+  pub items_placed : (e f : TraversalError) (whole : Option (json.Items × List Token)) (depth n place : ℕ) (ts mid rest : List Token)
+      → after_end_array ts ≡ None → ItemsFrom whole (items (value depth) n ts) place → LocatesValueError D e (value depth ts) mid
+      → IsElementError depth place e mid f rest → LocatesItemsError D f whole rest
   items_placed e f whole depth zero place ts mid rest going from at out = at_map f _ _ (λ q h js r ds whole_is rise of.
       let g = from js r ds whole_is rise of in
       absurd (never {A = json.Items × List Token} (items (value depth) zero ts) (g.0, r) (items_zero (value depth) ts) g.2)) out
@@ -125,9 +125,9 @@ module _ (D : Doubles) where
       let mark : option_and_then (λ x. parse_map (json.item x.0) (items P n x.1)) (P ts) ≡ Some (g.0, r) =
       sym (items_step_at P n ts going) ∙ g.2 in
       let b = then_parsed json.item (items P n) (P ts) g.0 r mark in
-      let rises = subst ItemsRise b.5 g.3 in
+      let rises = subst ItemsHaveAscendingKeys b.5 g.3 in
       let a = split_kept item (of_json b.0) (of_items b.2) g.1 (subst (λ x. of_items x ≡ Some g.1) b.5 g.4) in
-      let wrong_shape_here = subst (λ x. ValuePlaced D x (P ts) mid) is at in
+      let wrong_shape_here = subst (λ x. LocatesValueError D x (P ts) mid) is at in
       let h = wrong_shape_here b.0 b.1 a.0 b.3 rises.0 a.2 in
       let gone = passed n b.2 r (subst (λ x. items P n x ≡ Some (b.2, r)) (sym h.0) b.4) in (
         gone,
@@ -135,13 +135,13 @@ module _ (D : Doubles) where
             (g.5 ∙ ap (first_item_fault D place) a.4),
       )) out
 
-  pub array_placed : (e : Stop) (o : Option (json.Items × List Token)) (rest : List Token) → ItemsPlaced D e o rest
-      → ValuePlaced D e (parse_map json.array o) rest
+  pub array_placed : (e : TraversalError) (o : Option (json.Items × List Token)) (rest : List Token) → LocatesItemsError D e o rest
+      → LocatesValueError D e (parse_map json.array o) rest
   array_placed e o rest = at_map e _ _ (λ q at j r t is rise of.
       let g = mapped_parse json.array o j r is in
       let a = mapped tree.array (of_items g.0) t (subst (λ x. of_json x ≡ Some t) g.2 of) in
-      let h = at g.0 r a.0 g.1 (subst Rises g.2 rise) a.1 in
-      (h.0, subst (λ x. IsOf (fault_in_tree D x) q) (sym a.2) h.1))
+      let h = at g.0 r a.0 g.1 (subst HasAscendingKeys g.2 rise) a.1 in
+      (h.0, subst (λ x. IsPlaceOfFault (fault_in_tree D x) q) (sym a.2) h.1))
 
 -- ---- trees of members whose keys ascend
 
@@ -177,36 +177,36 @@ join_trees : {A B C : Type 0} (f : A → B → C) (x : Option A) (y : Option B) 
 join_trees f x y a b h g = rw (h, g) refl
 
 trees_stand : (js : json.Members) (fault_in_tree all : Members) → of_members js fault_in_tree ≡ Some all
-    → (ms : Members) × (trees_of js ≡ Some ms) × (all ≡ put_all ms fault_in_tree)
+    → (ms : Members) × (member_trees js ≡ Some ms) × (all ≡ put_all ms fault_in_tree)
 trees_stand json.no_members fault_in_tree all is = (no_members, refl, sym (same_Some fault_in_tree all is))
 trees_stand (json.member k j js) fault_in_tree all is =
     let a = and_some (λ d. of_members js (put k d fault_in_tree)) (of_json j) all is in
     let g = trees_stand js (put k a.0 fault_in_tree) all a.2 in
-    (member k a.0 g.0, join_trees (member k) (of_json j) (trees_of js) a.0 g.0 a.1 g.1, g.2)
+    (member k a.0 g.0, join_trees (member k) (of_json j) (member_trees js) a.0 g.0 a.1 g.1, g.2)
 
-under_trees : (k : List ℕ) (js : json.Members) (ts : Members) → trees_of js ≡ Some ts → IsUnder k js → IsBelow k ts
+under_trees : (k : List ℕ) (js : json.Members) (ts : Members) → member_trees js ≡ Some ts → IsLessThanKeys k js → IsBelow k ts
 under_trees k json.no_members ts is under = subst (IsBelow k) (same_Some no_members ts is) tt
 under_trees k (json.member l j js) ts is under =
-    let a = split_kept (member l) (of_json j) (trees_of js) ts is in
+    let a = split_kept (member l) (of_json j) (member_trees js) ts is in
     subst (IsBelow k) (sym a.4) (under.0, under_trees k js a.1 a.3 under.1)
 
-ascends : (js : json.Members) (ts : Members) → trees_of js ≡ Some ts → MembersRise js → Ascends ts
+ascends : (js : json.Members) (ts : Members) → member_trees js ≡ Some ts → MembersHaveAscendingKeys js → Ascends ts
 ascends json.no_members ts is rise = subst Ascends (same_Some no_members ts is) tt
 ascends (json.member k j js) ts is rise =
-    let a = split_kept (member k) (of_json j) (trees_of js) ts is in
+    let a = split_kept (member k) (of_json j) (member_trees js) ts is in
     subst Ascends (sym a.4) (under_trees k js a.1 a.3 rise.0, ascends js a.1 a.3 rise.2)
 
 -- where keys ascend the members of the tree are those of the text as they stand
-pub rising : (js : json.Members) (all : Members) → MembersRise js → of_members js no_members ≡ Some all
-    → trees_of js ≡ Some all
+pub rising : (js : json.Members) (all : Members) → MembersHaveAscendingKeys js → of_members js no_members ≡ Some all
+    → member_trees js ≡ Some all
 rising js all rise is =
     let g = trees_stand js no_members all is in
     g.1 ∙ ap Some (sym (g.2 ∙ put_in_order g.0 no_members (ascends js g.0 g.1 rise)))
 
-any_is : (js : json.Members) (ts : Members) → trees_of js ≡ Some ts → has_wrapper ts ≡ any_wrapper js
+any_is : (js : json.Members) (ts : Members) → member_trees js ≡ Some ts → has_wrapper ts ≡ has_wrapper_key js
 any_is json.no_members ts is = ap has_wrapper (sym (same_Some no_members ts is))
 any_is (json.member k j js) ts is =
-    let a = split_kept (member k) (of_json j) (trees_of js) ts is in
+    let a = split_kept (member k) (of_json j) (member_trees js) ts is in
     ap has_wrapper a.4 ∙ ap (λ b. is_some (wrapper_of k) || b) (any_is js a.1 a.3)
 
 -- ---- objects
@@ -234,12 +234,12 @@ module _ (D : Doubles) where
       cond_false (bytes_eq k (codes "$code")) (bytes_eq l (codes "$scope")) _ (no_code k plain)
   shape_found k d (member l e (member m f ts)) plain has = refl
 
-  pub wrapped : (js : json.Members) (ts : Members) → trees_of js ≡ Some ts → FirstPlain js → has_wrapper ts ≡ true
+  pub wrapped : (js : json.Members) (ts : Members) → member_trees js ≡ Some ts → FirstKeyIsPlain js → has_wrapper ts ≡ true
       → fault_in_tree D (object ts) ≡ wrong_shape_here
   wrapped json.no_members ts is plain has =
       let none : has_wrapper ts ≡ false = ap has_wrapper (sym (same_Some no_members ts is)) in cc
   wrapped (json.member k j js) ts is plain has =
-      let a = split_kept (member k) (of_json j) (trees_of js) ts is in
+      let a = split_kept (member k) (of_json j) (member_trees js) ts is in
       let h = subst (λ x. has_wrapper x ≡ true) a.4 has in
       subst (λ x. fault_in_tree D (object x) ≡ wrong_shape_here) (sym a.4)
       (subst (λ b. cond b (wrapper_fault D (member k a.0 a.1)) (first_member_fault D (member k a.0 a.1)) ≡ wrong_shape_here) (sym h)
@@ -249,9 +249,9 @@ module _ (D : Doubles) where
   free ts h = ap (λ b. cond b (wrapper_fault D ts) (first_member_fault D ts)) h
 
   abbrev pub MembersFrom : Bool → Option (json.Members × List Token) → Option (json.Members × List Token) → Type 0
-  MembersFrom b whole now = (ms : json.Members) (r : List Token) (ts : Members) → whole ≡ Some (ms, r) → MembersRise ms
-      → trees_of ms ≡ Some ts
-      → (ns : json.Members) × (us : Members) × (now ≡ Some (ns, r)) × MembersRise ns × (trees_of ns ≡ Some us)
+  MembersFrom b whole now = (ms : json.Members) (r : List Token) (ts : Members) → whole ≡ Some (ms, r) → MembersHaveAscendingKeys ms
+      → member_trees ms ≡ Some ts
+      → (ns : json.Members) × (us : Members) × (now ≡ Some (ns, r)) × MembersHaveAscendingKeys ns × (member_trees ns ≡ Some us)
       × (first_member_fault D ts ≡ first_member_fault D us) × (b ≡ true → has_wrapper ts ≡ has_wrapper us)
 
   pub members_from : (b : Bool) (whole : Option (json.Members × List Token)) → MembersFrom b whole whole
@@ -266,8 +266,8 @@ module _ (D : Doubles) where
       let g = from ms rest ds whole_is rise of in
       let now = members_step p (members p (n - 1)) next s in
       let more = mapped_parse (json.member k j) now g.0 rest (sym (step_more p n k ts r s next j now left read named refl) ∙ g.2) in
-      let rises = subst MembersRise more.2 g.3 in
-      let a = split_kept (member k) (of_json j) (trees_of more.0) g.1 (subst (λ x. trees_of x ≡ Some g.1) more.2 g.4) in
+      let rises = subst MembersHaveAscendingKeys more.2 g.3 in
+      let a = split_kept (member k) (of_json j) (member_trees more.0) g.1 (subst (λ x. member_trees x ≡ Some g.1) more.2 g.4) in
       let none = sound D j t0 a.0 v is reads a.2 in (
         more.0,
         a.1,
@@ -279,38 +279,38 @@ module _ (D : Doubles) where
       )
 
   -- a fault at a key
-  at_key : (b : Bool) (k : List ℕ) (js : json.Members) (ds us : Members) (d : Data) (has : Bool) (p q : Place)
-      → trees_of js ≡ Some ds → (b ≡ true → FirstPlain js) → first_member_fault D ds ≡ first_member_fault D (member k d us)
-      → (b ≡ true → has_wrapper ds ≡ has) → IsOf (fault_in_tree D d) p → AtKey (b && has) k p q → IsOf (verdict_of D b ds) q
-  at_key false k js ds us d has p q of plain same wraps is at =
+  place_at_key : (b : Bool) (k : List ℕ) (js : json.Members) (ds us : Members) (d : Data) (has : Bool) (p q : Place)
+      → member_trees js ≡ Some ds → (b ≡ true → FirstKeyIsPlain js) → first_member_fault D ds ≡ first_member_fault D (member k d us)
+      → (b ≡ true → has_wrapper ds ≡ has) → IsPlaceOfFault (fault_in_tree D d) p → IsPlaceOfMember (b && has) k p q → IsPlaceOfFault (first_fault_of_members D b ds) q
+  place_at_key false k js ds us d has p q of plain same wraps is at =
       placed_within (fault_in_tree D d) (first_member_fault D ds) (key k) (first_member_fault D us) p q is at same
-  at_key true k js ds us d true p q of plain same wraps is at =
+  place_at_key true k js ds us d true p q of plain same wraps is at =
       placed_here (fault_in_tree D (object ds)) q at (wrapped js ds of (plain refl) (wraps refl))
-  at_key true k js ds us d false p q of plain same wraps is at =
+  place_at_key true k js ds us d false p q of plain same wraps is at =
       placed_within (fault_in_tree D d) (fault_in_tree D (object ds)) (key k) (first_member_fault D us) p q is at (free ds (wraps refl) ∙ same)
 
-  pub member_placed : (e f : Stop) (b : Bool) (whole : Option (json.Members × List Token)) (depth n : ℕ) (k : List ℕ)
+  pub member_placed : (e f : TraversalError) (b : Bool) (whole : Option (json.Members × List Token)) (depth n : ℕ) (k : List ℕ)
       (ts mid rest : List Token) → (b ≡ true → wrapper_of k ≡ None)
       → MembersFrom b whole (members_step (value depth) (members (value depth) n) (Some k) ts)
-      → ValuePlaced D e (value depth ts) mid → MemberStops depth b k e mid f rest → MembersPlaced D f b whole rest
+      → LocatesValueError D e (value depth ts) mid → IsMemberError depth b k e mid f rest → LocatesMembersError D f b whole rest
   member_placed e f b whole depth n k ts mid rest plain from at out = at_map f _ _ (λ q (p, has, is, passed, seen) ms r ds whole_is rise of first.
       let P = value depth in
       let g = from ms r ds whole_is rise of in
       let m = then_parsed (json.member k) (members P n) (P ts) g.0 r g.2 in
-      let rises = subst MembersRise m.5 g.3 in
-      let a = split_kept (member k) (of_json m.0) (trees_of m.2) g.1 (subst (λ x. trees_of x ≡ Some g.1) m.5 g.4) in
-      let now = subst (λ x. ValuePlaced D x (P ts) mid) is at in
+      let rises = subst MembersHaveAscendingKeys m.5 g.3 in
+      let a = split_kept (member k) (of_json m.0) (member_trees m.2) g.1 (subst (λ x. member_trees x ≡ Some g.1) m.5 g.4) in
+      let now = subst (λ x. LocatesValueError D x (P ts) mid) is at in
       let h = now m.0 m.1 a.0 m.3 rises.1 a.2 in
       let gone = passed n m.2 r (subst (λ x. members P n x ≡ Some (m.2, r)) (sym h.0) m.4) in
       let wraps : b ≡ true → has_wrapper ds ≡ has = λ yes. g.6 yes ∙ ap has_wrapper a.4
       ∙ ap (λ o. is_some o || has_wrapper a.1) (plain yes) ∙ any_is m.2 a.1 a.3 ∙ sym gone.1 in
-      (gone.0, at_key b k ms ds a.1 a.0 has p.value q of first (g.5 ∙ ap (first_member_fault D) a.4) wraps h.1 seen)) out
+      (gone.0, place_at_key b k ms ds a.1 a.0 has p.value q of first (g.5 ∙ ap (first_member_fault D) a.4) wraps h.1 seen)) out
 
-  pub object_placed : (e : Stop) (o : Option (json.Members × List Token)) (rest : List Token) → ObjectPlaced D e o rest
-      → ValuePlaced D e (parse_map json.object o) rest
+  pub object_placed : (e : TraversalError) (o : Option (json.Members × List Token)) (rest : List Token) → LocatesObjectError D e o rest
+      → LocatesValueError D e (parse_map json.object o) rest
   object_placed e o rest = at_map e _ _ (λ q at j r t is rise of.
       let g = mapped_parse json.object o j r is in
       let a = mapped tree.object (of_members g.0 no_members) t (subst (λ x. of_json x ≡ Some t) g.2 of) in
-      let rises = subst Rises g.2 rise in
+      let rises = subst HasAscendingKeys g.2 rise in
       let h = at g.0 r a.0 g.1 rises (rising g.0 a.0 rises a.1) in
-      (h.0, subst (λ x. IsOf (fault_in_tree D x) q) (sym a.2) h.1))
+      (h.0, subst (λ x. IsPlaceOfFault (fault_in_tree D x) q) (sym a.2) h.1))

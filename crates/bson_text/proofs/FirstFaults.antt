@@ -20,9 +20,9 @@ use Rattle.bson_tokens.specs.Normalized.{normalized, HasNumbersInRange, ItemsHav
 use Rattle.bson_tokens.specs.declared.arrangement.Arrangement.TheVariants.{Ascending}
 use Rattle.bson_tokens.specs.TextErrors.{IsTextPlaceIn}
 use Rattle.bson_text.proofs.Normalized.{normalized_rises}
-use Rattle.bson_text.specs.Placed.{TextPlaced}
-use Rattle.bson_text.specs.declared.stop.Stop.{Stop}
-use Rattle.bson_text.specs.declared.stop.Stop.TheVariants.{Fault}
+use Rattle.bson_text.specs.ErrorPaths.{LocatesTextError}
+use Rattle.bson_text.specs.declared.traversal_error.TraversalError.{TraversalError}
+use Rattle.bson_text.specs.declared.traversal_error.TraversalError.TheVariants.{Fault}
 
 -- JSON whose numbers are in range has a tree
 mutual
@@ -63,13 +63,13 @@ module _ (D : Doubles) (text written : List ℕ) (is : IsNormalizedText Ascendin
       (t, sym (text_read Ascending text written is) ∙ tree, (sorted v, means.means))
 
   -- it has its first fault at the place
-  pub first_in_text : (e : Stop) (place : Box Place Global) → e ≡ Fault place → TextPlaced D e written
+  pub first_in_text : (e : TraversalError) (place : Box Place Global) → e ≡ Fault place → LocatesTextError D e written
       → IsTextPlaceIn D text (Some place.value)
-  first_in_text e place here placed =
+  first_in_text e place here located =
       let (t, has) = has_tree is.tree is.numbers in
       let j = normalized Ascending is.tree in
       let tree : read text ≡ Some t = ap (option_and_then of_json) is.is_tree ∙ has in
       let again : of_json j ≡ Some t =
       sym (ap (option_and_then of_json) is.read_again) ∙ text_read Ascending text written is ∙ tree in
-      let at = subst (λ s. TextPlaced D s written) here placed in
+      let at = subst (λ s. LocatesTextError D s written) here located in
       (t, tree, at j t (whole (value 127 (tokens written)) j is.read_again) (normalized_rises is.tree) again)

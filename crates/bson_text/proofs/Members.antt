@@ -10,8 +10,8 @@ use Rattle.bson_scalar.specs.declared.form.Doubles.{Doubles}
 use Rattle.bson_model.specs.Value.{Value, Pairs, no_pairs, pair}
 use Rattle.bson_model.specs.OrderedTrees.{kept, kept_members, put_in_place}
 use Rattle.bson_model.specs.OrderedReading.{reads_in_order, members_in_order}
-use Rattle.bson_text.specs.Exact.{as_they_stand}
-use Rattle.bson_text.specs.Walked.{set_pair, set_each}
+use Rattle.bson_text.specs.ErrorDenials.{members_as_given}
+use Rattle.bson_text.specs.TraversalResults.{with_pair_set, with_pairs_set}
 
 -- the members after each in turn is put
 abbrev pub insert_each : Members → Members → Members
@@ -25,12 +25,12 @@ first_of k None y ms h = cc
 first_of k (Some d) None ms h = cc
 first_of k (Some d) (Some ds) ms h = (d, ds, refl, refl, cc)
 
-pub kept_each : (js : json.Members) (ms found : Members) → as_they_stand js ≡ Some ms
+pub kept_each : (js : json.Members) (ms found : Members) → members_as_given js ≡ Some ms
     → kept_members js found ≡ Some (insert_each ms found)
 kept_each json.no_members no_members found is = refl
 kept_each json.no_members (member k d ms) found is = cc
 kept_each (json.member k j js) ms found is =
-    let g = first_of k (kept j) (as_they_stand js) ms is in
+    let g = first_of k (kept j) (members_as_given js) ms is in
     ap (option_and_then (λ d. kept_members js (put_in_place k d found))) g.2
     ∙ kept_each js g.1 (put_in_place k g.0 found) g.3 ∙ ap (λ all. Some (insert_each all found)) (sym g.4)
 
@@ -67,26 +67,26 @@ module _ (D : Doubles) where
 
   reads_at : (b : Bool) (k l : List ℕ) (d e : Data) (v w : Value) (ms : Members) (ps : Pairs)
       → reads_in_order D d ≡ Ok v → reads_in_order D e ≡ Ok w → members_in_order D ms ≡ Ok ps
-      → members_in_order D (put_in_place k d ms) ≡ Ok (set_pair k v ps)
+      → members_in_order D (put_in_place k d ms) ≡ Ok (with_pair_set k v ps)
       → members_in_order D (cond b (member l d ms) (member l e (put_in_place k d ms)))
-      ≡ Ok (cond b (pair l v ps) (pair l w (set_pair k v ps)))
+      ≡ Ok (cond b (pair l v ps) (pair l w (with_pair_set k v ps)))
   reads_at true k l d e v w ms ps new old all more = rw (new, all) refl
   reads_at false k l d e v w ms ps new old all more = rw (old, more) refl
 
   reads_put : (k : List ℕ) (d : Data) (v : Value) (ms : Members) (ps : Pairs) → reads_in_order D d ≡ Ok v
-      → members_in_order D ms ≡ Ok ps → members_in_order D (put_in_place k d ms) ≡ Ok (set_pair k v ps)
+      → members_in_order D ms ≡ Ok ps → members_in_order D (put_in_place k d ms) ≡ Ok (with_pair_set k v ps)
   reads_put k d v no_members no_pairs new all = rw new refl
   reads_put k d v no_members (pair l w ps) new all = cc
   reads_put k d v (member l e ms) ps new all =
       let g = first_read l (reads_in_order D e) (members_in_order D ms) ps all in
       reads_at (bytes_eq k l) k l d e v g.0 ms g.1 new g.2 g.3 (reads_put k d v ms g.1 new g.3)
-      ∙ ap (λ qs. Ok (set_pair k v qs)) (sym g.4)
+      ∙ ap (λ qs. Ok (with_pair_set k v qs)) (sym g.4)
 
   pub reads_each : (ms found : Members) (ps qs : Pairs) → members_in_order D ms ≡ Ok ps → members_in_order D found ≡ Ok qs
-      → members_in_order D (insert_each ms found) ≡ Ok (set_each ps qs)
+      → members_in_order D (insert_each ms found) ≡ Ok (with_pairs_set ps qs)
   reads_each no_members found no_pairs qs all is = is
   reads_each no_members found (pair k v ps) qs all is = cc
   reads_each (member k d ms) found ps qs all is =
       let g = first_read k (reads_in_order D d) (members_in_order D ms) ps all in
-      reads_each ms (put_in_place k d found) g.1 (set_pair k g.0 qs) g.3 (reads_put k d g.0 found qs g.2 is)
-      ∙ ap (λ x. Ok (set_each x qs)) (sym g.4)
+      reads_each ms (put_in_place k d found) g.1 (with_pair_set k g.0 qs) g.3 (reads_put k d g.0 found qs g.2 is)
+      ∙ ap (λ x. Ok (with_pairs_set x qs)) (sym g.4)

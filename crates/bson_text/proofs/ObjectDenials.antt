@@ -22,22 +22,22 @@ use Rattle.bson_model.specs.OrderedReading.{reads_in_order, members_in_order, wr
 use Rattle.bson_model.proofs.OfferedInOrder.{joined, joined_again, joined_none, put_last}
 use Rattle.bson_text.proofs.Differ.{Differ, differ, stands}
 use Rattle.bson_text.proofs.Members.{insert_each}
-use Rattle.bson_text.specs.Exact.{as_they_stand, IsMeaningful, MembersMeanSome}
-use Rattle.bson_text.specs.Refused.{scope_first, MembersCodeFirst}
+use Rattle.bson_text.specs.ErrorDenials.{members_as_given, IsMeaningful, MembersAreMeaningful}
+use Rattle.bson_text.specs.RejectedText.{has_scope_before_code, MembersCodeBeforeScope}
 use Rattle.bson_text.proofs.Denials.{split_kept, was_read, mapped, Once}
 
 -- ---- an object of which no key stands twice is kept as it stands
 
-same_has : (l : List ℕ) (js : json.Members) (ts : Members) → as_they_stand js ≡ Some ts → has_key l ts ≡ stands l (keys js)
+same_has : (l : List ℕ) (js : json.Members) (ts : Members) → members_as_given js ≡ Some ts → has_key l ts ≡ stands l (keys js)
 same_has l json.no_members ts is = ap (has_key l) (sym (same_Some no_members ts is))
 same_has l (json.member k j js) ts is =
-    let a = split_kept (member k) (kept j) (as_they_stand js) ts is in
+    let a = split_kept (member k) (kept j) (members_as_given js) ts is in
     ap (has_key l) a.4 ∙ ap (λ b. bytes_eq l k || b) (same_has l js a.1 a.3)
 
-kept_apart : (js : json.Members) (ts : Members) → as_they_stand js ≡ Some ts → Differ (keys js) → KeysDiffer ts
+kept_apart : (js : json.Members) (ts : Members) → members_as_given js ≡ Some ts → Differ (keys js) → KeysDiffer ts
 kept_apart json.no_members ts is apart = subst KeysDiffer (same_Some no_members ts is) tt
 kept_apart (json.member k j js) ts is apart =
-    let a = split_kept (member k) (kept j) (as_they_stand js) ts is in
+    let a = split_kept (member k) (kept j) (members_as_given js) ts is in
     subst KeysDiffer (sym a.4) (same_has k js a.1 a.3 ∙ apart.0, kept_apart js a.1 a.3 apart.1)
 
 put_in_turn : (ms found : Members) → KeysDiffer (joined found ms) → insert_each ms found ≡ joined found ms
@@ -57,15 +57,15 @@ join_kept : {A B C : Type 0} (f : A → B → C) (x : Option A) (y : Option B) (
 join_kept f x y a b h g = rw (h, g) refl
 
 stand : (js : json.Members) (found all : Members) → kept_members js found ≡ Some all
-    → (ms : Members) × (as_they_stand js ≡ Some ms) × (all ≡ insert_each ms found)
+    → (ms : Members) × (members_as_given js ≡ Some ms) × (all ≡ insert_each ms found)
 stand json.no_members found all is = (no_members, refl, sym (same_Some found all is))
 stand (json.member k j js) found all is =
     let a = and_some (λ d. kept_members js (put_in_place k d found)) (kept j) all is in
     let g = stand js (put_in_place k a.0 found) all a.2 in
-    (member k a.0 g.0, join_kept (member k) (kept j) (as_they_stand js) a.0 g.0 a.1 g.1, g.2)
+    (member k a.0 g.0, join_kept (member k) (kept j) (members_as_given js) a.0 g.0 a.1 g.1, g.2)
 
 pub kept_stands : (js : json.Members) (all : Members) → AreDistinct (keys js) → kept_members js no_members ≡ Some all
-    → as_they_stand js ≡ Some all
+    → members_as_given js ≡ Some all
 kept_stands js all apart is =
     let g = stand js no_members all is in
     let same = put_in_turn g.0 no_members (kept_apart js g.0 g.1 (differ (keys js) apart)) in
@@ -94,7 +94,7 @@ no_scope k w named = not_true (bytes_eq k (codes "$scope")) (λ yes.
 module _ (D : Doubles) where
   -- what an object means, by its members as they stand
   object_means : (ms : json.Members) → Once ms → IsMeaningful D (json.object ms)
-      → (ts : Members) × (v : Value) × (as_they_stand ms ≡ Some ts) × (reads_in_order D (object ts) ≡ Ok v)
+      → (ts : Members) × (v : Value) × (members_as_given ms ≡ Some ts) × (reads_in_order D (object ts) ≡ Ok v)
   object_means ms u (free, t, v, is, means) =
       let a = mapped object (kept_members ms no_members) t is in
       (a.0, v, kept_stands ms a.0 u.0 a.1, subst (λ x. reads_in_order D x ≡ Ok v) a.2 means)
@@ -103,7 +103,7 @@ module _ (D : Doubles) where
       → IsMeaningful D (json.object (json.member k j js)) → (d : Data) × (kept j ≡ Some d)
   kept_first k j js u means =
       let o = object_means (json.member k j js) u means in
-      let a = split_kept (member k) (kept j) (as_they_stand js) o.0 o.2 in (a.0, a.2)
+      let a = split_kept (member k) (kept j) (members_as_given js) o.0 o.2 in (a.0, a.2)
 
   -- ---- documents
 
@@ -122,35 +122,35 @@ module _ (D : Doubles) where
   and_false true c h = cc
   and_false false c h = refl
 
-  begins_scope : (b : Bool) (k l : List ℕ) (d e : Data) (v : Value) → bytes_eq k (codes "$scope") ≡ b
+  begins_with_scope : (b : Bool) (k l : List ℕ) (d e : Data) (v : Value) → bytes_eq k (codes "$scope") ≡ b
       → bytes_eq k (codes "$code") ≡ false → (bytes_eq k (codes "$scope") && bytes_eq l (codes "$code")) ≡ false
       → cond b (code_at l (tree_sorted_by_key e) k (scope_in_order D d)) (code_at k (tree_sorted_by_key d) l (scope_in_order D e)) ≡ Ok v → ⊥
-  begins_scope true k l d e v is plain first means =
+  begins_with_scope true k l d e v is plain first means =
       never_code (bytes_eq l (codes "$code")) (bytes_eq k (codes "$scope")) _ v
       (turned_and (bytes_eq l (codes "$code")) (bytes_eq k (codes "$scope")) first) means
-  begins_scope false k l d e v is plain first means =
+  begins_with_scope false k l d e v is plain first means =
       never_code (bytes_eq k (codes "$code")) (bytes_eq l (codes "$scope")) _ v
       (and_false (bytes_eq k (codes "$code")) (bytes_eq l (codes "$scope")) plain) means
 
   second_key : (k l : List ℕ) (j : json.Json) (js : json.Members) (e : Data) (ts : Members)
-      → as_they_stand js ≡ Some (member l e ts) → scope_first (json.member k j js) ≡ false
+      → members_as_given js ≡ Some (member l e ts) → has_scope_before_code (json.member k j js) ≡ false
       → (bytes_eq k (codes "$scope") && bytes_eq l (codes "$code")) ≡ false
   second_key k l j json.no_members e ts is first =
       let same = same_Some no_members (member l e ts) is in cc
   second_key k l j (json.member m i js) e ts is first =
-      let a = split_kept (member m) (kept i) (as_they_stand js) (member l e ts) is in
+      let a = split_kept (member m) (kept i) (members_as_given js) (member l e ts) is in
       let same : l ≡ m = cc in
       subst (λ x. (bytes_eq k (codes "$scope") && bytes_eq x (codes "$code")) ≡ false) (sym same) first
 
   no_wrapper : (k : List ℕ) (j : json.Json) (js : json.Members) (d : Data) (ts : Members) (v : Value)
-      → as_they_stand js ≡ Some ts → wrapper_of k ≡ None → scope_first (json.member k j js) ≡ false
+      → members_as_given js ≡ Some ts → wrapper_of k ≡ None → has_scope_before_code (json.member k j js) ≡ false
       → wrapper_in_order D (member k d ts) ≡ Ok v → ⊥
   no_wrapper k j js d no_members v is plain first means =
       let never : scalar_value (optional_wrapper_read_in D None (tree_sorted_by_key d)) ≡ Ok v =
       subst (λ w. scalar_value (optional_wrapper_read_in D w (tree_sorted_by_key d)) ≡ Ok v) plain means in
       cc
   no_wrapper k j js d (member l e no_members) v is plain first means =
-      begins_scope (bytes_eq k (codes "$scope")) k l d e v refl (no_code k plain)
+      begins_with_scope (bytes_eq k (codes "$scope")) k l d e v refl (no_code k plain)
       (second_key k l j js e no_members is first) means
   no_wrapper k j js d (member l e (member m f ts)) v is plain first means = let never : Err wrong_shape ≡ Ok v = means in cc
 
@@ -164,14 +164,14 @@ module _ (D : Doubles) where
   -- an object whose first key is no wrapper's, and which is no scope before its code, is a document
   pub document_some : (first : Option (List ℕ)) (ms : json.Members) → FirstKey first ms
       → ((k : List ℕ) → first ≡ Some k → wrapper_of k ≡ None) → Once ms → IsMeaningful D (json.object ms)
-      → MembersMeanSome D true ms
+      → MembersAreMeaningful D true ms
   document_some None ms is plain u means =
-      subst (MembersMeanSome D true) (sym is) (tt, no_members, model.no_pairs, refl, refl, λ yes. refl)
+      subst (MembersAreMeaningful D true) (sym is) (tt, no_members, model.no_pairs, refl, refl, λ yes. refl)
   document_some (Some k) ms (j, js, is) plain u means =
       let ordinary = plain k refl in
-      let free = subst (λ x. MembersCodeFirst x × (scope_first x ≡ false)) is (means.0.1, means.0.0) in
+      let free = subst (λ x. MembersCodeBeforeScope x × (has_scope_before_code x ≡ false)) is (means.0.1, means.0.0) in
       let o = object_means ms u means in
-      let a = split_kept (member k) (kept j) (as_they_stand js) o.0 (subst (λ x. as_they_stand x ≡ Some o.0) is o.2) in
+      let a = split_kept (member k) (kept j) (members_as_given js) o.0 (subst (λ x. members_as_given x ≡ Some o.0) is o.2) in
       let read = subst (λ x. reads_in_order D (object x) ≡ Ok o.1) a.4 o.3 in
       let g = plain_at (has_wrapper (member k a.0 a.1)) (member k a.0 a.1) o.1 refl
       (no_wrapper k j js a.0 a.1 o.1 a.3 ordinary free.1) read in (
@@ -188,11 +188,11 @@ module _ (D : Doubles) where
   -- an object that begins with a wrapper's key is one
   wrapper_means : (k : List ℕ) (w : Wrapper) (j : json.Json) (js : json.Members) → wrapper_of k ≡ Some w
       → Once (json.member k j js) → IsMeaningful D (json.object (json.member k j js))
-      → (d : Data) × (ts : Members) × (v : Value) × (kept j ≡ Some d) × (as_they_stand js ≡ Some ts)
+      → (d : Data) × (ts : Members) × (v : Value) × (kept j ≡ Some d) × (members_as_given js ≡ Some ts)
       × (wrapper_in_order D (member k d ts) ≡ Ok v)
   wrapper_means k w j js named u means =
       let o = object_means (json.member k j js) u means in
-      let a = split_kept (member k) (kept j) (as_they_stand js) o.0 o.2 in
+      let a = split_kept (member k) (kept j) (members_as_given js) o.0 o.2 in
       let read = subst (λ x. reads_in_order D (object x) ≡ Ok o.1) a.4 o.3 in
       let is : has_wrapper (member k a.0 a.1) ≡ true = ap (λ x. is_some x || has_wrapper a.1) named in (
         a.0,
@@ -253,13 +253,13 @@ module _ (D : Doubles) where
     pub pairs : Option Pairs
     pub scope_read : scope_in_order D scope ≡ Ok pairs
 
-  no_more : (ms : json.Members) → as_they_stand ms ≡ Some no_members → ms ≡ json.no_members
+  no_more : (ms : json.Members) → members_as_given ms ≡ Some no_members → ms ≡ json.no_members
   no_more json.no_members is = refl
   no_more (json.member k j ms) is =
-      let a = split_kept (member k) (kept j) (as_they_stand ms) no_members is in let never = a.4 in cc
+      let a = split_kept (member k) (kept j) (members_as_given ms) no_members is in let never = a.4 in cc
 
   coded_at : (k l : List ℕ) (w : Wrapper) (j i : json.Json) (ms : json.Members) (d e : Data) (us : Members) (v : Value)
-      → wrapper_of k ≡ Some w → kept j ≡ Some d → kept i ≡ Some e → as_they_stand ms ≡ Some us
+      → wrapper_of k ≡ Some w → kept j ≡ Some d → kept i ≡ Some e → members_as_given ms ≡ Some us
       → wrapper_in_order D (member k d (member l e us)) ≡ Ok v → Coded k l j i ms
   coded_at k l w j i ms d e no_members v named is held more read =
       let two = two_at k l d e v (no_scope k w named) read in
@@ -285,6 +285,6 @@ module _ (D : Doubles) where
       → Coded k l j i ms
   two_means k l w j i ms named u means =
       let g = wrapper_means k w j (json.member l i ms) named u means in
-      let a = split_kept (member l) (kept i) (as_they_stand ms) g.1 g.4 in
+      let a = split_kept (member l) (kept i) (members_as_given ms) g.1 g.4 in
       let read = subst (λ ts. wrapper_in_order D (member k g.0 ts) ≡ Ok g.2) a.4 g.5 in
       coded_at k l w j i ms g.0 a.0 a.1 g.2 named g.3 a.2 a.3 read

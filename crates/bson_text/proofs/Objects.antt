@@ -13,7 +13,7 @@ use Rattle.bson_scalar.specs.declared.wrapper.Wrapper.{Wrapper}
 use Rattle.bson_model.specs.OrderedTrees.{kept, kept_items, kept_members, tree_sorted_by_key}
 use Rattle.bson_model.proofs.OfferedInOrder.{forgotten}
 use Rattle.bson_tokens.proofs.Offered.{was_read}
-use Rattle.bson_text.specs.Walked.{kept_object, inside, from_key}
+use Rattle.bson_text.specs.TraversalResults.{kept_object, members_inside, members_after_key}
 
 abbrev pub Key : Type 0
 Key = Bor (List ℕ)
@@ -58,14 +58,14 @@ begun_at p None s = refl
 begun_at p (Some k) s = refl
 
 pub begins : (depth : ℕ) (k : Option (List ℕ)) (ts s : List Token) → read_key ts ≡ Some (k, s)
-    → inside depth ts ≡ from_key depth k s
-begins depth k ts s h = ap (inside depth) (read_key_is ts k s h) ∙ begun_at (value depth) k s
+    → members_inside depth ts ≡ members_after_key depth k s
+begins depth k ts s h = ap (members_inside depth) (read_key_is ts k s h) ∙ begun_at (value depth) k s
 
--- a key that is not misplaced
-pub placed : (b : Bool) (o : Option Wrapper) → (b && is_some o) ≡ false → b ≡ true → o ≡ None
-placed true None h is = refl
-placed true (Some w) h is = cc
-placed false o h is = cc
+-- a key that is not misplaced_wrapper
+pub located : (b : Bool) (o : Option Wrapper) → (b && is_some o) ≡ false → b ≡ true → o ≡ None
+located true None h is = refl
+located true (Some w) h is = cc
+located false o h is = cc
 
 -- ---- a whole object
 
@@ -103,7 +103,7 @@ kept_from j held h = mapped tree_sorted_by_key (kept j) held (sym (forgotten j) 
 
 pub alone : (depth : ℕ) (k : List ℕ) (ts r s : List Token) (j : json.Json) → length r < length ts
     → value depth ts ≡ Some (j, r) → read_key r ≡ Some (None, s)
-    → from_key depth (Some k) ts ≡ Some (json.member k j json.no_members, s)
+    → members_after_key depth (Some k) ts ≡ Some (json.member k j json.no_members, s)
 alone depth k ts r s j less read ended =
     ap (option_and_then (λ q. parse_map (json.member k q.0) (members (value depth) (length ts) q.1))) read
     ∙ ap (parse_map (json.member k j)) (members_end (value depth) (length ts) r s (omega (arith, less)) ended)
@@ -112,7 +112,7 @@ alone depth k ts r s j less read ended =
 pub two : (depth : ℕ) (k l : List ℕ) (ts r q end rest : List Token) (j i : json.Json) → length r < length ts
     → value depth ts ≡ Some (j, r) → read_key r ≡ Some (Some l, q) → value depth q ≡ Some (i, end)
     → length end < length q → read_key end ≡ Some (None, rest)
-    → from_key depth (Some k) ts ≡ Some (json.member k j (json.member l i json.no_members), rest)
+    → members_after_key depth (Some k) ts ≡ Some (json.member k j (json.member l i json.no_members), rest)
 two depth k l ts r q end rest j i less read named other fewer ended =
     let n = length ts in
     let shorter = read_key-shorter r (Some l) q named in

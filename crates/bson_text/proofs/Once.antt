@@ -4,7 +4,7 @@ use Rattle.std.proofs.lemmas.Bool.{or_parts}
 use Rattle.json.specs.Strict.{AreDistinct}
 use Rattle.bson_model.specs.Value.{Value, Pairs, no_pairs, pair}
 use Rattle.bson_model.proofs.OfferedInOrder.{turned}
-use Rattle.bson_text.specs.Walked.{keys_of, set_pair, set_each, each_key_once}
+use Rattle.bson_text.specs.TraversalResults.{keys_of, with_pair_set, with_pairs_set, each_key_once}
 use Rattle.bson_text.proofs.Differ.{stands, Differ, differ}
 
 -- pairs behind others
@@ -29,17 +29,17 @@ apart_from l (pair a w found) k v ps h =
 
 -- a new key goes last
 set_last : (found : Pairs) (k : List ℕ) (v : Value) (ps : Pairs) → Differ (keys_of (joined found (pair k v ps)))
-    → set_pair k v found ≡ joined found (pair k v no_pairs)
+    → with_pair_set k v found ≡ joined found (pair k v no_pairs)
 set_last no_pairs k v ps h = refl
 set_last (pair l w found) k v ps h =
     let apart : bytes_eq k l ≡ false = turned l k (apart_from l found k v ps h.0) in
     rw apart (ap (pair l w) (set_last found k v ps h.1))
 
-set_in_turn : (ps found : Pairs) → Differ (keys_of (joined found ps)) → set_each ps found ≡ joined found ps
+set_in_turn : (ps found : Pairs) → Differ (keys_of (joined found ps)) → with_pairs_set ps found ≡ joined found ps
 set_in_turn no_pairs found h = sym (joined_none found)
 set_in_turn (pair k v ps) found h =
     let again = joined_again found k v ps in
-    ap (set_each ps) (set_last found k v ps h)
+    ap (with_pairs_set ps) (set_last found k v ps h)
     ∙ set_in_turn ps (joined found (pair k v no_pairs)) (subst (λ qs. Differ (keys_of qs)) (sym again) h) ∙ again
 
 pub once_is : (ps : Pairs) → AreDistinct (keys_of ps) → each_key_once ps ≡ ps

@@ -22,7 +22,7 @@ use Rattle.bson_scalar.specs.declared.wrapper.Wrapper.{Wrapper}
 use Rattle.bson_model.specs.OrderedTrees.{kept, tree_sorted_by_key}
 use Rattle.bson_tokens.specs.WrapperContent.{IsWrapperContent}
 use Rattle.bson_tokens.proofs.Offered.{was_read as from_tree}
-use Rattle.bson_text.specs.Walked.{from_key}
+use Rattle.bson_text.specs.TraversalResults.{members_after_key}
 use Rattle.bson_text.proofs.Objects.{kept_from}
 use Rattle.bson_text.proofs.Denials.{then_parsed}
 use Rattle.bson_text.proofs.ObjectDenials.{FirstKey}
@@ -34,7 +34,7 @@ same_parse {A} o a b r s h g =
     (ap (λ p. p.0) same, ap (λ p. p.1) same)
 
 pub first_parsed : (depth : ℕ) (first : Option (List ℕ)) (s r : List Token) (ms : json.Members)
-    → from_key depth first s ≡ Some (ms, r) → FirstKey first ms
+    → members_after_key depth first s ≡ Some (ms, r) → FirstKey first ms
 first_parsed depth None s r ms is =
     let same : (json.no_members, s) ≡ (ms, r) = same_Some {A = json.Members × List Token} (json.no_members, s) (ms, r) is in
     sym (ap (λ p. p.0) same)

@@ -7,9 +7,9 @@ use Rattle.json.specs.Json.{Parse, parse_map, after_end_array, read_key, items, 
 use Rattle.json.specs.Token.{Token}
 use Rattle.bson_scalar.specs.Table.{wrapper_of}
 use Rattle.bson_tree.specs.declared.place.Place.{Place}
-use Rattle.bson_text.specs.Placed.{any_wrapper, At}
-use Rattle.bson_text.specs.declared.stop.Stop.{Stop}
-use Rattle.bson_text.specs.declared.stop.Stop.TheVariants as stop
+use Rattle.bson_text.specs.ErrorPaths.{has_wrapper_key, IfFault}
+use Rattle.bson_text.specs.declared.traversal_error.TraversalError.{TraversalError}
+use Rattle.bson_text.specs.declared.traversal_error.TraversalError.TheVariants as failure
 
 mapped_parse : {A B : Type 0} (f : A → B) (o : Option (A × List Token)) (b : B) (r : List Token)
     → parse_map f o ≡ Some (b, r) → (a : A) × (o ≡ Some (a, r)) × (b ≡ f a)
@@ -50,23 +50,23 @@ module _ (p : Parse json.Json) where
   pub member_on : (m : ℕ) (k : List ℕ) (ts s mid r : List Token) (ks : json.Members) → read_key ts ≡ Some (Some k, s)
       → option_map (λ q. q.1) (p s) ≡ Some mid → members p m ts ≡ Some (ks, r)
       → (n : ℕ) × (js : json.Members) × (members p n mid ≡ Some (js, r))
-      × (any_wrapper ks ≡ (is_some (wrapper_of k) || any_wrapper js))
+      × (has_wrapper_key ks ≡ (is_some (wrapper_of k) || has_wrapper_key js))
   unfolding members
   member_on zero k ts s mid r ks named skip is = cc
   member_on (suc m) k ts s mid r ks named skip is =
       let here = sym (ap (option_and_then (λ q. members_step p (members p m) q.0 q.1)) named) ∙ is in
       let g = then_parsed (json.member k) (members p m) (p s) ks r mid here skip in
-      (m, g.1, g.2, ap any_wrapper g.3)
+      (m, g.1, g.2, ap has_wrapper_key g.3)
 
   pub members_off : (m : ℕ) (ts rest r : List Token) (ks : json.Members) → read_key ts ≡ Some (None, rest)
-      → members p m ts ≡ Some (ks, r) → (rest ≡ r) × (any_wrapper ks ≡ false)
+      → members p m ts ≡ Some (ks, r) → (rest ≡ r) × (has_wrapper_key ks ≡ false)
   unfolding members
   members_off zero ts rest r ks ended is = cc
   members_off (suc m) ts rest r ks ended is =
       let here : Some (json.no_members, rest) ≡ Some (ks, r) =
       sym (ap (option_and_then (λ q. members_step p (members p m) q.0 q.1)) ended) ∙ is in
       let same : (json.no_members, rest) ≡ (ks, r) = same_Some {A = json.Members × List Token} (json.no_members, rest) (ks, r) here in
-      (ap (λ q. q.1) same, ap (λ q. any_wrapper q.0) (sym same))
+      (ap (λ q. q.1) same, ap (λ q. has_wrapper_key q.0) (sym same))
 
 -- of both
 pub or_again : (a b c d e : Bool) → d ≡ (a || e) → e ≡ (b || c) → d ≡ ((a || b) || c)
@@ -85,9 +85,9 @@ step_on p n l ts mid r ms is skip =
     let g = then_parsed (json.member l) (members p n) (p ts) ms r mid is skip in (g.1, g.2)
 
 -- what holds of the place at a fault has what follows from it
-pub at_map : (e : Stop) (P Q : Place → Type 0) → ((p : Place) → P p → Q p) → At e P → At e Q
-at_map stop.OutOfMemory P Q f h = tt
-at_map stop.DuplicateKey P Q f h = tt
-at_map stop.GaveUp P Q f h = tt
-at_map stop.Syntax P Q f h = tt
-at_map (stop.Fault p) P Q f h = f p.value h
+pub at_map : (e : TraversalError) (P Q : Place → Type 0) → ((p : Place) → P p → Q p) → IfFault e P → IfFault e Q
+at_map failure.OutOfMemory P Q f h = tt
+at_map failure.DuplicateKey P Q f h = tt
+at_map failure.GaveUp P Q f h = tt
+at_map failure.Syntax P Q f h = tt
+at_map (failure.Fault p) P Q f h = f p.value h

@@ -9,9 +9,9 @@ use Rattle.std.proofs.lemmas.Slice.Eq.{bytes_eq-Decides}
 use Rattle.std.specs.List.{All, filter, range_with_len}
 use Rattle.std.specs.List.Sorted.{IsPermutation}
 use Rattle.bson_model.specs.StableOrder.{have_equal_keys, IsStableByKey}
-use Rattle.bson_text.specs.MemberSpans.{span_key, end_before, spans_from, no_span, span_or, key_or, picked, has_first}
-use Rattle.bson_text.specs.MemberSpans.{stands_again, ArePlacesByKey, InOrder, IsJoinedText}
-use Rattle.bson_text.specs.declared.spans.MemberSpan.{MemberSpan}
+use Rattle.bson_text.specs.MemberSpans.{span_key, end_before_next, spans_from, no_span, span_or, key_or, spans_at, first_has_key}
+use Rattle.bson_text.specs.MemberSpans.{next_has_key, AreIndexesByKey, IsSortedObject, IsJoinedText}
+use Rattle.bson_text.specs.declared.member_spans.MemberSpan.{MemberSpan}
 
 abbrev pub Key : Type 0
 Key = Bor (List ℕ)
@@ -21,46 +21,46 @@ no_key = record { ref_ptr = (0, 0); now = [] }
 
 -- ---- the piece at a place
 
-pub spans_long : (ks : List Key) (starts : List ℕ) (end : ℕ) → length ks ≡ length starts
-    → length (spans_from ks starts end) ≡ length ks
-spans_long [] starts end paired = refl
+pub spans_long : (ks : List Key) (member_starts : List ℕ) (end : ℕ) → length ks ≡ length member_starts
+    → length (spans_from ks member_starts end) ≡ length ks
+spans_long [] member_starts end paired = refl
 spans_long (k ∷ ks) [] end paired = cc
-spans_long (k ∷ ks) (s ∷ starts) end paired = ap suc (spans_long ks starts end (omega (arith, paired)))
+spans_long (k ∷ ks) (s ∷ member_starts) end paired = ap suc (spans_long ks member_starts end (omega (arith, paired)))
 
-pub key_there : (ks : List Key) (starts : List ℕ) (end n : ℕ) → length ks ≡ length starts
-    → span_key (span_or (spans_from ks starts end) n) ≡ key_or ks n
-key_there [] starts end n paired = refl
+pub key_there : (ks : List Key) (member_starts : List ℕ) (end n : ℕ) → length ks ≡ length member_starts
+    → span_key (span_or (spans_from ks member_starts end) n) ≡ key_or ks n
+key_there [] member_starts end n paired = refl
 key_there (k ∷ ks) [] end n paired = cc
-key_there (k ∷ ks) (s ∷ starts) end zero paired = refl
-key_there (k ∷ ks) (s ∷ starts) end (suc n) paired = key_there ks starts end n (omega (arith, paired))
+key_there (k ∷ ks) (s ∷ member_starts) end zero paired = refl
+key_there (k ∷ ks) (s ∷ member_starts) end (suc n) paired = key_there ks member_starts end n (omega (arith, paired))
 
-pub span_there : (ks : List Key) (starts : List ℕ) (end n : ℕ) → length ks ≡ length starts → n < length ks
-    → span_or (spans_from ks starts end) n
-    ≡ record { key = get_or ks n no_key; start = get_or starts n 0; end = end_before (drop (suc n) starts) end }
-span_there [] starts end n paired within = absurd (omega (arith, within))
+pub span_there : (ks : List Key) (member_starts : List ℕ) (end n : ℕ) → length ks ≡ length member_starts → n < length ks
+    → span_or (spans_from ks member_starts end) n
+    ≡ record { key = get_or ks n no_key; start = get_or member_starts n 0; end = end_before_next (drop (suc n) member_starts) end }
+span_there [] member_starts end n paired within = absurd (omega (arith, within))
 span_there (k ∷ ks) [] end n paired within = cc
-span_there (k ∷ ks) (s ∷ starts) end zero paired within = refl
-span_there (k ∷ ks) (s ∷ starts) end (suc n) paired within =
-    span_there ks starts end n (omega (arith, paired)) (omega (arith, within))
+span_there (k ∷ ks) (s ∷ member_starts) end zero paired within = refl
+span_there (k ∷ ks) (s ∷ member_starts) end (suc n) paired within =
+    span_there ks member_starts end n (omega (arith, paired)) (omega (arith, within))
 
-pub next_there : (ks : List Key) (starts : List ℕ) (end : ℕ) (k : List ℕ) (places : List ℕ)
-    → length ks ≡ length starts → has_first ks k places ≡ stands_again k (picked (spans_from ks starts end) places)
-next_there ks starts end k [] paired = refl
-next_there ks starts end k (n ∷ places) paired = ap (λ l. bytes_eq l k) (sym (key_there ks starts end n paired))
+pub next_there : (ks : List Key) (member_starts : List ℕ) (end : ℕ) (k : List ℕ) (places : List ℕ)
+    → length ks ≡ length member_starts → first_has_key ks k places ≡ next_has_key k (spans_at (spans_from ks member_starts end) places)
+next_there ks member_starts end k [] paired = refl
+next_there ks member_starts end k (n ∷ places) paired = ap (λ l. bytes_eq l k) (sym (key_there ks member_starts end n paired))
 
 pub next_first : (ks : List Key) (k places : List ℕ) (at n : ℕ) → suc at < length places
-    → n ≡ get_or places (suc at) n → bytes_eq (key_or ks n) k ≡ has_first ks k (drop (suc at) places)
+    → n ≡ get_or places (suc at) n → bytes_eq (key_or ks n) k ≡ first_has_key ks k (drop (suc at) places)
 next_first ks k places at n within is =
-    sym (ap (has_first ks k) (drop-cons places (suc at) n within
+    sym (ap (first_has_key ks k) (drop-cons places (suc at) n within
     ∙ ap (λ m. m ∷ drop (suc (suc at)) places) (sym is)))
 
 -- the piece at the next place, and those behind it
 pub next_picked : (ps : List MemberSpan) (places : List ℕ) (at n : ℕ) (p : MemberSpan) → at < length places
-    → n ≡ get_or places at n → p ≡ span_or ps n → picked ps (drop at places) ≡ p ∷ picked ps (drop (suc at) places)
+    → n ≡ get_or places at n → p ≡ span_or ps n → spans_at ps (drop at places) ≡ p ∷ spans_at ps (drop (suc at) places)
 next_picked ps places at n p within is span =
     let rest = drop (suc at) places in
-    ap (picked ps) (drop-cons places at n within ∙ ap (λ m. m ∷ rest) (sym is))
-    ∙ ap (λ q. q ∷ picked ps rest) (sym span)
+    ap (spans_at ps) (drop-cons places at n within ∙ ap (λ m. m ∷ rest) (sym is))
+    ∙ ap (λ q. q ∷ spans_at ps rest) (sym span)
 
 pub place_below : (ks : List Key) (places : List ℕ) (at n : ℕ) → at < length places → n ≡ get_or places at n
     → All (λ m. m < length ks) places → n < length ks
@@ -133,35 +133,35 @@ below first (suc n) most h =
     All-cons (λ i. i < most) first (range_with_len (first + 1) n) (omega (arith, h))
     (below (first + 1) n most (omega (arith, h)))
 
-pub all_below : (ks : List Key) (places : List ℕ) → ArePlacesByKey ks places → All (λ n. n < length ks) places
-all_below ks places placed =
+pub all_below : (ks : List Key) (places : List ℕ) → AreIndexesByKey ks places → All (λ n. n < length ks) places
+all_below ks places located =
     let all = range_with_len 0 (length ks) in
-    All-permutation (λ n. n < length ks) all places placed.0 (below 0 (length ks) (length ks) (omega arith))
+    All-permutation (λ n. n < length ks) all places located.0 (below 0 (length ks) (length ks) (omega arith))
 
-pub placed_first : (ks : List Key) (places : List ℕ) → places ≡ range_with_len 0 (length ks) → ArePlacesByKey ks places
+pub placed_first : (ks : List Key) (places : List ℕ) → places ≡ range_with_len 0 (length ks) → AreIndexesByKey ks places
 placed_first ks places is =
-    subst (ArePlacesByKey ks) (sym is) (IsPermutation-refl (range_with_len 0 (length ks)), λ n. refl)
+    subst (AreIndexesByKey ks) (sym is) (IsPermutation-refl (range_with_len 0 (length ks)), λ n. refl)
 
 pub placed_again : (ks : List Key) (old new : List ℕ) → IsStableByKey (key_or ks) old new → IsPermutation old new
-    → ArePlacesByKey ks old → ArePlacesByKey ks new
-placed_again ks old new stable same placed =
-    (IsPermutation-trans (range_with_len 0 (length ks)) old new placed.0 same, λ n. stable n ∙ placed.1 n)
+    → AreIndexesByKey ks old → AreIndexesByKey ks new
+placed_again ks old new stable same located =
+    (IsPermutation-trans (range_with_len 0 (length ks)) old new located.0 same, λ n. stable n ∙ located.1 n)
 
 -- pieces that are joined by their places stand in order
-pub placed_in_order : (ks : List Key) (starts : List ℕ) (end : ℕ) (places texts written : List ℕ)
-    → length ks ≡ length starts → ArePlacesByKey ks places → IsJoinedText (picked (spans_from ks starts end) places) texts written
-    → InOrder (spans_from ks starts end) texts written
-placed_in_order ks starts end places texts written paired placed joined =
-    let ps = spans_from ks starts end in
+pub placed_in_order : (ks : List Key) (member_starts : List ℕ) (end : ℕ) (places texts written : List ℕ)
+    → length ks ≡ length member_starts → AreIndexesByKey ks places → IsJoinedText (spans_at (spans_from ks member_starts end) places) texts written
+    → IsSortedObject (spans_from ks member_starts end) texts written
+placed_in_order ks member_starts end places texts written paired located joined =
+    let ps = spans_from ks member_starts end in
     let all = range_with_len 0 (length ks) in
-    let new = picked ps places in
-    let whole : picked ps all ≡ ps =
-    ap (λ n. picked ps (range_with_len 0 n)) (sym (spans_long ks starts end paired))
+    let new = spans_at ps places in
+    let whole : spans_at ps all ≡ ps =
+    ap (λ n. spans_at ps (range_with_len 0 n)) (sym (spans_long ks member_starts end paired))
     ∙ sym (fill_by_all (span_or ps) ps (length ps) no_span refl (λ n h. refl)) in
-    let stable = stable_spans (key_or ks) (span_or ps) (λ n. key_there ks starts end n paired) all places placed.1 in (
+    let stable = stable_spans (key_or ks) (span_or ps) (λ n. key_there ks member_starts end n paired) all places located.1 in (
       new,
       subst (λ qs. IsStableByKey span_key qs new) whole stable,
-      subst (λ qs. IsPermutation qs new) whole (IsPermutation-map (span_or ps) all places placed.0),
+      subst (λ qs. IsPermutation qs new) whole (IsPermutation-map (span_or ps) all places located.0),
       joined.0,
       joined.1,
     )

@@ -18,31 +18,31 @@ use Rattle.bson_model.specs.Value.{Value, Values, no_values, Pairs, no_pairs, pa
 use Rattle.bson_model.specs.OrderedTexts.{HasMeaningInOrder}
 use Rattle.bson_model.specs.OrderedWriting.{writes_in_order, values_in_order, pairs_in_order}
 use Rattle.bson_model.proofs.OfferedInOrder.{has_no_float, written_from, ordered_text}
-use Rattle.bson_text.specs.Filtered.{IsFilteredText}
-use Rattle.bson_text.specs.TextWritten.{TokensWritten, ValueTokensWritten, PairTokensWritten}
-use Rattle.bson_text.specs.Walked.{ItemsWritten, PairsWritten}
-use Rattle.bson_text.specs.declared.text.TextWriter.{TextWriter}
+use Rattle.bson_text.specs.OutputTexts.{IsFilteredText}
+use Rattle.bson_text.specs.TextOutput.{HasTokensAdded, HasValueTokens, HasPairTokens}
+use Rattle.bson_text.specs.TraversalResults.{ItemsWritten, PairsWritten}
+use Rattle.bson_text.specs.declared.text_writer.TextWriter.{TextWriter}
 
 abbrev pub with_out : TextWriter → Writer Global → TextWriter
 with_out w out = record { alloc = w.alloc; doubles = w.doubles; form = w.form; out = out }
 
 -- tokens and then others
-joined : (a b c : TextWriter) (xs ys : List Token) → TokensWritten a xs b → TokensWritten b ys c → TokensWritten a (xs ++ ys) c
+joined : (a b c : TextWriter) (xs ys : List Token) → HasTokensAdded a xs b → HasTokensAdded b ys c → HasTokensAdded a (xs ++ ys) c
 joined a b c xs ys (d, f, old, is) (e, g, older, more) =
     (e ∙ d, g ∙ f, older ∙ old, more ∙ ap (λ ts. ts ++ ys) is ∙ append_assoc a.out.tokens xs ys)
 
 -- what holds in the mode and form of a later state
-at_first : (a b : TextWriter) (xs : List Token) (Holds : Doubles → Form → Type 0) → TokensWritten a xs b
+at_first : (a b : TextWriter) (xs : List Token) (Holds : Doubles → Form → Type 0) → HasTokensAdded a xs b
     → Holds b.doubles b.form → Holds a.doubles a.form
 at_first a b xs Holds (mode, form, old, is) h = subst (λ D. Holds D a.form) mode (subst (Holds b.doubles) form h)
 
 -- ---- arrays
 
 items_sent : (n : ℕ) (vs : Values) (old now new : TextWriter)
-    → ItemsWritten (λ a k v b. ValueTokensWritten a v b) (λ i. []) n vs old now → TokensWritten now (token.end_array ∷ []) new
-    → (us : Items) × (values_in_order old.doubles old.form vs ≡ Ok us) × TokensWritten old (items_tokens (json_of_items us)) new
+    → ItemsWritten (λ a k v b. HasValueTokens a v b) (λ i. []) n vs old now → HasTokensAdded now (token.end_array ∷ []) new
+    → (us : Items) × (values_in_order old.doubles old.form vs ≡ Ok us) × HasTokensAdded old (items_tokens (json_of_items us)) new
 items_sent n no_values old now new is ended =
-    (no_items, refl, subst (λ a. TokensWritten a (token.end_array ∷ []) new) (sym is) ended)
+    (no_items, refl, subst (λ a. HasTokensAdded a (token.end_array ∷ []) new) (sym is) ended)
 items_sent n (model.value v vs) old now new (mid, (u, w, sent), more) ended =
     let rest = items_sent (n + 1) vs mid now new more ended in (
       item u rest.0,
@@ -50,9 +50,9 @@ items_sent n (model.value v vs) old now new (mid, (u, w, sent), more) ended =
       joined old mid new (tokens_of u) (items_tokens (json_of_items rest.0)) sent rest.2,
     )
 
-pub array_sent : (vs : Values) (old mark now new : TextWriter) → TokensWritten old (token.begin_array ∷ []) mark
-    → ItemsWritten (λ a k v b. ValueTokensWritten a v b) (λ i. []) 0 vs mark now → TokensWritten now (token.end_array ∷ []) new
-    → ValueTokensWritten old (model.array vs) new
+pub array_sent : (vs : Values) (old mark now new : TextWriter) → HasTokensAdded old (token.begin_array ∷ []) mark
+    → ItemsWritten (λ a k v b. HasValueTokens a v b) (λ i. []) 0 vs mark now → HasTokensAdded now (token.end_array ∷ []) new
+    → HasValueTokens old (model.array vs) new
 array_sent vs old mark now new begin written ended =
     let rest = items_sent 0 vs mark now new written ended in (
       array rest.0,
@@ -63,14 +63,14 @@ array_sent vs old mark now new begin written ended =
 -- ---- documents
 
 pairs_sent : (ps : Pairs) (old now new : TextWriter)
-    → PairsWritten (λ a k v b. ValueTokensWritten a v b) (λ a k b. TokensWritten a (token.key k ∷ []) b) ps old now
-    → TokensWritten now (token.end_object ∷ []) new
-    → (us : Members) × (pairs_in_order old.doubles old.form ps ≡ Ok us) × TokensWritten old (members_tokens (json_of_members us)) new
+    → PairsWritten (λ a k v b. HasValueTokens a v b) (λ a k b. HasTokensAdded a (token.key k ∷ []) b) ps old now
+    → HasTokensAdded now (token.end_object ∷ []) new
+    → (us : Members) × (pairs_in_order old.doubles old.form ps ≡ Ok us) × HasTokensAdded old (members_tokens (json_of_members us)) new
 pairs_sent no_pairs old now new is ended =
-    (no_members, refl, subst (λ a. TokensWritten a (token.end_object ∷ []) new) (sym is) ended)
+    (no_members, refl, subst (λ a. HasTokensAdded a (token.end_object ∷ []) new) (sym is) ended)
 pairs_sent (pair k v ps) old now new (named, mid, key, (u, w, sent), more) ended =
     let rest = pairs_sent ps mid now new more ended in
-    let both : TokensWritten old (token.key k ∷ tokens_of u) mid = joined old named mid (token.key k ∷ []) (tokens_of u) key sent in (
+    let both : HasTokensAdded old (token.key k ∷ tokens_of u) mid = joined old named mid (token.key k ∷ []) (tokens_of u) key sent in (
       member k u rest.0,
       rw (
         at_first old named (token.key k ∷ []) (λ D f. writes_in_order D f v ≡ Ok u) key w,
@@ -79,9 +79,9 @@ pairs_sent (pair k v ps) old now new (named, mid, key, (u, w, sent), more) ended
       joined old mid new (token.key k ∷ tokens_of u) (members_tokens (json_of_members rest.0)) both rest.2,
     )
 
-pub document_sent : (ps : Pairs) (old mark now new : TextWriter) → TokensWritten old (token.begin_object ∷ []) mark
-    → PairsWritten (λ a k v b. ValueTokensWritten a v b) (λ a k b. TokensWritten a (token.key k ∷ []) b) ps mark now
-    → TokensWritten now (token.end_object ∷ []) new → PairTokensWritten old ps new
+pub document_sent : (ps : Pairs) (old mark now new : TextWriter) → HasTokensAdded old (token.begin_object ∷ []) mark
+    → PairsWritten (λ a k v b. HasValueTokens a v b) (λ a k b. HasTokensAdded a (token.key k ∷ []) b) ps mark now
+    → HasTokensAdded now (token.end_object ∷ []) new → HasPairTokens old ps new
 document_sent ps old mark now new begin written ended =
     let rest = pairs_sent ps mark now new written ended in (
       rest.0,
@@ -89,11 +89,11 @@ document_sent ps old mark now new begin written ended =
       joined old mark new (token.begin_object ∷ []) (members_tokens (json_of_members rest.0)) begin rest.2,
     )
 
-pub embedded : (ps : Pairs) (old new : TextWriter) → PairTokensWritten old ps new → ValueTokensWritten old (document ps) new
+pub embedded : (ps : Pairs) (old new : TextWriter) → HasPairTokens old ps new → HasValueTokens old (document ps) new
 embedded ps old new (us, w, sent) = (object us, rw w refl, sent)
 
-pub code_sent : (s : List ℕ) (ps : Pairs) (old mark now new : TextWriter) → TokensWritten old (code_tokens s) mark
-    → PairTokensWritten mark ps now → TokensWritten now (token.end_object ∷ []) new → ValueTokensWritten old (code_scope s ps) new
+pub code_sent : (s : List ℕ) (ps : Pairs) (old mark now new : TextWriter) → HasTokensAdded old (code_tokens s) mark
+    → HasPairTokens mark ps now → HasTokensAdded now (token.end_object ∷ []) new → HasValueTokens old (code_scope s ps) new
 code_sent s ps old mark now new begin (us, w, sent) ended = (
   with_scope s us,
   rw (at_first old mark (code_tokens s) (λ D f. pairs_in_order D f ps ≡ Ok us) begin w) refl,
@@ -104,7 +104,7 @@ code_sent s ps old mark now new begin (us, w, sent) ended = (
 -- ---- a whole text
 
 pub text_sent : (D : Doubles) (f : Form) (text written : List ℕ) (old new : TextWriter)
-    → (v : Value) × HasMeaningInOrder D text v × ValueTokensWritten old v new → old.doubles ≡ D → old.form ≡ f
+    → (v : Value) × HasMeaningInOrder D text v × HasValueTokens old v new → old.doubles ≡ D → old.form ≡ f
     → old.out.tokens ≡ [] → written ≡ print new.out.tokens → IsFilteredText D f text written
 text_sent D f text written old new (v, meaning, (u, w, (d, g, before, is))) mode form none all =
     let writes : writes_in_order D f v ≡ Ok u =

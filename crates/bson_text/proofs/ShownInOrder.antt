@@ -8,11 +8,11 @@ use Rattle.bson_tokens.specs.declared.arrangement.Arrangement.{Arrangement}
 use Rattle.bson_tokens.specs.declared.arrangement.Arrangement.TheVariants.{FirstPositions}
 use Rattle.bson_model.specs.Displayed.{display_text, entry, entry_texts}
 use Rattle.bson_model.specs.Value.{Pairs, no_pairs, pair, document}
-use Rattle.bson_text.specs.ShownWritten.{member_front, separator_if, closing_brace, pairs_shown, value_shown}
-use Rattle.bson_text.specs.ShownWritten.{DisplayAdded, DisplayBegun, DisplayKeyAdded, DisplayPairsAdded, DisplayValueAdded}
-use Rattle.bson_text.specs.Walked.{PairsWritten, keys_of, each_key_once}
-use Rattle.bson_text.specs.declared.sorted_text.Mark.{Mark}
-use Rattle.bson_text.specs.declared.shown_text.ShownWriter.{ShownWriter}
+use Rattle.bson_text.specs.DisplayOutput.{member_front, separator_if, closing_brace, arranged_pairs, arranged_value}
+use Rattle.bson_text.specs.DisplayOutput.{HasDisplayAdded, HasBegunDisplay, HasDisplayOfKey, HasDisplayOfPairs, HasDisplayOfValue}
+use Rattle.bson_text.specs.TraversalResults.{PairsWritten, keys_of, each_key_once}
+use Rattle.bson_text.specs.declared.sorted_writer.Mark.{Mark}
+use Rattle.bson_text.specs.declared.display_writer.DisplayWriter.{DisplayWriter}
 use Rattle.bson_text.proofs.Once.{once_is}
 use Rattle.bson_text.proofs.ShownMembers.{member_text, same_order}
 use Rattle.bson_text.proofs.ShownTexts.{as_it_is}
@@ -42,34 +42,34 @@ document_shown (pair k v ps) =
     ap (λ l. codes "{ " ++ ((entry k (display_text v) ++ l) ++ codes " }")) (members_after ps)
 
 -- what was written behind another state
-record Behind (ps : Pairs) (old new : ShownWriter) : Type 0 where
-  pub starts : List ℕ
-  pub held : new.starts.items ≡ old.starts.items ++ starts
+record Behind (ps : Pairs) (old new : DisplayWriter) : Type 0 where
+  pub member_starts : List ℕ
+  pub start_count : new.member_starts.items ≡ old.member_starts.items ++ member_starts
   pub text : new.text.items ≡ old.text.items ++ members old.needs_comma ps
   pub needs_comma : new.needs_comma ≡ needs_comma_after old.needs_comma ps
 
-all_written : (ps : Pairs) (old new : ShownWriter) → old.arrangement ≡ FirstPositions
-    → PairsWritten (λ a k v b. DisplayValueAdded a v b) DisplayKeyAdded ps old new → Behind ps old new
+all_written : (ps : Pairs) (old new : DisplayWriter) → old.arrangement ≡ FirstPositions
+    → PairsWritten (λ a k v b. HasDisplayOfValue a v b) HasDisplayOfKey ps old new → Behind ps old new
 all_written no_pairs old new in_order is = record {
-  starts = [];
-  held = ap (λ w. w.starts.items) (sym is) ∙ sym (append-nil old.starts.items);
+  member_starts = [];
+  start_count = ap (λ w. w.member_starts.items) (sym is) ∙ sym (append-nil old.member_starts.items);
   text = ap (λ w. w.text.items) (sym is) ∙ sym (append-nil old.text.items);
   needs_comma = ap (λ w. w.needs_comma) (sym is);
 }
-all_written (pair k v ps) old new in_order (named, mid, keyed, wrote, more) =
-    let rest = all_written ps mid new (wrote.1 ∙ keyed.1 ∙ in_order) more in
+all_written (pair k v ps) old new in_order (named, mid, wrote_key, wrote_value, more) =
+    let rest = all_written ps mid new (wrote_value.1 ∙ wrote_key.1 ∙ in_order) more in
     let own = codes " " ++ entry k (display_text v) in
     record {
-      starts = length (member_front old) ∷ rest.starts;
-      held = rest.held ∙ ap (λ l. l ++ rest.starts) (wrote.2 ∙ keyed.2)
-          ∙ append_assoc old.starts.items (length (member_front old) ∷ []) rest.starts;
-      text = rest.text ∙ ap (λ b. mid.text.items ++ members b ps) wrote.0
-          ∙ ap (λ l. l ++ members true ps) (member_text k v old named mid keyed wrote
-          ∙ ap (λ a. member_front old ++ (codes " " ++ entry k (display_text (value_shown a v)))) in_order
+      member_starts = length (member_front old) ∷ rest.member_starts;
+      start_count = rest.start_count ∙ ap (λ l. l ++ rest.member_starts) (wrote_value.2 ∙ wrote_key.2)
+          ∙ append_assoc old.member_starts.items (length (member_front old) ∷ []) rest.member_starts;
+      text = rest.text ∙ ap (λ b. mid.text.items ++ members b ps) wrote_value.0
+          ∙ ap (λ l. l ++ members true ps) (member_text k v old named mid wrote_key wrote_value
+          ∙ ap (λ a. member_front old ++ (codes " " ++ entry k (display_text (arranged_value a v)))) in_order
           ∙ ap (λ w. member_front old ++ (codes " " ++ entry k (display_text w))) (as_it_is v))
           ∙ append_assoc (member_front old) own (members true ps)
           ∙ append_assoc old.text.items (comma_if old.needs_comma) (own ++ members true ps);
-      needs_comma = rest.needs_comma ∙ ap (λ b. needs_comma_after b ps) wrote.0 ∙ still_behind ps;
+      needs_comma = rest.needs_comma ∙ ap (λ b. needs_comma_after b ps) wrote_value.0 ∙ still_behind ps;
     }
 
 -- the text of the document behind what stood before it
@@ -84,16 +84,16 @@ whole before front mid now new ps mark written ended =
     ∙ ap (λ l. before ++ l) (append_assoc front (codes "{") end ∙ ap (λ l. front ++ l) (document_shown ps))
 
 as_they_came : (a : Arrangement) (ps : Pairs) → a ≡ FirstPositions → AreDistinct (keys_of ps)
-    → ps ≡ pairs_shown a (each_key_once ps)
-as_they_came a ps is apart = sym (ap (λ o. pairs_shown o (each_key_once ps)) is ∙ once_is ps apart)
+    → ps ≡ arranged_pairs a (each_key_once ps)
+as_they_came a ps is apart = sym (ap (λ o. arranged_pairs o (each_key_once ps)) is ∙ once_is ps apart)
 
 -- the document's members, and the brace behind them
-pub document_added : (start mid now kept new : ShownWriter) (mark : Mark) (ps : Pairs) → now.arrangement ≡ FirstPositions
-    → DisplayBegun start mark mid → PairsWritten (λ a k v b. DisplayValueAdded a v b) DisplayKeyAdded ps mid now
+pub document_added : (start mid now kept new : DisplayWriter) (mark : Mark) (ps : Pairs) → now.arrangement ≡ FirstPositions
+    → HasBegunDisplay start mark mid → PairsWritten (λ a k v b. HasDisplayOfValue a v b) HasDisplayOfKey ps mid now
     → AreDistinct (keys_of ps) → kept.text.items ≡ now.text.items → kept.arrangement ≡ now.arrangement
-    → kept.starts.items ≡ take mark.held now.starts.items → DisplayAdded kept (closing_brace now.needs_comma) true new
-    → DisplayPairsAdded start (each_key_once ps) new
-document_added start mid now kept new mark ps in_order (here, held, (off, order, starts, text)) written apart same
+    → kept.member_starts.items ≡ take mark.start_count now.member_starts.items → HasDisplayAdded kept (closing_brace now.needs_comma) true new
+    → HasDisplayOfPairs start (each_key_once ps) new
+document_added start mid now kept new mark ps in_order (here, start_count, (off, order, member_starts, text)) written apart same
     also cut (needs_comma, ordered, left, ended) =
     let first : mid.arrangement ≡ FirstPositions = sym (same_order ps mid now written) ∙ in_order in
     let all = all_written ps mid now first written in
@@ -102,8 +102,8 @@ document_added start mid now kept new mark ps in_order (here, held, (off, order,
       needs_comma,
       ordered ∙ also ∙ same_order ps mid now written ∙ order,
       left ∙ cut
-          ∙ text_before start.starts.items all.starts now.starts.items mark.held
-          (all.held ∙ ap (λ l. l ++ all.starts) starts) held,
+          ∙ text_before start.member_starts.items all.member_starts now.member_starts.items mark.start_count
+          (all.start_count ∙ ap (λ l. l ++ all.member_starts) member_starts) start_count,
       whole start.text.items (separator_if start.needs_comma) mid.text.items now.text.items new.text.items ps text
           (all.text ∙ ap (λ b. mid.text.items ++ members b ps) off)
           (ended ∙ ap (λ l. l ++ closing_brace now.needs_comma) same ∙ ap (λ l. now.text.items ++ l) brace)

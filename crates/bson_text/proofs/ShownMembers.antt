@@ -11,13 +11,13 @@ use Rattle.bson_tokens.specs.declared.arrangement.Arrangement.TheVariants.{Ascen
 use Rattle.bson_model.specs.Sorted.{insert_sorted_pair, sorted, sorted_pairs}
 use Rattle.bson_model.specs.StableOrder.{pairs_of}
 use Rattle.bson_model.specs.Value.{Value, Pairs, no_pairs, pair, document}
-use Rattle.bson_text.specs.MemberSpans.{span_key, open_text, object_text, SpanValues, value_at, IsMemberSpan}
-use Rattle.bson_text.specs.ShownWritten.{next_display, member_front, separator_if, DisplayBegun, DisplayValueAdded, DisplayKeyAdded}
-use Rattle.bson_text.specs.ShownWritten.{value_shown}
-use Rattle.bson_text.specs.Walked.{PairsWritten, keys_of, each_key_once}
-use Rattle.bson_text.specs.declared.spans.MemberSpan.{MemberSpan}
-use Rattle.bson_text.specs.declared.sorted_text.Mark.{Mark}
-use Rattle.bson_text.specs.declared.shown_text.ShownWriter.{ShownWriter}
+use Rattle.bson_text.specs.MemberSpans.{span_key, open_text, object_text, ValuesByStart, span_value, IsMemberSpan}
+use Rattle.bson_text.specs.DisplayOutput.{display_with_separator, member_front, separator_if, HasBegunDisplay, HasDisplayOfValue, HasDisplayOfKey}
+use Rattle.bson_text.specs.DisplayOutput.{arranged_value}
+use Rattle.bson_text.specs.TraversalResults.{PairsWritten, keys_of, each_key_once}
+use Rattle.bson_text.specs.declared.member_spans.MemberSpan.{MemberSpan}
+use Rattle.bson_text.specs.declared.sorted_writer.Mark.{Mark}
+use Rattle.bson_text.specs.declared.display_writer.DisplayWriter.{DisplayWriter}
 use Rattle.bson_text.proofs.SpansInOrder.{HasMembers, closed}
 use Rattle.bson_text.proofs.ShownTexts.{as_sorted}
 use Rattle.bson_text.proofs.SortedPairs.{put_in_turn, once_sorted}
@@ -27,55 +27,55 @@ use Rattle.bson_text.proofs.Standing.{Seen, MemberAdded, MembersAdded, DocumentS
 abbrev pub IsShownMember : List ℕ → Value → List ℕ → Type 0
 IsShownMember k v s = s ≡ codes " " ++ entry k (display_text v)
 
-abbrev pub seen : ShownWriter → Seen
-seen w = record { text = w.text.items; starts = w.starts.items; needs_comma = w.needs_comma }
+abbrev pub seen : DisplayWriter → Seen
+seen w = record { text = w.text.items; member_starts = w.member_starts.items; needs_comma = w.needs_comma }
 
 -- the key and the value behind it are the member's text
-pub member_text : (k : List ℕ) (v : Value) (old named new : ShownWriter) → DisplayKeyAdded old k named → DisplayValueAdded named v new
-    → new.text.items ≡ member_front old ++ (codes " " ++ entry k (display_text (value_shown old.arrangement v)))
+pub member_text : (k : List ℕ) (v : Value) (old named new : DisplayWriter) → HasDisplayOfKey old k named → HasDisplayOfValue named v new
+    → new.text.items ≡ member_front old ++ (codes " " ++ entry k (display_text (arranged_value old.arrangement v)))
 member_text k v old named new (off, order, begins, key) (after, same, kept, text) =
-    let t = display_text (value_shown old.arrangement v) in
-    text ∙ ap (λ a. named.text.items ++ (separator_if named.needs_comma ++ display_text (value_shown a v))) order
+    let t = display_text (arranged_value old.arrangement v) in
+    text ∙ ap (λ a. named.text.items ++ (separator_if named.needs_comma ++ display_text (arranged_value a v))) order
     ∙ ap (λ b. named.text.items ++ (separator_if b ++ t)) off ∙ ap (λ l. l ++ t) key
     ∙ append_assoc (member_front old) (codes " \"" ++ (k ++ codes "\": ")) t
     ∙ ap (λ l. member_front old ++ (codes " \"" ++ l)) (append_assoc k (codes "\": ") t)
 
-one_added : (k : List ℕ) (v : Value) (old named new : ShownWriter) → old.arrangement ≡ Ascending
-    → DisplayKeyAdded old k named → DisplayValueAdded named v new → MemberAdded IsShownMember k v (seen old) (seen new)
-one_added k v old named new ascending keyed wrote =
+one_added : (k : List ℕ) (v : Value) (old named new : DisplayWriter) → old.arrangement ≡ Ascending
+    → HasDisplayOfKey old k named → HasDisplayOfValue named v new → MemberAdded IsShownMember k v (seen old) (seen new)
+one_added k v old named new ascending wrote_key wrote_value =
     record {
       own = codes " " ++ entry k (display_text (sorted v));
       is_text = refl;
       some = omega arith;
-      text = member_text k v old named new keyed wrote
-          ∙ ap (λ a. member_front old ++ (codes " " ++ entry k (display_text (value_shown a v)))) ascending
+      text = member_text k v old named new wrote_key wrote_value
+          ∙ ap (λ a. member_front old ++ (codes " " ++ entry k (display_text (arranged_value a v)))) ascending
           ∙ ap (λ w. member_front old ++ (codes " " ++ entry k (display_text w))) (as_sorted v);
-      starts = wrote.2 ∙ keyed.2;
-      needs_comma = wrote.0;
+      member_starts = wrote_value.2 ∙ wrote_key.2;
+      needs_comma = wrote_value.0;
     }
 
-members_added : (ps : Pairs) (old new : ShownWriter) → old.arrangement ≡ Ascending
-    → PairsWritten (λ a k v b. DisplayValueAdded a v b) DisplayKeyAdded ps old new → MembersAdded IsShownMember ps (seen old) (seen new)
+members_added : (ps : Pairs) (old new : DisplayWriter) → old.arrangement ≡ Ascending
+    → PairsWritten (λ a k v b. HasDisplayOfValue a v b) HasDisplayOfKey ps old new → MembersAdded IsShownMember ps (seen old) (seen new)
 members_added no_pairs old new ascending is = ap seen is
-members_added (pair k v ps) old new ascending (named, mid, keyed, wrote, more) = (
+members_added (pair k v ps) old new ascending (named, mid, wrote_key, wrote_value, more) = (
   seen mid,
-  one_added k v old named mid ascending keyed wrote,
-  members_added ps mid new (wrote.1 ∙ keyed.1 ∙ ascending) more,
+  one_added k v old named mid ascending wrote_key wrote_value,
+  members_added ps mid new (wrote_value.1 ∙ wrote_key.1 ∙ ascending) more,
 )
 
 -- the keys of all go where those of the first go
-pub same_order : (ps : Pairs) (old new : ShownWriter) → PairsWritten (λ a k v b. DisplayValueAdded a v b) DisplayKeyAdded ps old new
+pub same_order : (ps : Pairs) (old new : DisplayWriter) → PairsWritten (λ a k v b. HasDisplayOfValue a v b) HasDisplayOfKey ps old new
     → new.arrangement ≡ old.arrangement
 same_order no_pairs old new is = ap (λ w. w.arrangement) (sym is)
-same_order (pair k v ps) old new (named, mid, keyed, wrote, more) = same_order ps mid new more ∙ wrote.1 ∙ keyed.1
+same_order (pair k v ps) old new (named, mid, wrote_key, wrote_value, more) = same_order ps mid new more ∙ wrote_value.1 ∙ wrote_key.1
 
 -- the document that is open
-pub document_stands : (start mid now : ShownWriter) (mark : Mark) (ps : Pairs) (ks : List (Bor (List ℕ)))
-    → DisplayBegun start mark mid → PairsWritten (λ a k v b. DisplayValueAdded a v b) DisplayKeyAdded ps mid now
+pub document_stands : (start mid now : DisplayWriter) (mark : Mark) (ps : Pairs) (ks : List (Bor (List ℕ)))
+    → HasBegunDisplay start mark mid → PairsWritten (λ a k v b. HasDisplayOfValue a v b) HasDisplayOfKey ps mid now
     → keys_of ps ≡ map (λ k. k.now) ks → now.arrangement ≡ Ascending
-    → DocumentStands IsShownMember (next_display start) start.starts.items (seen now) mark ks ps
-document_stands start mid now mark ps ks (here, held, (off, order, kept, text)) written named ascending =
-    opened_document IsShownMember (next_display start) start.starts.items (seen mid) (seen now) mark ps ks here held
+    → DocumentStands IsShownMember (display_with_separator start) start.member_starts.items (seen now) mark ks ps
+document_stands start mid now mark ps ks (here, start_count, (off, order, kept, text)) written named ascending =
+    opened_document IsShownMember (display_with_separator start) start.member_starts.items (seen mid) (seen now) mark ps ks here start_count
     (text ∙ sym (append_assoc start.text.items (separator_if start.needs_comma) (codes "{"))) kept off
     (members_added ps mid now (sym (same_order ps mid now written) ∙ ascending) written) named
 
@@ -112,28 +112,28 @@ none_sorted (pair k v ps) h = absurd (omega arith)
 
 -- ---- the text of the document
 
-module _ (texts : List ℕ) (values : SpanValues) where
+module _ (texts : List ℕ) (values : ValuesByStart) where
   abbrev IsOne : MemberSpan → Type 0
   IsOne = IsMemberSpan IsShownMember texts values
 
   abbrev entries : List MemberSpan → List (List ℕ)
-  entries ps = entry_texts (pairs_of span_key (value_at values) ps)
+  entries ps = entry_texts (pairs_of span_key (span_value values) ps)
 
   members_after : (ps : List MemberSpan) → All IsOne ps
       → open_text texts true ps ≡ flat_map (λ t. codes ", " ++ t) (entries ps)
   members_after [] h = refl
   members_after (p ∷ ps) h =
       ap (λ l. 44 ∷ (l ++ open_text texts true ps)) (All-head IsOne p ps h).1
-      ∙ ap (λ l. codes ", " ++ (entry (span_key p) (display_text (value_at values p)) ++ l))
+      ∙ ap (λ l. codes ", " ++ (entry (span_key p) (display_text (span_value values p)) ++ l))
       (members_after ps (All-tail IsOne p ps h))
 
   -- some members, and a blank before the brace
   some_shown : (p : MemberSpan) (ps : List MemberSpan) → All IsOne (p ∷ ps)
       → (123 ∷ open_text texts false (p ∷ ps)) ++ codes " }"
-      ≡ display_text (document (pairs_of span_key (value_at values) (p ∷ ps)))
+      ≡ display_text (document (pairs_of span_key (span_value values) (p ∷ ps)))
   some_shown p ps h =
       ap (λ l. 123 ∷ ((l ++ open_text texts true ps) ++ codes " }")) (All-head IsOne p ps h).1
-      ∙ ap (λ l. codes "{ " ++ ((entry (span_key p) (display_text (value_at values p)) ++ l) ++ codes " }"))
+      ∙ ap (λ l. codes "{ " ++ ((entry (span_key p) (display_text (span_value values p)) ++ l) ++ codes " }"))
       (members_after ps (All-tail IsOne p ps h))
 
   -- the text without its last byte
@@ -148,16 +148,16 @@ module _ (texts : List ℕ) (values : SpanValues) where
       (omega (arith, ap length whole, length-append front (125 ∷ [])))
 
   shown_at : (before new : List ℕ) (ps : List MemberSpan) → All IsOne ps
-      → is_none (pairs_of span_key (value_at values) ps) ≡ false → new ≡ before ++ object_text texts ps
+      → is_none (pairs_of span_key (span_value values) ps) ≡ false → new ≡ before ++ object_text texts ps
       → take (length new - 1) new ++ codes " }"
-      ≡ before ++ display_text (document (pairs_of span_key (value_at values) ps))
+      ≡ before ++ display_text (document (pairs_of span_key (span_value values) ps))
   shown_at before new [] all some is = cc
   shown_at before new (p ∷ ps) all some is =
       ap (λ l. l ++ codes " }") (without_brace before new (p ∷ ps) is)
       ∙ append_assoc before (123 ∷ open_text texts false (p ∷ ps)) (codes " }")
       ∙ ap (λ l. before ++ l) (some_shown p ps all)
 
-  none_at : (before new : List ℕ) (ps : List MemberSpan) → no_pairs ≡ pairs_of span_key (value_at values) ps
+  none_at : (before new : List ℕ) (ps : List MemberSpan) → no_pairs ≡ pairs_of span_key (span_value values) ps
       → new ≡ before ++ object_text texts ps → new ≡ before ++ codes "{}"
   none_at before new [] none is = is
   none_at before new (p ∷ ps) none is = let never : true ≡ false = ap is_none none in cc

@@ -10,43 +10,43 @@ use Rattle.bson_model.specs.Sorted.{sorted, sorted_items}
 use Rattle.bson_model.specs.Value as model
 use Rattle.bson_model.specs.Value.{Value, Values, no_values, code_scope, document}
 use Rattle.bson_model.specs.OrderedTexts.{HasMeaningInOrder}
-use Rattle.bson_text.specs.Filtered.{IsShownTextBy}
-use Rattle.bson_text.specs.ShownWritten.{DisplayAdded, DisplayNext, DisplayValueAdded, separator_if}
-use Rattle.bson_text.specs.ShownWritten.{items_shown, value_shown}
-use Rattle.bson_text.specs.Walked.{ItemsWritten}
-use Rattle.bson_text.specs.declared.shown_text.ShownWriter.{ShownWriter}
+use Rattle.bson_text.specs.OutputTexts.{IsShownTextBy}
+use Rattle.bson_text.specs.DisplayOutput.{HasDisplayAdded, HasDisplayAfterSeparator, HasDisplayOfValue, separator_if}
+use Rattle.bson_text.specs.DisplayOutput.{arranged_items, arranged_value}
+use Rattle.bson_text.specs.TraversalResults.{ItemsWritten}
+use Rattle.bson_text.specs.declared.display_writer.DisplayWriter.{DisplayWriter}
 
 -- what is shown in the order of keys, and with them ascending
-pub as_it_is : (v : Value) → value_shown FirstPositions v ≡ v
+pub as_it_is : (v : Value) → arranged_value FirstPositions v ≡ v
 as_it_is (model.scalar x) = refl
 as_it_is (code_scope s ps) = refl
 as_it_is (model.array vs) = refl
 as_it_is (document ps) = refl
 
-pub as_sorted : (v : Value) → value_shown Ascending v ≡ sorted v
+pub as_sorted : (v : Value) → arranged_value Ascending v ≡ sorted v
 as_sorted (model.scalar x) = refl
 as_sorted (code_scope s ps) = refl
 as_sorted (model.array vs) = refl
 as_sorted (document ps) = refl
 
 -- a text and then another
-pub joined : (a b c : ShownWriter) (s t : List ℕ) (near needs_comma : Bool) → DisplayAdded a s near b → DisplayAdded b t needs_comma c
-    → DisplayAdded a (s ++ t) needs_comma c
-joined a b c s t near needs_comma (w, order, starts, is) (x, same, kept, more) =
-    (x, same ∙ order, kept ∙ starts, more ∙ ap (λ l. l ++ t) is ∙ append_assoc a.text.items s t)
+pub joined : (a b c : DisplayWriter) (s t : List ℕ) (near needs_comma : Bool) → HasDisplayAdded a s near b → HasDisplayAdded b t needs_comma c
+    → HasDisplayAdded a (s ++ t) needs_comma c
+joined a b c s t near needs_comma (w, order, member_starts, is) (x, same, kept, more) =
+    (x, same ∙ order, kept ∙ member_starts, more ∙ ap (λ l. l ++ t) is ∙ append_assoc a.text.items s t)
 
 -- the same text, as it may be written otherwise
-pub as_text : (a b : ShownWriter) (s t : List ℕ) (needs_comma : Bool) → s ≡ t → DisplayAdded a s needs_comma b → DisplayAdded a t needs_comma b
-as_text a b s t needs_comma is h = subst (λ l. DisplayAdded a l needs_comma b) is h
+pub as_text : (a b : DisplayWriter) (s t : List ℕ) (needs_comma : Bool) → s ≡ t → HasDisplayAdded a s needs_comma b → HasDisplayAdded a t needs_comma b
+as_text a b s t needs_comma is h = subst (λ l. HasDisplayAdded a l needs_comma b) is h
 
 -- ---- arrays
 
-no_items : (a : Arrangement) → items_shown a no_values ≡ no_values
+no_items : (a : Arrangement) → arranged_items a no_values ≡ no_values
 no_items FirstPositions = refl
 no_items Ascending = refl
 
 one_item : (a : Arrangement) (v : Value) (vs : Values)
-    → items_shown a (model.value v vs) ≡ model.value (value_shown a v) (items_shown a vs)
+    → arranged_items a (model.value v vs) ≡ model.value (arranged_value a v) (arranged_items a vs)
 one_item FirstPositions v vs = ap (λ w. model.value w vs) (sym (as_it_is v))
 one_item Ascending v vs = ap (λ w. model.value w (sorted_items vs)) (sym (as_sorted v))
 
@@ -67,49 +67,49 @@ array_shown no_values = refl
 array_shown (model.value v vs) =
     ap (λ l. codes "[" ++ ((display_text v ++ l) ++ codes "]")) (parts_after (item_texts vs))
 
-items_added : (n : ℕ) (vs : Values) (old now new : ShownWriter)
-    → ItemsWritten (λ a k v b. DisplayValueAdded a v b) (λ i. []) n vs old now → DisplayAdded now (codes "]") true new
-    → DisplayAdded old (array_end old.needs_comma (items_shown old.arrangement vs)) true new
+items_added : (n : ℕ) (vs : Values) (old now new : DisplayWriter)
+    → ItemsWritten (λ a k v b. HasDisplayOfValue a v b) (λ i. []) n vs old now → HasDisplayAdded now (codes "]") true new
+    → HasDisplayAdded old (array_end old.needs_comma (arranged_items old.arrangement vs)) true new
 items_added n no_values old now new is ended =
     as_text old new (codes "]") _ true (ap (array_end old.needs_comma) (sym (no_items old.arrangement)))
-    (subst (λ a. DisplayAdded a (codes "]") true new) (sym is) ended)
+    (subst (λ a. HasDisplayAdded a (codes "]") true new) (sym is) ended)
 items_added n (model.value v vs) old now new (mid, put, more) ended =
-    let t = display_text (value_shown old.arrangement v) in
+    let t = display_text (arranged_value old.arrangement v) in
     let front = separator_if old.needs_comma in
-    let items = items_shown old.arrangement vs in
+    let items = arranged_items old.arrangement vs in
     let rest = parts true (item_texts items) in
     as_text old new _ _ true
-    (ap (λ b. (front ++ t) ++ array_end b (items_shown mid.arrangement vs)) put.0
-    ∙ ap (λ a. (front ++ t) ++ array_end true (items_shown a vs)) put.1
+    (ap (λ b. (front ++ t) ++ array_end b (arranged_items mid.arrangement vs)) put.0
+    ∙ ap (λ a. (front ++ t) ++ array_end true (arranged_items a vs)) put.1
     ∙ sym (append_assoc (front ++ t) rest (codes "]")) ∙ ap (λ l. l ++ codes "]") (append_assoc front t rest)
     ∙ ap (array_end old.needs_comma) (sym (one_item old.arrangement v vs)))
-    (joined old mid new (front ++ t) (array_end mid.needs_comma (items_shown mid.arrangement vs)) true true put
+    (joined old mid new (front ++ t) (array_end mid.needs_comma (arranged_items mid.arrangement vs)) true true put
     (items_added (n + 1) vs mid now new more ended))
 
-pub array_added : (vs : Values) (old mark now new : ShownWriter) → DisplayNext old (codes "[") false mark
-    → ItemsWritten (λ a k v b. DisplayValueAdded a v b) (λ i. []) 0 vs mark now → DisplayAdded now (codes "]") true new
-    → DisplayValueAdded old (model.array vs) new
+pub array_added : (vs : Values) (old mark now new : DisplayWriter) → HasDisplayAfterSeparator old (codes "[") false mark
+    → ItemsWritten (λ a k v b. HasDisplayOfValue a v b) (λ i. []) 0 vs mark now → HasDisplayAdded now (codes "]") true new
+    → HasDisplayOfValue old (model.array vs) new
 array_added vs old mark now new begin written ended =
     let front = separator_if old.needs_comma in
-    let items = array_end mark.needs_comma (items_shown mark.arrangement vs) in
+    let items = array_end mark.needs_comma (arranged_items mark.arrangement vs) in
     as_text old new _ _ true
     (append_assoc front (codes "[") items
-    ∙ ap (λ b. front ++ (codes "[" ++ array_end b (items_shown mark.arrangement vs))) begin.0
-    ∙ ap (λ a. front ++ (codes "[" ++ array_end false (items_shown a vs))) begin.1
-    ∙ ap (λ l. front ++ l) (array_shown (items_shown old.arrangement vs)))
+    ∙ ap (λ b. front ++ (codes "[" ++ array_end b (arranged_items mark.arrangement vs))) begin.0
+    ∙ ap (λ a. front ++ (codes "[" ++ array_end false (arranged_items a vs))) begin.1
+    ∙ ap (λ l. front ++ l) (array_shown (arranged_items old.arrangement vs)))
     (joined old mark new (front ++ codes "[") items false true begin (items_added 0 vs mark now new written ended))
 
 -- ---- a whole text
 
-whole_shown : (old new : ShownWriter) (v : Value) (a : Arrangement) → DisplayValueAdded old v new → old.arrangement ≡ a
-    → old.needs_comma ≡ false → old.text.items ≡ [] → new.text.items ≡ display_text (value_shown a v)
-whole_shown old new v a (after, same, starts, shown) order first none =
-    shown ∙ ap (λ l. l ++ (separator_if old.needs_comma ++ display_text (value_shown old.arrangement v))) none
-    ∙ ap (λ b. separator_if b ++ display_text (value_shown old.arrangement v)) first
-    ∙ ap (λ o. display_text (value_shown o v)) order
+whole_shown : (old new : DisplayWriter) (v : Value) (a : Arrangement) → HasDisplayOfValue old v new → old.arrangement ≡ a
+    → old.needs_comma ≡ false → old.text.items ≡ [] → new.text.items ≡ display_text (arranged_value a v)
+whole_shown old new v a (after, same, member_starts, shown) order first none =
+    shown ∙ ap (λ l. l ++ (separator_if old.needs_comma ++ display_text (arranged_value old.arrangement v))) none
+    ∙ ap (λ b. separator_if b ++ display_text (arranged_value old.arrangement v)) first
+    ∙ ap (λ o. display_text (arranged_value o v)) order
 
-pub text_shown : (D : Doubles) (a : Arrangement) (text : List ℕ) (old new : ShownWriter)
-    → (v : Value) × HasMeaningInOrder D text v × DisplayValueAdded old v new → old.arrangement ≡ a → old.needs_comma ≡ false
+pub text_shown : (D : Doubles) (a : Arrangement) (text : List ℕ) (old new : DisplayWriter)
+    → (v : Value) × HasMeaningInOrder D text v × HasDisplayOfValue old v new → old.arrangement ≡ a → old.needs_comma ≡ false
     → old.text.items ≡ [] → IsShownTextBy D a text new.text.items
 text_shown D FirstPositions text old new (v, meaning, added) order first none = record {
   value = v;

@@ -18,24 +18,24 @@ use Rattle.bson_model.specs.Value.{Value, Values, no_values, Pairs, code_scope, 
 use Rattle.bson_model.specs.Writing.{writes_in, writes_items_in, writes_pairs_in, with_scope}
 use Rattle.bson_model.proofs.Offered.{has_no_float, has_text_in, in_range_in, read_tree, tree_is_in}
 use Rattle.bson_model.specs.OrderedTexts.{HasMeaningInOrder}
-use Rattle.bson_text.specs.Filtered.{IsSortedText}
-use Rattle.bson_text.specs.SortedWritten.{SortedAdded, SortedNext, SortedValueAdded, SortedPairsAdded}
-use Rattle.bson_text.specs.Walked.{ItemsWritten}
-use Rattle.bson_text.specs.declared.sorted_text.SortedWriter.{SortedWriter}
+use Rattle.bson_text.specs.OutputTexts.{IsSortedText}
+use Rattle.bson_text.specs.SortedOutput.{HasOutputAdded, HasOutputAfterComma, HasSortedValue, HasSortedPairs}
+use Rattle.bson_text.specs.TraversalResults.{ItemsWritten}
+use Rattle.bson_text.specs.declared.sorted_writer.SortedWriter.{SortedWriter}
 use Rattle.bson_text.proofs.PartTexts.{printed_items, no_more_items, one_more_item, array_printed, code_printed}
 
 -- a text and then another
-joined : (a b c : SortedWriter) (s t : List ℕ) (near needs_comma : Bool) → SortedAdded a s near b → SortedAdded b t needs_comma c
-    → SortedAdded a (s ++ t) needs_comma c
+joined : (a b c : SortedWriter) (s t : List ℕ) (near needs_comma : Bool) → HasOutputAdded a s near b → HasOutputAdded b t needs_comma c
+    → HasOutputAdded a (s ++ t) needs_comma c
 joined a b c s t near needs_comma (d, f, w, starts, is) (e, g, x, kept, more) =
     (e ∙ d, g ∙ f, x, kept ∙ starts, more ∙ ap (λ l. l ++ t) is ∙ append_assoc a.text.items s t)
 
 -- the same text, as it may be written otherwise
-as_text : (a b : SortedWriter) (s t : List ℕ) (needs_comma : Bool) → s ≡ t → SortedAdded a s needs_comma b → SortedAdded a t needs_comma b
-as_text a b s t needs_comma is h = subst (λ l. SortedAdded a l needs_comma b) is h
+as_text : (a b : SortedWriter) (s t : List ℕ) (needs_comma : Bool) → s ≡ t → HasOutputAdded a s needs_comma b → HasOutputAdded a t needs_comma b
+as_text a b s t needs_comma is h = subst (λ l. HasOutputAdded a l needs_comma b) is h
 
 -- what holds in the mode and form of a later state
-at_first : (a b : SortedWriter) (s : List ℕ) (needs_comma : Bool) (Holds : Doubles → Form → Type 0) → SortedAdded a s needs_comma b
+at_first : (a b : SortedWriter) (s : List ℕ) (needs_comma : Bool) (Holds : Doubles → Form → Type 0) → HasOutputAdded a s needs_comma b
     → Holds b.doubles b.form → Holds a.doubles a.form
 at_first a b s needs_comma Holds (mode, form, w, starts, is) h =
     subst (λ D. Holds D a.form) mode (subst (Holds b.doubles) form h)
@@ -43,8 +43,8 @@ at_first a b s needs_comma Holds (mode, form, w, starts, is) h =
 -- ---- a part
 
 pub part_added : (a b c : SortedWriter) (needs_comma : Bool) (old new ts : List Token)
-    → SortedAdded a (comma_if a.needs_comma) a.needs_comma b → SortedAdded b (print new) needs_comma c → old ≡ [] → new ≡ old ++ ts
-    → SortedNext a (print ts) needs_comma c
+    → HasOutputAdded a (comma_if a.needs_comma) a.needs_comma b → HasOutputAdded b (print new) needs_comma c → old ≡ [] → new ≡ old ++ ts
+    → HasOutputAfterComma a (print ts) needs_comma c
 part_added a b c needs_comma old new ts comma part none is =
     as_text a c _ _ needs_comma (ap (λ l. comma_if a.needs_comma ++ print l) (is ∙ ap (λ l. l ++ ts) none))
     (joined a b c (comma_if a.needs_comma) (print new) a.needs_comma needs_comma comma part)
@@ -63,13 +63,13 @@ was_ok Q (Err e) q x is now = absurd (subst (λ s. IsErrAnd s (Q e)) now is)
 -- ---- arrays
 
 items_added : (n : ℕ) (vs : Values) (old now new : SortedWriter)
-    → ItemsWritten (λ a k v b. SortedValueAdded a v b) (λ i. []) n vs old now → SortedAdded now (93 ∷ []) true new
+    → ItemsWritten (λ a k v b. HasSortedValue a v b) (λ i. []) n vs old now → HasOutputAdded now (93 ∷ []) true new
     → (us : Items) × (writes_items_in old.doubles old.form (sorted_items vs) ≡ Ok us)
-    × SortedAdded old (printed_items old.needs_comma us) true new
+    × HasOutputAdded old (printed_items old.needs_comma us) true new
 items_added n no_values old now new is ended = (
   no_items,
   refl,
-  as_text old new _ _ true (sym (no_more_items old.needs_comma)) (subst (λ a. SortedAdded a (93 ∷ []) true new) (sym is) ended),
+  as_text old new _ _ true (sym (no_more_items old.needs_comma)) (subst (λ a. HasOutputAdded a (93 ∷ []) true new) (sym is) ended),
 )
 items_added n (model.value v vs) old now new (mid, (u, w, put), more) ended =
     let (us, ws, rest) = items_added (n + 1) vs mid now new more ended in
@@ -84,9 +84,9 @@ items_added n (model.value v vs) old now new (mid, (u, w, put), more) ended =
           (joined old mid new s (printed_items mid.needs_comma us) true true put rest),
     )
 
-pub array_added : (vs : Values) (old mark now new : SortedWriter) → SortedNext old (91 ∷ []) false mark
-    → ItemsWritten (λ a k v b. SortedValueAdded a v b) (λ i. []) 0 vs mark now → SortedAdded now (93 ∷ []) true new
-    → SortedValueAdded old (model.array vs) new
+pub array_added : (vs : Values) (old mark now new : SortedWriter) → HasOutputAfterComma old (91 ∷ []) false mark
+    → ItemsWritten (λ a k v b. HasSortedValue a v b) (λ i. []) 0 vs mark now → HasOutputAdded now (93 ∷ []) true new
+    → HasSortedValue old (model.array vs) new
 array_added vs old mark now new begin written ended =
     let (us, ws, rest) = items_added 0 vs mark now new written ended in
     let comma = comma_if old.needs_comma in
@@ -102,12 +102,12 @@ array_added vs old mark now new begin written ended =
 
 -- ---- documents, and code with one
 
-pub embedded : (ps : Pairs) (old new : SortedWriter) → SortedPairsAdded old ps new → SortedValueAdded old (document ps) new
+pub embedded : (ps : Pairs) (old new : SortedWriter) → HasSortedPairs old ps new → HasSortedValue old (document ps) new
 embedded ps old new (ms, w, put) = (object ms, rw w refl, put)
 
 pub code_added : (s : List ℕ) (ps : Pairs) (old mark now new : SortedWriter)
-    → SortedNext old (print (code_tokens s)) false mark → SortedPairsAdded mark ps now → SortedAdded now (125 ∷ []) true new
-    → SortedValueAdded old (code_scope s ps) new
+    → HasOutputAfterComma old (print (code_tokens s)) false mark → HasSortedPairs mark ps now → HasOutputAdded now (125 ∷ []) true new
+    → HasSortedValue old (code_scope s ps) new
 code_added s ps old mark now new begin (ms, w, put) ended =
     let comma = comma_if old.needs_comma in
     let front = print (code_tokens s) in
@@ -125,7 +125,7 @@ code_added s ps old mark now new begin (ms, w, put) ended =
 -- ---- a whole text
 
 pub text_sorted : (D : Doubles) (f : Form) (text : List ℕ) (old new : SortedWriter)
-    → (v : Value) × HasMeaningInOrder D text v × SortedValueAdded old v new → old.doubles ≡ D → old.form ≡ f
+    → (v : Value) × HasMeaningInOrder D text v × HasSortedValue old v new → old.doubles ≡ D → old.form ≡ f
     → old.needs_comma ≡ false → old.text.items ≡ [] → IsSortedText D f text new.text.items
 text_sorted D f text old new (v, meaning, (u, w, put)) mode form first none =
     let (s, whole, meant) = meaning.by_default in

@@ -16,9 +16,9 @@ use Rattle.bson_model.specs.Value.{Value, Pairs, no_pairs}
 use Rattle.bson_model.proofs.Offered.{turned, put_ascending}
 use Rattle.bson_text.specs.MemberSpans.{span_key, span_text, open_text, members_text, object_text, Ascend}
 use Rattle.bson_tokens.specs.PutMembers.{KeyFollows, KeysAscendFrom}
-use Rattle.bson_text.specs.MemberSpans.{last_ones, stands_again, IsOpenObject, IsObjectWritten, SpanValues, value_at, IsMemberSpan}
+use Rattle.bson_text.specs.MemberSpans.{last_of_each_key, next_has_key, IsOpenObject, IsObjectWritten, ValuesByStart, span_value, IsMemberSpan}
 use Rattle.bson_text.specs.MemberSpans.{spans_from}
-use Rattle.bson_text.specs.declared.spans.MemberSpan.{MemberSpan}
+use Rattle.bson_text.specs.declared.member_spans.MemberSpan.{MemberSpan}
 use Rattle.bson_text.proofs.SortedPairs.{put_twice}
 
 -- ---- what may be there
@@ -50,75 +50,75 @@ pub next_ascends : (last : Option (List ℕ)) (p : MemberSpan) (ps left : List M
 next_ascends last p ps left is follows up = subst (Ascend last) (sym is) (follows, up)
 
 -- pieces ascend whose keys do
-pub spans_ascend : (last : Option (List ℕ)) (ks : List (Bor (List ℕ))) (starts : List ℕ) (end : ℕ)
-    → KeysAscendFrom last (map (λ k. k.now) ks) → Ascend last (spans_from ks starts end)
-spans_ascend last [] starts end up = tt
+pub spans_ascend : (last : Option (List ℕ)) (ks : List (Bor (List ℕ))) (member_starts : List ℕ) (end : ℕ)
+    → KeysAscendFrom last (map (λ k. k.now) ks) → Ascend last (spans_from ks member_starts end)
+spans_ascend last [] member_starts end up = tt
 spans_ascend last (k ∷ ks) [] end up = tt
-spans_ascend last (k ∷ ks) (s ∷ starts) end up = (up.0, spans_ascend (Some k.now) ks starts end up.1)
+spans_ascend last (k ∷ ks) (s ∷ member_starts) end up = (up.0, spans_ascend (Some k.now) ks member_starts end up.1)
 
-least_of : (values : SpanValues) (k l : List ℕ) (ps : List MemberSpan) → slice_cmp nat_cmp k l ≡ Less → Ascend (Some l) ps
-    → IsBelowKeys k (pairs_of span_key (value_at values) ps)
+least_of : (values : ValuesByStart) (k l : List ℕ) (ps : List MemberSpan) → slice_cmp nat_cmp k l ≡ Less → Ascend (Some l) ps
+    → IsBelowKeys k (pairs_of span_key (span_value values) ps)
 least_of values k l [] less up = tt
 least_of values k l (p ∷ ps) less up =
     let first = nat_list_cmp_total.trans k l (span_key p) less up.0 in
     (first, least_of values k (span_key p) ps first up.1)
 
-ascending_pairs : (values : SpanValues) (last : Option (List ℕ)) (ps : List MemberSpan) → Ascend last ps
-    → KeysAscend (pairs_of span_key (value_at values) ps)
+ascending_pairs : (values : ValuesByStart) (last : Option (List ℕ)) (ps : List MemberSpan) → Ascend last ps
+    → KeysAscend (pairs_of span_key (span_value values) ps)
 ascending_pairs values last [] up = tt
 ascending_pairs values last (p ∷ ps) up =
     (least_after values (span_key p) ps up.1, ascending_pairs values (Some (span_key p)) ps up.1)
   where
-    least_after : (values : SpanValues) (k : List ℕ) (ps : List MemberSpan) → Ascend (Some k) ps
-        → IsBelowKeys k (pairs_of span_key (value_at values) ps)
+    least_after : (values : ValuesByStart) (k : List ℕ) (ps : List MemberSpan) → Ascend (Some k) ps
+        → IsBelowKeys k (pairs_of span_key (span_value values) ps)
     least_after values k [] up = tt
     least_after values k (p ∷ ps) up = (up.0, least_of values k (span_key p) ps up.0 up.1)
 
 -- ---- the last of each key
 
-pub passed_one : (p : MemberSpan) (ps left : List MemberSpan) → left ≡ p ∷ ps → stands_again (span_key p) ps ≡ true
-    → last_ones left ≡ last_ones ps
-passed_one p ps left is again = ap last_ones is ∙ rw again refl
+pub passed_one : (p : MemberSpan) (ps left : List MemberSpan) → left ≡ p ∷ ps → next_has_key (span_key p) ps ≡ true
+    → last_of_each_key left ≡ last_of_each_key ps
+passed_one p ps left is again = ap last_of_each_key is ∙ rw again refl
 
-pub kept_one : (p : MemberSpan) (ps left : List MemberSpan) → left ≡ p ∷ ps → stands_again (span_key p) ps ≡ false
-    → last_ones left ≡ p ∷ last_ones ps
-kept_one p ps left is once = ap last_ones is ∙ rw once refl
+pub kept_one : (p : MemberSpan) (ps left : List MemberSpan) → left ≡ p ∷ ps → next_has_key (span_key p) ps ≡ false
+    → last_of_each_key left ≡ p ∷ last_of_each_key ps
+kept_one p ps left is once = ap last_of_each_key is ∙ rw once refl
 
-module _ (values : SpanValues) where
+module _ (values : ValuesByStart) where
   abbrev put_spans : List MemberSpan → Pairs → Pairs
-  put_spans = insert_each span_key (value_at values)
+  put_spans = insert_each span_key (span_value values)
 
   -- one that stands again is put for nothing
-  put_again : (p : MemberSpan) (ps : List MemberSpan) (qs : Pairs) → stands_again (span_key p) ps ≡ true
-      → put_spans ps (insert_sorted_pair (span_key p) (value_at values p) qs) ≡ put_spans ps qs
+  put_again : (p : MemberSpan) (ps : List MemberSpan) (qs : Pairs) → next_has_key (span_key p) ps ≡ true
+      → put_spans ps (insert_sorted_pair (span_key p) (span_value values p) qs) ≡ put_spans ps qs
   put_again p [] qs again = cc
   put_again p (q ∷ ps) qs again =
       let same = (bytes_eq-Decides (span_key q) (span_key p)).0 again in
-      let v = value_at values p in
-      let w = value_at values q in
+      let v = span_value values p in
+      let w = span_value values q in
       ap (put_spans ps) (ap (λ k. insert_sorted_pair (span_key q) w (insert_sorted_pair k v qs)) (sym same)
       ∙ put_twice (span_key q) w v qs)
 
-  put_at : (b : Bool) (p : MemberSpan) (ps : List MemberSpan) (qs : Pairs) → stands_again (span_key p) ps ≡ b
-      → ((rs : Pairs) → put_spans ps rs ≡ put_spans (last_ones ps) rs)
-      → put_spans (p ∷ ps) qs ≡ put_spans (last_ones (p ∷ ps)) qs
+  put_at : (b : Bool) (p : MemberSpan) (ps : List MemberSpan) (qs : Pairs) → next_has_key (span_key p) ps ≡ b
+      → ((rs : Pairs) → put_spans ps rs ≡ put_spans (last_of_each_key ps) rs)
+      → put_spans (p ∷ ps) qs ≡ put_spans (last_of_each_key (p ∷ ps)) qs
   put_at true p ps qs h is = rw h (put_again p ps qs h ∙ is qs)
-  put_at false p ps qs h is = rw h (is (insert_sorted_pair (span_key p) (value_at values p) qs))
+  put_at false p ps qs h is = rw h (is (insert_sorted_pair (span_key p) (span_value values p) qs))
 
-  put_last_ones : (ps : List MemberSpan) (qs : Pairs) → put_spans ps qs ≡ put_spans (last_ones ps) qs
+  put_last_ones : (ps : List MemberSpan) (qs : Pairs) → put_spans ps qs ≡ put_spans (last_of_each_key ps) qs
   put_last_ones [] qs = refl
   put_last_ones (p ∷ ps) qs = put_at _ p ps qs refl (put_last_ones ps)
 
-all_last_at : (b : Bool) (P : MemberSpan → Type 0) (p : MemberSpan) (ps : List MemberSpan) → stands_again (span_key p) ps ≡ b → P p
-    → All P (last_ones ps) → All P (last_ones (p ∷ ps))
+all_last_at : (b : Bool) (P : MemberSpan → Type 0) (p : MemberSpan) (ps : List MemberSpan) → next_has_key (span_key p) ps ≡ b → P p
+    → All P (last_of_each_key ps) → All P (last_of_each_key (p ∷ ps))
 all_last_at true P p ps h here is = rw h is
-all_last_at false P p ps h here is = rw h (All-cons P p (last_ones ps) here is)
+all_last_at false P p ps h here is = rw h (All-cons P p (last_of_each_key ps) here is)
 
-pub all_last : (P : MemberSpan → Type 0) (ps : List MemberSpan) → All P ps → All P (last_ones ps)
+pub all_last : (P : MemberSpan → Type 0) (ps : List MemberSpan) → All P ps → All P (last_of_each_key ps)
 all_last P [] h = h
 all_last P (p ∷ ps) h = all_last_at _ P p ps refl (All-head P p ps h) (all_last P ps (All-tail P p ps h))
 
-stands_once : (k : List ℕ) (ps : List MemberSpan) → Ascend (Some k) ps → stands_again k ps ≡ false
+stands_once : (k : List ℕ) (ps : List MemberSpan) → Ascend (Some k) ps → next_has_key k ps ≡ false
 stands_once k [] up = refl
 stands_once k (p ∷ ps) up = reported _ refl
   where
@@ -131,7 +131,7 @@ stands_once k (p ∷ ps) up = reported _ refl
         cc
 
 -- where the keys ascend each piece is its key's last
-last_of_ascending : (last : Option (List ℕ)) (ps : List MemberSpan) → Ascend last ps → last_ones ps ≡ ps
+last_of_ascending : (last : Option (List ℕ)) (ps : List MemberSpan) → Ascend last ps → last_of_each_key ps ≡ ps
 last_of_ascending last [] up = refl
 last_of_ascending last (p ∷ ps) up =
     rw (stands_once (span_key p) ps up.1) (ap (λ l. p ∷ l) (last_of_ascending (Some (span_key p)) ps up.1))
@@ -148,7 +148,7 @@ closed texts needs_comma (p ∷ ps) =
 -- an object whose keys ascend is ended by its brace
 pub ended_in_place : (old texts new : List ℕ) (ps : List MemberSpan) → IsOpenObject old texts ps → Ascend None ps
     → new ≡ texts ++ 125 ∷ [] → IsObjectWritten ps old texts new
-ended_in_place old texts new ps opened up is =
+ended_in_place old texts new ps began_document up is =
     let same = last_of_ascending None ps up in (
       object_text texts ps,
       (
@@ -158,7 +158,7 @@ ended_in_place old texts new ps opened up is =
         subst (Ascend None) (sym same) up,
         ap (object_text texts) (sym same),
       ),
-      is ∙ ap (λ l. l ++ 125 ∷ []) opened ∙ append_assoc old (123 ∷ open_text texts false ps) (125 ∷ [])
+      is ∙ ap (λ l. l ++ 125 ∷ []) began_document ∙ append_assoc old (123 ∷ open_text texts false ps) (125 ∷ [])
           ∙ ap (λ l. old ++ 123 ∷ l) (closed texts false ps),
     )
 
@@ -166,25 +166,25 @@ ended_in_place old texts new ps opened up is =
 
 -- an object was ended with these members behind the old text, by ascending key, whose pairs are those that were put
 pub record HasMembers (IsText : List ℕ → Value → List ℕ → Type 0) (old texts new : List ℕ) (put : Pairs) : Type 0 where
-  pub values : SpanValues
+  pub values : ValuesByStart
   pub members : List MemberSpan
   pub up : Ascend None members
   pub all : All (IsMemberSpan IsText texts values) members
-  pub pairs : put ≡ pairs_of span_key (value_at values) members
+  pub pairs : put ≡ pairs_of span_key (span_value values) members
   pub text : new ≡ old ++ object_text texts members
 
-pub object_in_order : (IsText : List ℕ → Value → List ℕ → Type 0) (old texts new : List ℕ) (values : SpanValues)
+pub object_in_order : (IsText : List ℕ → Value → List ℕ → Type 0) (old texts new : List ℕ) (values : ValuesByStart)
     (ps : List MemberSpan) → All (IsMemberSpan IsText texts values) ps → IsObjectWritten ps old texts new
-    → HasMembers IsText old texts new (insert_each span_key (value_at values) ps no_pairs)
+    → HasMembers IsText old texts new (insert_each span_key (span_value values) ps no_pairs)
 object_in_order IsText old texts new values ps h (written, (qs, stable, same, up, is), needs_comma) =
-    let ks = last_ones qs in
+    let ks = last_of_each_key qs in
     record {
       values = values;
       members = ks;
       up = up;
       all = all_last (IsMemberSpan IsText texts values) qs (All-permutation (IsMemberSpan IsText texts values) ps qs same h);
-      pairs = turned span_key (value_at values) ps qs no_pairs stable
+      pairs = turned span_key (span_value values) ps qs no_pairs stable
           ∙ put_last_ones values qs no_pairs
-          ∙ put_ascending span_key (value_at values) ks (ascending_pairs values None ks up);
+          ∙ put_ascending span_key (span_value values) ks (ascending_pairs values None ks up);
       text = needs_comma ∙ ap (λ l. old ++ l) is;
     }

@@ -15,13 +15,13 @@ use Rattle.bson_model.specs.OrderedTrees.{kept}
 use Rattle.bson_model.specs.OrderedReading.{reads_in_order, members_in_order}
 use Rattle.bson_model.specs.OrderedTexts.{HasMeaningInOrder}
 use Rattle.bson_model.proofs.OfferedInOrder.{means_from, means_in, read_is_kept, text_means}
-use Rattle.bson_text.specs.Walked.{MembersMean, kept_object, inside, from_key}
+use Rattle.bson_text.specs.TraversalResults.{ReadsMembers, kept_object, members_inside, members_after_key}
 use Rattle.bson_text.proofs.Objects.{begins, object_of, last_read}
 use Rattle.bson_tokens.proofs.Offered.{was_read}
-use Rattle.bson_text.specs.Exact.{IsMeaningful, TextDenied}
-use Rattle.bson_text.specs.Refused.{IsShallowJson, CodeFirst, IsRefusedText}
-use Rattle.bson_text.specs.declared.stop.Stop.{Stop}
-use Rattle.bson_text.specs.declared.stop.Stop.TheVariants as stop
+use Rattle.bson_text.specs.ErrorDenials.{IsMeaningful, RulesOutText}
+use Rattle.bson_text.specs.RejectedText.{IsJsonWithinDepth, CodeBeforeScope, IsRejectedText}
+use Rattle.bson_text.specs.declared.traversal_error.TraversalError.{TraversalError}
+use Rattle.bson_text.specs.declared.traversal_error.TraversalError.TheVariants as failure
 
 -- more stands behind the value
 pub more_behind : (o : Option (json.Json × List Token)) (t : Data) (rest : List Token) (j : json.Json)
@@ -29,7 +29,7 @@ pub more_behind : (o : Option (json.Json × List Token)) (t : Data) (rest : List
 more_behind o t rest j read more is = let a = was_read kept o t rest read in more (same_parse o a.0 j rest [] a.1 is).1
 
 -- a text that means a value
-pub meant : (D : Doubles) (text : List ℕ) (j : json.Json) (v : Value) → IsShallowJson text j → CodeFirst j
+pub meant : (D : Doubles) (text : List ℕ) (j : json.Json) (v : Value) → IsJsonWithinDepth text j → CodeBeforeScope j
     → HasMeaningInOrder D text v → IsMeaningful D j
 meant D text j v read first m = (
   first,
@@ -46,20 +46,20 @@ document_means D ms ps plain means = rw (plain, means) refl
 
 pub document_read : (D : Doubles) (text : List ℕ) (first : Option (List ℕ)) (q s rest : List Token) (Framed : Pairs → Type 0)
     → tokens text ≡ Token.begin_object ∷ q → read_key q ≡ Some (first, s)
-    → MembersMean D true (kept_object (from_key 126 first s)) rest Framed → rest ≡ []
+    → ReadsMembers D true (kept_object (members_after_key 126 first s)) rest Framed → rest ≡ []
     → (ps : Pairs) × HasMeaningInOrder D text (document ps) × Framed ps
-document_read D text first q s rest Framed is key (ms, ps, read, means, plain, framed) last =
+document_read D text first q s rest Framed is key (ms, ps, read, means, plain, wrote_document) last =
     let whole : converted kept (value 127 (tokens text)) ≡ Some (object ms, rest) =
     ap (λ x. converted kept (value 127 x)) is ∙ ap (converted kept) (value-begin_object 127 q (omega arith))
-    ∙ object_of (inside 126 q) ms rest (ap kept_object (begins 126 first q s key) ∙ read) in
+    ∙ object_of (members_inside 126 q) ms rest (ap kept_object (begins 126 first q s key) ∙ read) in
     let tree = last_read (value 127 (tokens text)) (object ms) (whole ∙ ap (λ l. Some (object ms, l)) last) in
     let means = document_means D ms ps (plain refl) means in
-    (ps, text_means D text (object ms) (document ps) tree (means_from D (object ms) (document ps) means), framed)
+    (ps, text_means D text (object ms) (document ps) tree (means_from D (object ms) (document ps) means), wrote_document)
 
--- what a stop denies of a text, in the words of its caller
-pub refused : (D : Doubles) (L S : Type 0) (text : List ℕ) (e : Stop) → TextDenied D L S e text → IsRefusedText D L S text e
-refused D L S text stop.OutOfMemory nothing = tt
-refused D L S text stop.DuplicateKey nothing = λ j is once. nothing j is once
-refused D L S text stop.GaveUp nothing = λ j is streams stays. nothing j is (stays, streams)
-refused D L S text stop.Syntax nothing = λ j v is once first means. nothing j is (once, meant D text j v is first means)
-refused D L S text (stop.Fault place) nothing = λ j v is once first means. nothing j is (once, meant D text j v is first means)
+-- what a failure denies of a text, in the words of its caller
+pub refused : (D : Doubles) (L S : Type 0) (text : List ℕ) (e : TraversalError) → RulesOutText D L S e text → IsRejectedText D L S text e
+refused D L S text failure.OutOfMemory nothing = tt
+refused D L S text failure.DuplicateKey nothing = λ j is once. nothing j is once
+refused D L S text failure.GaveUp nothing = λ j is streams stays. nothing j is (stays, streams)
+refused D L S text failure.Syntax nothing = λ j v is once first means. nothing j is (once, meant D text j v is first means)
+refused D L S text (failure.Fault place) nothing = λ j v is once first means. nothing j is (once, meant D text j v is first means)

@@ -9,8 +9,8 @@ use Rattle.std.proofs.lemmas.Str.{IsUtf8-take, IsCharBoundary-before_ascii, enco
 use Rattle.std.specs.List.{All}
 use Rattle.std.specs.Str.{is_utf8}
 use Rattle.serde_json.specs.Written.{comma_if}
-use Rattle.bson_text.specs.MemberSpans.{span_text, open_text, IsBraced, IsObjectWritten, IsOpenObject, last_ones}
-use Rattle.bson_text.specs.declared.spans.MemberSpan.{MemberSpan}
+use Rattle.bson_text.specs.MemberSpans.{span_text, open_text, EndsWithBrace, IsObjectWritten, IsOpenObject, last_of_each_key}
+use Rattle.bson_text.specs.declared.member_spans.MemberSpan.{MemberSpan}
 use Rattle.bson_text.proofs.SpansInOrder.{all_last, closed}
 use lib.Utf8.{low_scalar}
 
@@ -74,17 +74,17 @@ module _ (texts : List ℕ) where
 
 -- what stands before an open object
 pub before_utf8 : (before texts : List ℕ) (ps : List MemberSpan) → IsOpenObject before texts ps → is_utf8 texts ≡ true → IsUtf8 before
-before_utf8 before texts ps opened u =
-    (cut_at before (open_text texts false ps) 123 (omega arith) (subst IsUtf8 opened (IsUtf8-from_is_utf8 texts u))).0
+before_utf8 before texts ps began_document u =
+    (cut_at before (open_text texts false ps) 123 (omega arith) (subst IsUtf8 began_document (IsUtf8-from_is_utf8 texts u))).0
 
 -- the object that was ended, its pieces in another order
 pub ended_utf8 : (before texts new : List ℕ) (spans : List MemberSpan) → IsOpenObject before texts spans → is_utf8 texts ≡ true
-    → IsObjectWritten spans before texts new → IsBraced new
-ended_utf8 before texts new spans opened u (written, (ps, stable, same, up, is), put) =
+    → IsObjectWritten spans before texts new → EndsWithBrace new
+ended_utf8 before texts new spans began_document u (written, (ps, stable, same, up, is), put) =
     let (first, rest) = cut_at before (open_text texts false spans) 123 (omega arith)
-    (subst IsUtf8 opened (IsUtf8-from_is_utf8 texts u)) in
+    (subst IsUtf8 began_document (IsUtf8-from_is_utf8 texts u)) in
     let all = All-permutation (IsUtf8Span texts) spans ps same (spans_utf8 texts spans rest) in
-    let qs = last_ones ps in
+    let qs = last_of_each_key ps in
     let members = open_text texts false qs in
     let front = before ++ 123 ∷ members in (
       front,
@@ -95,11 +95,11 @@ ended_utf8 before texts new spans opened u (written, (ps, stable, same, up, is),
           ∙ sym (append_assoc before (123 ∷ members) (125 ∷ [])),
     )
 
-pub braced_utf8 : (new : List ℕ) → IsBraced new → is_utf8 new ≡ true
+pub braced_utf8 : (new : List ℕ) → EndsWithBrace new → is_utf8 new ≡ true
 braced_utf8 new (front, u, is) = joined_utf8 front (125 ∷ []) new u (byte_utf8 125 (omega arith)) is
 
 -- and without its last byte
-pub unbraced_utf8 : (text : List ℕ) (n : ℕ) → IsBraced text → n ≡ length text → is_utf8 (take (n - 1) text) ≡ true
+pub unbraced_utf8 : (text : List ℕ) (n : ℕ) → EndsWithBrace text → n ≡ length text → is_utf8 (take (n - 1) text) ≡ true
 unbraced_utf8 text n (front, u, is) long =
     ap is_utf8 (ap (take (n - 1)) is
     ∙ take_at front (125 ∷ []) (n - 1) (omega (arith, long, ap length is, length-append front (125 ∷ []))))

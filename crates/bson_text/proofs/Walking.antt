@@ -18,29 +18,29 @@ use Rattle.bson_model.specs.Value.{Value, Values, Pairs}
 use Rattle.bson_model.specs.OrderedTrees.{kept, kept_items}
 use Rattle.bson_model.specs.OrderedReading.{items_in_order, members_in_order}
 use Rattle.bson_tokens.proofs.Offered.{was_read}
-use Rattle.bson_text.specs.Walked.{ItemsWritten, PairsWritten, keys_of, each_key_once, TreeMeans, ItemsMean, ObjectMeans}
-use Rattle.bson_text.specs.Walked.{MembersMean, kept_object, inside, from_key}
-use Rattle.bson_text.specs.Exact.{as_they_stand}
+use Rattle.bson_text.specs.TraversalResults.{ItemsWritten, PairsWritten, keys_of, each_key_once, ReadsTree, ReadsItems, ReadsObject}
+use Rattle.bson_text.specs.TraversalResults.{ReadsMembers, kept_object, members_inside, members_after_key}
+use Rattle.bson_text.specs.ErrorDenials.{members_as_given}
 use Rattle.bson_text.proofs.Members.{insert_each, kept_each, free_each, reads_each}
 use Rattle.bson_text.proofs.Objects.{Key, texts, append_none, texts_more, step_more, begins, object_of, array_of}
 
-module _ {S : Type 0} (D : Doubles) (wrote : S → List ℕ → Value → S → Type 0) where
+module _ {S : Type 0} (D : Doubles) (wrote_value : S → List ℕ → Value → S → Type 0) where
   -- ---- arrays
 
   module _ (name : ℕ → List ℕ) where
     abbrev pub ItemsToGo : Option (json.Items × List Token) → Option (json.Items × List Token) → ℕ → S → S → Type 0
     ItemsToGo whole here n mark now =
         (js : json.Items) (r : List Token) (ts : Items) (vs : Values) (end : S) → here ≡ Some (js, r)
-        → kept_items js ≡ Some ts → items_in_order D ts ≡ Ok vs → ItemsWritten wrote name n vs now end
+        → kept_items js ≡ Some ts → items_in_order D ts ≡ Ok vs → ItemsWritten wrote_value name n vs now end
         → (all : json.Items) × (read : Items) × (ws : Values) × (whole ≡ Some (all, r)) × (kept_items all ≡ Some read)
-        × (items_in_order D read ≡ Ok ws) × ItemsWritten wrote name 0 ws mark end
+        × (items_in_order D read ≡ Ok ws) × ItemsWritten wrote_value name 0 ws mark end
 
     pub items_begun : (whole : Option (json.Items × List Token)) (mark : S) → ItemsToGo whole whole 0 mark mark
     items_begun whole mark js r ts vs end here is means written = (js, ts, vs, here, is, means, written)
 
     pub item_passed : (whole : Option (json.Items × List Token)) (p : Parse json.Json) (n place : ℕ) (ts r : List Token)
         (mark now later : S) → 0 < n → after_end_array ts ≡ None
-        → TreeMeans D (converted kept (p ts)) r (λ v. wrote now (name place) v later)
+        → ReadsTree D (converted kept (p ts)) r (λ v. wrote_value now (name place) v later)
         → ItemsToGo whole (items p n ts) place mark now → ItemsToGo whole (items p (n - 1) r) (place + 1) mark later
     item_passed whole p n place ts r mark now later left going (t, v, read, means, put) go js rest ds vs end here is all
         written =
@@ -53,8 +53,8 @@ module _ {S : Type 0} (D : Doubles) (wrote : S → List ℕ → Value → S → 
     pub items_passed : (whole : Option (json.Items × List Token)) (p : Parse json.Json) (n place : ℕ) (ts r : List Token)
         (mark now : S) (Hold : Values → Type 0) → length ts ≤ n → after_end_array ts ≡ Some r
         → ItemsToGo whole (items p n ts) place mark now
-        → ((vs : Values) → ItemsWritten wrote name 0 vs mark now → Hold vs)
-        → ItemsMean D (converted kept_items whole) r Hold
+        → ((vs : Values) → ItemsWritten wrote_value name 0 vs mark now → Hold vs)
+        → ReadsItems D (converted kept_items whole) r Hold
     items_passed whole p n place ts r mark now Hold enough closed go holds =
         let g = go json.no_items r no_items model.no_values now (items_end p n ts r enough closed) refl refl refl in (
           g.1,
@@ -66,18 +66,18 @@ module _ {S : Type 0} (D : Doubles) (wrote : S → List ℕ → Value → S → 
 
   -- ---- objects
 
-  module _ (keyed : S → List ℕ → S → Type 0) where
+  module _ (wrote_key : S → List ℕ → S → Type 0) where
     -- the keys are those that were read
     abbrev pub ToGo : Bool → Option (json.Members × List Token) → Option (json.Members × List Token) → List Key → S → S
         → Type 0
     ToGo b whole here keys mark now =
         (js : json.Members) (r : List Token) (ts : Members) (ps : Pairs) (end : S) → here ≡ Some (js, r)
-        → as_they_stand js ≡ Some ts → members_in_order D ts ≡ Ok ps → (b ≡ true → has_wrapper ts ≡ false)
-        → PairsWritten wrote keyed ps now end
+        → members_as_given js ≡ Some ts → members_in_order D ts ≡ Ok ps → (b ≡ true → has_wrapper ts ≡ false)
+        → PairsWritten wrote_value wrote_key ps now end
         → (all : json.Members) × (read : Members) × (qs : Pairs) × (whole ≡ Some (all, r))
-        × (as_they_stand all ≡ Some read) × (members_in_order D read ≡ Ok qs) × (b ≡ true → has_wrapper read ≡ false)
+        × (members_as_given all ≡ Some read) × (members_in_order D read ≡ Ok qs) × (b ≡ true → has_wrapper read ≡ false)
         × (keys_of qs ≡ texts keys ++ keys_of ps)
-        × PairsWritten wrote keyed qs mark end
+        × PairsWritten wrote_value wrote_key qs mark end
 
     pub members_begun : (b : Bool) (whole : Option (json.Members × List Token)) (mark : S)
         → ToGo b whole whole [] mark mark
@@ -86,8 +86,8 @@ module _ {S : Type 0} (D : Doubles) (wrote : S → List ℕ → Value → S → 
 
     pub member_passed : (b : Bool) (whole : Option (json.Members × List Token)) (p : Parse json.Json) (n : ℕ) (k : Key)
         (ts r s : List Token) (next : Option (List ℕ)) (keys : List Key) (mark now named later : S) → 0 < n
-        → (b ≡ true → wrapper_of k.now ≡ None) → keyed now k.now named
-        → TreeMeans D (converted kept (p ts)) r (λ v. wrote named k.now v later) → read_key r ≡ Some (next, s)
+        → (b ≡ true → wrapper_of k.now ≡ None) → wrote_key now k.now named
+        → ReadsTree D (converted kept (p ts)) r (λ v. wrote_value named k.now v later) → read_key r ≡ Some (next, s)
         → ToGo b whole (members_step p (members p n) (Some k.now) ts) keys mark now
         → ToGo b whole (members_step p (members p (n - 1)) next s) (keys ++ k ∷ []) mark later
     member_passed b whole p n k ts r s next keys mark now named later left ordinary name (t, v, read, means, put) key go
@@ -111,15 +111,15 @@ module _ {S : Type 0} (D : Doubles) (wrote : S → List ℕ → Value → S → 
 
     pub members_written : (b : Bool) (whole : Option (json.Members × List Token)) (s : List Token) (keys : List Key)
         (mark now : S) → ToGo b whole (Some (json.no_members, s)) keys mark now
-        → (ps : Pairs) × PairsWritten wrote keyed ps mark now × (keys_of ps ≡ texts keys)
+        → (ps : Pairs) × PairsWritten wrote_value wrote_key ps mark now × (keys_of ps ≡ texts keys)
     members_written b whole s keys mark now go =
         let g = go json.no_members s no_members model.no_pairs now refl refl refl (λ is. refl) refl in
         (g.2, g.8, g.7 ∙ append_none (texts keys))
 
     pub members_passed : (b : Bool) (whole : Option (json.Members × List Token)) (s : List Token) (keys : List Key)
         (mark now : S) (Hold : Pairs → Type 0) → ToGo b whole (Some (json.no_members, s)) keys mark now
-        → ((ps : Pairs) → PairsWritten wrote keyed ps mark now → keys_of ps ≡ texts keys → Hold (each_key_once ps))
-        → MembersMean D b (kept_object whole) s Hold
+        → ((ps : Pairs) → PairsWritten wrote_value wrote_key ps mark now → keys_of ps ≡ texts keys → Hold (each_key_once ps))
+        → ReadsMembers D b (kept_object whole) s Hold
     members_passed b whole s keys mark now Hold go holds =
         let g = go json.no_members s no_members model.no_pairs now refl refl refl (λ is. refl) refl in (
           insert_each g.1 no_members,
@@ -136,19 +136,19 @@ module _ (D : Doubles) where
   pub document_means : (depth : ℕ) (first : Option (List ℕ)) (ts s r : List Token) (Framed : Pairs → Type 0)
       (Wrote : Value → Type 0) → read_key ts ≡ Some (first, s)
       → ((ps : Pairs) → Framed ps → Wrote (model.document ps))
-      → MembersMean D true (kept_object (from_key depth first s)) r Framed
-      → ObjectMeans D (kept_object (inside depth ts)) r Wrote
-  document_means depth first ts s r Framed Wrote key embedded (ms, ps, read, means, free, framed) = (
+      → ReadsMembers D true (kept_object (members_after_key depth first s)) r Framed
+      → ReadsObject D (kept_object (members_inside depth ts)) r Wrote
+  document_means depth first ts s r Framed Wrote key embedded (ms, ps, read, means, free, wrote_document) = (
     ms,
     model.document ps,
     ap kept_object (begins depth first ts s key) ∙ read,
     rw (free refl, means) refl,
-    embedded ps framed,
+    embedded ps wrote_document,
   )
 
   pub array_means : (depth : ℕ) (ts s r : List Token) (Wrote : Value → Type 0) → ts ≡ token.begin_array ∷ s → 0 < depth
-      → ItemsMean D (converted kept_items (items (value (depth - 1)) (length s) s)) r (λ vs. Wrote (model.array vs))
-      → TreeMeans D (converted kept (value depth ts)) r Wrote
+      → ReadsItems D (converted kept_items (items (value (depth - 1)) (length s) s)) r (λ vs. Wrote (model.array vs))
+      → ReadsTree D (converted kept (value depth ts)) r Wrote
   array_means depth ts s r Wrote is left (ds, vs, read, means, written) = (
     array ds,
     model.array vs,
@@ -159,7 +159,7 @@ module _ (D : Doubles) where
   )
 
   pub object_means : (depth : ℕ) (ts s r : List Token) (Wrote : Value → Type 0) → ts ≡ token.begin_object ∷ s → 0 < depth
-      → ObjectMeans D (kept_object (inside (depth - 1) s)) r Wrote → TreeMeans D (converted kept (value depth ts)) r Wrote
+      → ReadsObject D (kept_object (members_inside (depth - 1) s)) r Wrote → ReadsTree D (converted kept (value depth ts)) r Wrote
   object_means depth ts s r Wrote is left (ms, v, read, means, written) = (
     object ms,
     v,

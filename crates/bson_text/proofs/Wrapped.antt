@@ -23,28 +23,28 @@ use Rattle.bson_tree.specs.declared.place.Place.{Place}
 use Rattle.bson_tokens.specs.FirstFault.{FaultAndPath, fault_in_tree, first_member_fault, wrapper_fault, or, add_segment, wrong_shape_here, scalar_fault}
 use Rattle.bson_tokens.specs.WrapperContent.{IsWrapperContent}
 use Rattle.bson_tokens.proofs.Offered.{was_read as from_tree}
-use Rattle.bson_text.specs.Walked.{inside, from_key}
+use Rattle.bson_text.specs.TraversalResults.{members_inside, members_after_key}
 use Rattle.bson_text.proofs.Objects.{begins}
 use Rattle.bson_text.proofs.Denials.{then_parsed, split_kept, mapped}
 use Rattle.bson_text.proofs.Parsed.{same_parse, after_first, none_behind}
-use Rattle.bson_text.specs.Placed.{trees_of, FirstPlain, At, IsOf, IsScalarFault}
-use Rattle.bson_text.specs.Placed.{IsShapeFaultPassed, Keyed, NoFault, ValuePlaced, ItemsPlaced, MembersPlaced, ObjectPlaced}
+use Rattle.bson_text.specs.ErrorPaths.{member_trees, FirstKeyIsPlain, IfFault, IsPlaceOfFault, IsScalarFault}
+use Rattle.bson_text.specs.ErrorPaths.{IsWrongShapeAtValue, IsErrorAtKey, HasNoPlace, LocatesValueError, LocatesItemsError, LocatesMembersError, LocatesObjectError}
 use Rattle.json.specs.declared.error.Error.{Error}
 use Rattle.json.specs.declared.error.Error.TheVariants as json_error
-use Rattle.bson_text.specs.Stops.{stop_of}
-use Rattle.bson_text.specs.declared.stop.Stop.{Stop}
-use Rattle.bson_text.specs.declared.stop.Stop.TheVariants as stop
+use Rattle.bson_text.specs.TraversalErrors.{error_of_json}
+use Rattle.bson_text.specs.declared.traversal_error.TraversalError.{TraversalError}
+use Rattle.bson_text.specs.declared.traversal_error.TraversalError.TheVariants as failure
 use Rattle.bson_text.proofs.Passing.{at_map, members_off}
 use Rattle.bson_text.proofs.Faults.{placed_within, placed_here, MembersFrom, wrapped, array_placed, object_placed}
 
-pub no_fault : (e : Stop) (P : Place → Type 0) → NoFault e → At e P
-no_fault stop.OutOfMemory P h = tt
-no_fault stop.DuplicateKey P h = tt
-no_fault stop.GaveUp P h = tt
-no_fault stop.Syntax P h = tt
-no_fault (stop.Fault q) P h = absurd h
+pub no_fault : (e : TraversalError) (P : Place → Type 0) → HasNoPlace e → IfFault e P
+no_fault failure.OutOfMemory P h = tt
+no_fault failure.DuplicateKey P h = tt
+no_fault failure.GaveUp P h = tt
+no_fault failure.Syntax P h = tt
+no_fault (failure.Fault q) P h = absurd h
 
-pub reader_stop : (e : Error) (P : Place → Type 0) → At (stop_of e) P
+pub reader_stop : (e : Error) (P : Place → Type 0) → IfFault (error_of_json e) P
 reader_stop json_error.Invalid P = tt
 reader_stop json_error.OutOfMemory P = tt
 reader_stop json_error.TooLong P = tt
@@ -65,47 +65,47 @@ one_behind p (suc n) r q rest l ns named is =
     (n, sym (ap (option_and_then (λ x. members_step p (members p n) x.0 x.1)) named) ∙ is)
 
 first_plain : (depth : ℕ) (first : Option (List ℕ)) (s r : List Token) (ms : json.Members)
-    → from_key depth first s ≡ Some (ms, r) → ((k : List ℕ) → first ≡ Some k → wrapper_of k ≡ None) → FirstPlain ms
+    → members_after_key depth first s ≡ Some (ms, r) → ((k : List ℕ) → first ≡ Some k → wrapper_of k ≡ None) → FirstKeyIsPlain ms
 first_plain depth None s r ms is plain =
     let same : (json.no_members, s) ≡ (ms, r) = same_Some {A = json.Members × List Token} (json.no_members, s) (ms, r) is in
-    subst FirstPlain (ap (λ p. p.0) same) tt
+    subst FirstKeyIsPlain (ap (λ p. p.0) same) tt
 first_plain depth (Some k) s r ms is plain =
     let g = then_parsed (json.member k) (members (value depth) (length s)) (value depth s) ms r is in
-    subst FirstPlain (sym g.5) (plain k refl)
+    subst FirstKeyIsPlain (sym g.5) (plain k refl)
 
 module _ (D : Doubles) where
   -- ---- numbers
 
-  pub number_placed : (e : Stop) (depth : ℕ) (s : List ℕ) (ts r : List Token) → ts ≡ token.number s ∷ r
-      → ((n : Num) → number_of s ≡ Some n → IsScalarFault (number_read_in D n) e) → ValuePlaced D e (value depth ts) r
-  number_placed stop.OutOfMemory depth s ts r starts at = tt
-  number_placed stop.DuplicateKey depth s ts r starts at = tt
-  number_placed stop.GaveUp depth s ts r starts at = tt
-  number_placed stop.Syntax depth s ts r starts at = tt
-  number_placed (stop.Fault q) depth s ts r starts at = λ j rest t is rise of.
+  pub number_placed : (e : TraversalError) (depth : ℕ) (s : List ℕ) (ts r : List Token) → ts ≡ token.number s ∷ r
+      → ((n : Num) → number_of s ≡ Some n → IsScalarFault (number_read_in D n) e) → LocatesValueError D e (value depth ts) r
+  number_placed failure.OutOfMemory depth s ts r starts at = tt
+  number_placed failure.DuplicateKey depth s ts r starts at = tt
+  number_placed failure.GaveUp depth s ts r starts at = tt
+  number_placed failure.Syntax depth s ts r starts at = tt
+  number_placed (failure.Fault q) depth s ts r starts at = λ j rest t is rise of.
       let read : value depth ts ≡ Some (json.number s, r) = ap (value depth) starts ∙ value_is depth (token.number s ∷ r) in
       let same = same_parse (value depth ts) j (json.number s) rest r is read in
       let a = mapped tree.number (number_of s) t (subst (λ x. of_json x ≡ Some t) same.0 of) in
-      (sym same.1, subst (λ x. IsOf (fault_in_tree D x) q.value) (sym a.2) (at a.0 a.1))
+      (sym same.1, subst (λ x. IsPlaceOfFault (fault_in_tree D x) q.value) (sym a.2) (at a.0 a.1))
 
   -- ---- documents
 
-  pub document_placed : (e : Stop) (depth : ℕ) (first : Option (List ℕ)) (ts s rest : List Token)
+  pub document_placed : (e : TraversalError) (depth : ℕ) (first : Option (List ℕ)) (ts s rest : List Token)
       → read_key ts ≡ Some (first, s) → ((k : List ℕ) → first ≡ Some k → wrapper_of k ≡ None)
-      → MembersPlaced D e true (from_key depth first s) rest → ObjectPlaced D e (inside depth ts) rest
+      → LocatesMembersError D e true (members_after_key depth first s) rest → LocatesObjectError D e (members_inside depth ts) rest
   document_placed e depth first ts s rest named plain = at_map e _ _ (λ q at ms r ds is rise of.
-      let now : from_key depth first s ≡ Some (ms, r) = sym (begins depth first ts s named) ∙ is in
+      let now : members_after_key depth first s ≡ Some (ms, r) = sym (begins depth first ts s named) ∙ is in
       at ms r ds now rise of (λ yes. first_plain depth first s r ms now plain))
 
-  pub misplaced_placed : (e : Stop) (b : Bool) (whole : Option (json.Members × List Token)) (depth n : ℕ) (k : List ℕ)
+  pub misplaced_placed : (e : TraversalError) (b : Bool) (whole : Option (json.Members × List Token)) (depth n : ℕ) (k : List ℕ)
       (ts rest : List Token) → (b && is_some (wrapper_of k)) ≡ true
       → MembersFrom D b whole (members_step (value depth) (members (value depth) n) (Some k) ts)
-      → IsShapeFaultPassed depth ts e rest → MembersPlaced D e b whole rest
+      → IsWrongShapeAtValue depth ts e rest → LocatesMembersError D e b whole rest
   misplaced_placed e false whole depth n k ts rest bad from out = cc
   misplaced_placed e true whole depth n k ts rest bad from out = at_map e _ _ (λ q (shape, passed) ms r ds is rise of first.
       let g = from ms r ds is rise of in
       let m = then_parsed (json.member k) (members (value depth) n) (value depth ts) g.0 r g.2 in
-      let a = split_kept (member k) (of_json m.0) (trees_of m.2) g.1 (subst (λ x. trees_of x ≡ Some g.1) m.5 g.4) in
+      let a = split_kept (member k) (of_json m.0) (member_trees m.2) g.1 (subst (λ x. member_trees x ≡ Some g.1) m.5 g.4) in
       let has : has_wrapper ds ≡ true = g.6 refl ∙ ap has_wrapper a.4 ∙ ap (λ x. x || has_wrapper a.1) bad in
       (passed n k g.0 r g.2, placed_here (fault_in_tree D (object ds)) q shape (wrapped D ms ds of (first refl) has))) out
 
@@ -121,9 +121,9 @@ module _ (D : Doubles) where
   lone k w d named = by_wrapper k w d no_members named
       ∙ ap (λ o. add_segment (key k) (scalar_fault (optional_wrapper_read_in D o d))) named
 
-  pub alone_placed : (e f : Stop) (depth : ℕ) (k : List ℕ) (w : Wrapper) (ts r s : List Token) (held : Data)
+  pub alone_placed : (e f : TraversalError) (depth : ℕ) (k : List ℕ) (w : Wrapper) (ts r s : List Token) (held : Data)
       → wrapper_of k ≡ Some w → IsWrapperContent (converted of_json (value depth ts)) held r → read_key r ≡ Some (None, s)
-      → IsScalarFault (wrapper_read_in D w held) e → Keyed k e f → ObjectPlaced D f (from_key depth (Some k) ts) s
+      → IsScalarFault (wrapper_read_in D w held) e → IsErrorAtKey k e f → LocatesObjectError D f (members_after_key depth (Some k) ts) s
   alone_placed e f depth k w ts r s held named read ended at out = at_map f _ _ (λ q (p, is, further) ms rest ds parsed rise of.
       let P = value depth in
       let j = from_tree of_json (P ts) read.0 r read.1 in
@@ -131,7 +131,7 @@ module _ (D : Doubles) where
       let off = members_off P (length ts) r s rest m.0 ended m.1 in
       let none = none_behind P (length ts) r s rest m.0 ended m.1 in
       let all : ms ≡ json.member k j.0 json.no_members = m.2 ∙ ap (json.member k j.0) none in
-      let a = split_kept (member k) (of_json j.0) (trees_of json.no_members) ds (subst (λ x. trees_of x ≡ Some ds) all of) in
+      let a = split_kept (member k) (of_json j.0) (member_trees json.no_members) ds (subst (λ x. member_trees x ≡ Some ds) all of) in
       let end : a.1 ≡ no_members = sym (same_Some no_members a.1 a.3) in
       let tree_is : a.0 ≡ read.0 = same_Some a.0 read.0 (sym a.2 ∙ j.2) in
       let now = subst (IsScalarFault (wrapper_read_in D w held)) is at in
@@ -152,10 +152,10 @@ module _ (D : Doubles) where
   two_found k l w d e no_members named are = by_wrapper k w d (member l e no_members) named ∙ cond_here _ _ are
   two_found k l w d e (member m f us) named are = by_wrapper k w d (member l e (member m f us)) named
 
-  pub strange_placed : (f : Stop) (depth : ℕ) (k l : List ℕ) (w : Wrapper) (ts r q rest : List Token) (held : Data)
+  pub strange_placed : (f : TraversalError) (depth : ℕ) (k l : List ℕ) (w : Wrapper) (ts r q rest : List Token) (held : Data)
       → wrapper_of k ≡ Some w → IsWrapperContent (converted of_json (value depth ts)) held r → read_key r ≡ Some (Some l, q)
-      → (bytes_eq k (codes "$code") && bytes_eq l (codes "$scope")) ≡ false → IsShapeFaultPassed depth q f rest
-      → ObjectPlaced D f (from_key depth (Some k) ts) rest
+      → (bytes_eq k (codes "$code") && bytes_eq l (codes "$scope")) ≡ false → IsWrongShapeAtValue depth q f rest
+      → LocatesObjectError D f (members_after_key depth (Some k) ts) rest
   strange_placed f depth k l w ts r q rest held named read key_is are out = at_map f _ _ (λ x (shape, passed) ms end ds parsed rise of.
       let P = value depth in
       let j = from_tree of_json (P ts) read.0 r read.1 in
@@ -163,25 +163,25 @@ module _ (D : Doubles) where
       let o = one_behind P (length ts) r q end l m.0 key_is m.1 in
       let n = then_parsed (json.member l) (members P o.0) (P q) m.0 end o.1 in
       let all : ms ≡ json.member k j.0 (json.member l n.0 n.2) = m.2 ∙ ap (json.member k j.0) n.5 in
-      let a = split_kept (member k) (of_json j.0) (trees_of (json.member l n.0 n.2)) ds (subst (λ y. trees_of y ≡ Some ds) all of) in
-      let b = split_kept (member l) (of_json n.0) (trees_of n.2) a.1 a.3 in
+      let a = split_kept (member k) (of_json j.0) (member_trees (json.member l n.0 n.2)) ds (subst (λ y. member_trees y ≡ Some ds) all of) in
+      let b = split_kept (member l) (of_json n.0) (member_trees n.2) a.1 a.3 in
       let same : fault_in_tree D (object ds) ≡ wrong_shape_here =
       ap (λ y. fault_in_tree D (object y)) (a.4 ∙ ap (member k a.0) b.4) ∙ two_found k l w a.0 b.0 b.1 named are in
       (passed o.0 l m.0 end o.1, placed_here (fault_in_tree D (object ds)) x shape same)) out
 
   -- ---- values
 
-  pub array_at : (e : Stop) (depth : ℕ) (ts s rest : List Token) → ts ≡ token.begin_array ∷ s → 0 < depth
-      → ItemsPlaced D e (items (value (depth - 1)) (length s) s) rest → ValuePlaced D e (value depth ts) rest
+  pub array_at : (e : TraversalError) (depth : ℕ) (ts s rest : List Token) → ts ≡ token.begin_array ∷ s → 0 < depth
+      → LocatesItemsError D e (items (value (depth - 1)) (length s) s) rest → LocatesValueError D e (value depth ts) rest
   array_at e depth ts s rest starts left at =
-      subst (λ x. ValuePlaced D e x rest) (sym (ap (value depth) starts ∙ value-begin_array depth s left))
+      subst (λ x. LocatesValueError D e x rest) (sym (ap (value depth) starts ∙ value-begin_array depth s left))
       (array_placed D e (items (value (depth - 1)) (length s) s) rest at)
 
-  pub object_at : (e : Stop) (depth : ℕ) (ts s rest : List Token) → ts ≡ token.begin_object ∷ s → 0 < depth
-      → ObjectPlaced D e (inside (depth - 1) s) rest → ValuePlaced D e (value depth ts) rest
+  pub object_at : (e : TraversalError) (depth : ℕ) (ts s rest : List Token) → ts ≡ token.begin_object ∷ s → 0 < depth
+      → LocatesObjectError D e (members_inside (depth - 1) s) rest → LocatesValueError D e (value depth ts) rest
   object_at e depth ts s rest starts left at =
-      subst (λ x. ValuePlaced D e x rest) (sym (ap (value depth) starts ∙ value-begin_object depth s left))
-      (object_placed D e (inside (depth - 1) s) rest at)
+      subst (λ x. LocatesValueError D e x rest) (sym (ap (value depth) starts ∙ value-begin_object depth s left))
+      (object_placed D e (members_inside (depth - 1) s) rest at)
 
   -- ---- the place of the verdict is that of the first fault
 
@@ -191,7 +191,7 @@ module _ (D : Doubles) where
   at_verdict t (Some g) f path h is =
       subst (λ x. FaultAtIn D x.0 t x.1) (same_Some {A = Fault × List PathSegment} g (f, path) is) h
 
-  pub first_fault : (t : Data) (place : Place) → IsOf (fault_in_tree D t) place → IsFirstFaultIn D t place
+  pub first_fault : (t : Data) (place : Place) → IsPlaceOfFault (fault_in_tree D t) place → IsFirstFaultIn D t place
   first_fault t place is =
       first_found D t (Ok (Some place)) (record {
         fault = is.fault;

@@ -25,8 +25,8 @@ use Rattle.bson_model.specs.OrderedTrees.{kept, tree_sorted_by_key}
 use Rattle.bson_model.specs.OrderedReading.{reads_in_order, scope_in_order}
 use Rattle.bson_tokens.specs.WrapperContent.{IsWrapperContent}
 use Rattle.bson_tokens.proofs.Offered.{was_read}
-use Rattle.bson_text.specs.Walked.{TreeMeans, ObjectMeans, MembersMean, ScopeMeans, CodeMeans, CodeEnds, kept_object}
-use Rattle.bson_text.specs.Walked.{inside, from_key}
+use Rattle.bson_text.specs.TraversalResults.{ReadsTree, ReadsObject, ReadsMembers, ReadsScope, ReadsCode, IsEndOfCode, kept_object}
+use Rattle.bson_text.specs.TraversalResults.{members_inside, members_after_key}
 use Rattle.bson_text.proofs.Objects.{object_of, begins, kept_from, alone, alone_kept, two, two_kept}
 
 a_text : (t : Data) (s : List ℕ) → as_str t ≡ Some s → t ≡ string s
@@ -42,13 +42,13 @@ module _ (D : Doubles) where
 
   pub token_means : (depth : ℕ) (k : Token) (ts s : List Token) (t : Data) (v : Value) (Wrote : Value → Type 0)
       → ts ≡ k ∷ s → converted kept (value depth (k ∷ s)) ≡ Some (t, s) → reads_in_order D t ≡ Ok v → Wrote v
-      → TreeMeans D (converted kept (value depth ts)) s Wrote
+      → ReadsTree D (converted kept (value depth ts)) s Wrote
   token_means depth k ts s t v Wrote is read means written =
       (t, v, ap (λ x. converted kept (value depth x)) is ∙ read, means, written)
 
   pub number_means : (depth : ℕ) (k : List ℕ) (ts s : List Token) (n : Num) (x : Scalar) (Wrote : Value → Type 0)
       → ts ≡ token.number k ∷ s → number_of k ≡ Some n → number_read_in D n ≡ Ok x → Wrote (scalar x)
-      → TreeMeans D (converted kept (value depth ts)) s Wrote
+      → ReadsTree D (converted kept (value depth ts)) s Wrote
   number_means depth k ts s n x Wrote is found read written =
       token_means depth (token.number k) ts s (number n) (scalar x) Wrote is
       (ap (converted kept) (value_is depth (token.number k ∷ s))
@@ -58,7 +58,7 @@ module _ (D : Doubles) where
       (Wrote : Value → Type 0) → wrapper_of k ≡ Some wrapper
       → IsWrapperContent (converted of_json (value depth ts)) held r → length r < length ts
       → read_key r ≡ Some (None, s) → wrapper_read_in D wrapper held ≡ Ok x → Wrote (scalar x)
-      → ObjectMeans D (kept_object (from_key depth (Some k) ts)) s Wrote
+      → ReadsObject D (kept_object (members_after_key depth (Some k) ts)) s Wrote
   single_means depth k wrapper ts r s held x Wrote named read less ended single written =
       let j = was_read of_json (value depth ts) read.0 r read.1 in
       let d = kept_from j.0 read.0 j.2 in
@@ -75,14 +75,14 @@ module _ (D : Doubles) where
   -- ---- code with its scope
 
   pub scope_means : (depth : ℕ) (first : Option (List ℕ)) (ts s r : List Token) (Framed : Pairs → Type 0) → 0 < depth
-      → read_key ts ≡ Some (first, s) → MembersMean D false (kept_object (from_key (depth - 1) first s)) r Framed
-      → ScopeMeans D depth ts r Framed
-  scope_means depth first ts s r Framed left key (ms, ps, read, means, free, framed) =
-      (left, (ms, ps, ap kept_object (begins (depth - 1) first ts s key) ∙ read, means, free, framed))
+      → read_key ts ≡ Some (first, s) → ReadsMembers D false (kept_object (members_after_key (depth - 1) first s)) r Framed
+      → ReadsScope D depth ts r Framed
+  scope_means depth first ts s r Framed left key (ms, ps, read, means, free, wrote_document) =
+      (left, (ms, ps, ap kept_object (begins (depth - 1) first ts s key) ∙ read, means, free, wrote_document))
 
   pub code_alone : (depth : ℕ) (s : List ℕ) (needs_comma_after : Bool) (ts r rest : List Token) (Wrote : Value → Type 0)
-      → ts ≡ token.null ∷ r → CodeEnds s needs_comma_after r rest → Wrote (scalar (code s))
-      → CodeMeans D depth s needs_comma_after ts rest Wrote
+      → ts ≡ token.null ∷ r → IsEndOfCode s needs_comma_after r rest → Wrote (scalar (code s))
+      → ReadsCode D depth s needs_comma_after ts rest Wrote
   code_alone depth s needs_comma_after ts r rest Wrote is ended written =
       let length_is : length ts ≡ suc (length r) = ap length is in (
         null,
@@ -96,20 +96,20 @@ module _ (D : Doubles) where
       )
 
   pub code_scoped : (depth : ℕ) (s : List ℕ) (needs_comma_after : Bool) (ts q r rest : List Token) (Framed : Pairs → Type 0)
-      (Wrote : Value → Type 0) → ts ≡ token.begin_object ∷ q → ScopeMeans D depth q r Framed → length r < length q
-      → CodeEnds s needs_comma_after r rest → ((ps : Pairs) → Framed ps → Wrote (model.code_scope s ps))
-      → CodeMeans D depth s needs_comma_after ts rest Wrote
-  code_scoped depth s needs_comma_after ts q r rest Framed Wrote is (left, (ms, ps, read, means, free, framed)) less ended ends =
+      (Wrote : Value → Type 0) → ts ≡ token.begin_object ∷ q → ReadsScope D depth q r Framed → length r < length q
+      → IsEndOfCode s needs_comma_after r rest → ((ps : Pairs) → Framed ps → Wrote (model.code_scope s ps))
+      → ReadsCode D depth s needs_comma_after ts rest Wrote
+  code_scoped depth s needs_comma_after ts q r rest Framed Wrote is (left, (ms, ps, read, means, free, wrote_document)) less ended ends =
       let length_is : length ts ≡ suc (length q) = ap length is in (
         object ms,
         Some ps,
         r,
         ap (λ x. converted kept (value depth x)) is ∙ ap (converted kept) (value-begin_object depth q left)
-            ∙ object_of (inside (depth - 1) q) ms r read,
+            ∙ object_of (members_inside (depth - 1) q) ms r read,
         omega (arith, length_is),
         ended,
         rw means refl,
-        ends ps framed,
+        ends ps wrote_document,
       )
 
   code_is : (s : List ℕ) (d e : Data) (scope : Option Pairs) → tree_sorted_by_key d ≡ string s → scope_in_order D e ≡ Ok scope
@@ -125,7 +125,7 @@ module _ (D : Doubles) where
   pub code_means : (depth : ℕ) (k l s : List ℕ) (ts r q rest : List Token) (held : Data) (Wrote : Value → Type 0)
       → IsWrapperContent (converted of_json (value depth ts)) held r → length r < length ts → read_key r ≡ Some (Some l, q)
       → (bytes_eq k (codes "$code") && bytes_eq l (codes "$scope")) ≡ true → held ≡ string s
-      → CodeMeans D depth s false q rest Wrote → ObjectMeans D (kept_object (from_key depth (Some k) ts)) rest Wrote
+      → ReadsCode D depth s false q rest Wrote → ReadsObject D (kept_object (members_after_key depth (Some k) ts)) rest Wrote
   code_means depth k l s ts r q rest held Wrote read less key are text
       (e, scope, end, found, fewer, ended, means, written) =
       let both = and_parts (bytes_eq k (codes "$code")) (bytes_eq l (codes "$scope")) are in
@@ -137,7 +137,7 @@ module _ (D : Doubles) where
       let named : read_key r ≡ Some (Some (codes "$scope"), q) = key ∙ ap (λ x. Some (Some x, q)) second in (
         member (codes "$code") d.0 (member (codes "$scope") e no_members),
         code_value s scope,
-        ap (λ x. kept_object (from_key depth (Some x) ts)) first
+        ap (λ x. kept_object (members_after_key depth (Some x) ts)) first
             ∙ ap kept_object (two depth (codes "$code") (codes "$scope") ts r q end rest j.0 i.0 less j.1 named i.1 fewer ended)
             ∙ two_kept (codes "$code") (codes "$scope") j.0 i.0 d.0 e rest refl d.1 i.2,
         code_is s d.0 e scope (d.2 ∙ a_text read.0 s (sym read.2.1 ∙ ap as_str text)) means,
@@ -145,13 +145,13 @@ module _ (D : Doubles) where
       )
 
   pub behind_means : (depth : ℕ) (s : List ℕ) (first : Option (List ℕ)) (ts q rest : List Token) (Wrote : Value → Type 0)
-      → read_key ts ≡ Some (first, q) → first ≡ Some (codes "$scope") → CodeMeans D depth s true q rest Wrote
-      → ObjectMeans D (kept_object (inside depth ts)) rest Wrote
+      → read_key ts ≡ Some (first, q) → first ≡ Some (codes "$scope") → ReadsCode D depth s true q rest Wrote
+      → ReadsObject D (kept_object (members_inside depth ts)) rest Wrote
   behind_means depth s first ts q rest Wrote key is (d, scope, r, found, less, (end, named, ended), means, written) =
       let k = codes "$scope" in
       let l = codes "$code" in
       let j = was_read kept (value depth q) d r found in
-      let mark : inside depth ts ≡ from_key depth (Some k) q =
+      let mark : members_inside depth ts ≡ members_after_key depth (Some k) q =
       begins depth (Some k) ts q (key ∙ ap (λ x. Some (x, q)) is) in
       let needs_comma : value depth (token.string s ∷ end) ≡ Some (json.string s, end) = value_is depth (token.string s ∷ end) in (
         member k d (member l (string s) no_members),

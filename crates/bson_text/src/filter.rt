@@ -1,15 +1,15 @@
 //! From text to text, token by token.
 ghost use Rattle.std.specs.Prelude.{◌≡◌, IfOk, IfErr, IsUtf8, ⊤};
-ghost use Rattle.bson_text.specs.Filtered.{IsFilteredText, IsShownText, IsShownTextBy, IsShownTextInOrder};
-ghost use Rattle.bson_text.specs.Filtered.{IsSortedText};
-ghost use Rattle.bson_text.specs.Refused.{IsRefusedText};
+ghost use Rattle.bson_text.specs.OutputTexts.{IsFilteredText, IsShownText, IsShownTextBy, IsShownTextInOrder};
+ghost use Rattle.bson_text.specs.OutputTexts.{IsSortedText};
+ghost use Rattle.bson_text.specs.RejectedText.{IsRejectedText};
 ghost use Rattle.bson_scalar.specs.declared.form.Doubles.TheVariants.{Finite};
 
-use crate::shown_text::ShownWriter;
-use crate::sorted_text::SortedWriter;
-use crate::spans::memory_allowed;
-use crate::stop::Stop;
-use crate::text::TextWriter;
+use crate::display_writer::DisplayWriter;
+use crate::sorted_writer::SortedWriter;
+use crate::member_spans::memory_allowed;
+use crate::traversal_error::TraversalError;
+use crate::text_writer::TextWriter;
 use crate::traversal::write_text;
 use bson_scalar::form::{Doubles, Form};
 use bson_tokens::arrangement::Arrangement;
@@ -18,9 +18,9 @@ use std::alloc::Global;
 
 // The capacity for a part, enough for almost every value, and for the offsets of members. A short
 // input needs no more.
-const FIRST_PART: usize = 64;
+const PART_CAPACITY: usize = 64;
 
-const FIRST_STARTS: usize = 16;
+const STARTS_CAPACITY: usize = 16;
 
 /// Writes the compact text of the value that the text denotes in the form, with the keys of each
 /// document in the order of the text, at every depth. It is written as the text is read, with no
@@ -41,16 +41,16 @@ pub fn filter_text(
     form: Form,
     text: &str,
     scratch: &mut Scratch,
-) -> Result<Vec<u8>, Stop>
+) -> Result<Vec<u8>, TraversalError>
     ensures ok { IfOk result (λ written. IsFilteredText doubles form text.now written.items) }
     ensures utf8 { IfOk result (λ written. IsUtf8 written.items) }
-    ensures accepts { IfErr result (IsRefusedText doubles (doubles ≡ Finite) ⊥ text.now) }
+    ensures accepts { IfErr result (IsRejectedText doubles (doubles ≡ Finite) ⊥ text.now) }
 {
     let writer = TextWriter {
         alloc,
         doubles,
         form,
-        out: Writer::new(Vec::with_capacity(alloc, first_room(text))?),
+        out: Writer::new(Vec::with_capacity(alloc, output_capacity(text))?),
     };
     let written = write_text(alloc, doubles, text, scratch, writer)?;
     Ok(written.out.into_inner())
@@ -70,20 +70,20 @@ pub fn sort_text(
     form: Form,
     text: &str,
     scratch: &mut Scratch,
-) -> Result<Vec<u8>, Stop>
+) -> Result<Vec<u8>, TraversalError>
     ensures ok { IfOk result (λ written. IsSortedText doubles form text.now written.items) }
     ensures utf8 { IfOk result (λ written. IsUtf8 written.items) }
-    ensures accepts { IfErr result (IsRefusedText doubles (doubles ≡ Finite) ⊤ text.now) }
+    ensures accepts { IfErr result (IsRejectedText doubles (doubles ≡ Finite) ⊤ text.now) }
 {
     let writer = SortedWriter {
         alloc,
         doubles,
         form,
-        text: Vec::with_capacity(alloc, first_room(text))?,
-        part: Vec::with_capacity(alloc, FIRST_PART)?,
-        starts: Vec::with_capacity(alloc, FIRST_STARTS)?,
+        text: Vec::with_capacity(alloc, output_capacity(text))?,
+        part: Vec::with_capacity(alloc, PART_CAPACITY)?,
+        member_starts: Vec::with_capacity(alloc, STARTS_CAPACITY)?,
         needs_comma: false,
-        most: memory_allowed(text.len()),
+        limit: memory_allowed(text.len()),
     };
     let written = write_text(alloc, doubles, text, scratch, writer)?;
     Ok(written.text)
@@ -101,10 +101,10 @@ pub fn show_text(
     doubles: Doubles,
     text: &str,
     scratch: &mut Scratch,
-) -> Result<Vec<u8>, Stop>
+) -> Result<Vec<u8>, TraversalError>
     ensures ok { IfOk result (λ written. IsShownText doubles text.now written.items) }
     ensures utf8 { IfOk result (λ written. IsUtf8 written.items) }
-    ensures accepts { IfErr result (IsRefusedText doubles ⊥ ⊤ text.now) }
+    ensures accepts { IfErr result (IsRejectedText doubles ⊥ ⊤ text.now) }
 {
     show_by(alloc, doubles, Arrangement::Ascending, text, scratch)
 }
@@ -119,10 +119,10 @@ pub fn show_text_in_order(
     doubles: Doubles,
     text: &str,
     scratch: &mut Scratch,
-) -> Result<Vec<u8>, Stop>
+) -> Result<Vec<u8>, TraversalError>
     ensures ok { IfOk result (λ written. IsShownTextInOrder doubles text.now written.items) }
     ensures utf8 { IfOk result (λ written. IsUtf8 written.items) }
-    ensures accepts { IfErr result (IsRefusedText doubles ⊥ ⊤ text.now) }
+    ensures accepts { IfErr result (IsRejectedText doubles ⊥ ⊤ text.now) }
 {
     show_by(alloc, doubles, Arrangement::FirstPositions, text, scratch)
 }
@@ -133,19 +133,19 @@ fn show_by(
     arrangement: Arrangement,
     text: &str,
     scratch: &mut Scratch,
-) -> Result<Vec<u8>, Stop>
+) -> Result<Vec<u8>, TraversalError>
     ensures ok { IfOk result (λ written. IsShownTextBy doubles arrangement text.now written.items) }
     ensures utf8 { IfOk result (λ written. IsUtf8 written.items) }
-    ensures accepts { IfErr result (IsRefusedText doubles ⊥ ⊤ text.now) }
+    ensures accepts { IfErr result (IsRejectedText doubles ⊥ ⊤ text.now) }
 {
-    let writer = ShownWriter {
+    let writer = DisplayWriter {
         alloc,
         arrangement,
-        text: Vec::with_capacity(alloc, first_room(text))?,
+        text: Vec::with_capacity(alloc, output_capacity(text))?,
         part: String::new(alloc),
-        starts: Vec::new(alloc),
+        member_starts: Vec::new(alloc),
         needs_comma: false,
-        most: memory_allowed(text.len()),
+        limit: memory_allowed(text.len()),
     };
     let written = write_text(alloc, doubles, text, scratch, writer)?;
     Ok(written.text)
@@ -153,6 +153,6 @@ fn show_by(
 
 // The length of the input. It is 0 for a long input, so that the reader's scratch gets the block that
 // the previous scratch freed.
-fn first_room(text: &str) -> usize {
+fn output_capacity(text: &str) -> usize {
     if text.len() < 1 << 20 { text.len() } else { 0 }
 }

@@ -2,26 +2,26 @@
 //!
 //! In reading order: `filter` (the text of the same value in a form, its keys in their order or in
 //! ascending order, and the text that shows it), `traversal` (the traversal of the tokens), `level`
-//! (what is the same for all values of a level), `lookahead` (code that follows its scope), `parts`
-//! (parts of a wrapper), `places` (the place of a fault), `stop` (why the traversal stops), `writer`
-//! (a writer of values), `nothing` (a writer that
-//! writes nothing), `fault` (the first fault of a text), `text` (a writer of a text), `distinct` (whether a key is duplicated),
-//! `sorted_text` (a text whose keys are sorted), `shown_text` (a text that shows values), `spans`
+//! (what is the same for all values of a level), `lookahead` (code that follows its scope), `wrapper_parts`
+//! (parts of a wrapper), `error_paths` (the place of a fault), `traversal_error` (why the traversal stops), `value_writer`
+//! (a writer of values), `discard_writer` (a writer that
+//! writes nothing), `first_fault` (the first fault of a text), `text_writer` (a writer of a text), `distinct_keys` (whether a key is duplicated),
+//! `sorted_writer` (a text whose keys are sorted), `display_writer` (a text that shows values), `member_spans`
 //! (the texts of an object's members, in order).
 #![tactic(auto)]
 
-pub mod distinct;
-pub mod fault;
+pub mod distinct_keys;
+pub mod first_fault;
 pub mod filter;
 mod level;
 mod lookahead;
-pub mod nothing;
-mod parts;
-mod places;
-mod shown_text;
-mod sorted_text;
-mod spans;
-pub mod stop;
-mod text;
+pub mod discard_writer;
+mod wrapper_parts;
+mod error_paths;
+mod display_writer;
+mod sorted_writer;
+mod member_spans;
+pub mod traversal_error;
+mod text_writer;
 pub mod traversal;
-pub mod writer;
+pub mod value_writer;

@@ -30,28 +30,28 @@ impl<'a> Lookahead<'a> {
     // value of the key begins at this offset of the text.
     pub(crate) fn code_after_scope(
         &mut self,
-        first: Option<&str>,
-        place: usize,
+        first_key: Option<&str>,
+        offset: usize,
     ) -> Result<Option<String>, AllocError>
-        ensures { IfOk result (λ code. IfSome code (λ _. option_map (λ k. k.now) first.entry ≡ Some (codes "$scope"))) }
+        ensures { IfOk result (λ code. IfSome code (λ _. option_map (λ k. k.now) first_key.entry ≡ Some (codes "$scope"))) }
     {
-        let Some(key) = first else {
+        let Some(key) = first_key else {
             return Ok(None);
         };
         if !is_scope(key) {
             return Ok(None);
         }
-        self.code_at(place)
+        self.code_at(offset)
     }
 
-    fn code_at(&mut self, place: usize) -> Result<Option<String>, AllocError> {
+    fn code_at(&mut self, offset: usize) -> Result<Option<String>, AllocError> {
         if self.codes.is_none() {
             self.codes = Some(codes_of(self.alloc, self.text)?);
         }
         let Some(codes) = &mut self.codes else {
             return Ok(None);
         };
-        Ok(codes.remove(&place))
+        Ok(codes.remove(&offset))
     }
 }
 
@@ -84,8 +84,8 @@ fn codes_of(alloc: Global, text: &str) -> Result<BTreeMap<usize, String>, AllocE
                 open.push(after_key(before, key, reader.offset()))?;
             }
             Token::String(text) => {
-                if let Some(Open::Code(place)) = open.last() {
-                    drop(codes.insert(*place, String::from_str(alloc, text)?)?);
+                if let Some(Open::Code(offset)) = open.last() {
+                    drop(codes.insert(*offset, String::from_str(alloc, text)?)?);
                 }
             }
             Token::Number(_) | Token::Bool(_) | Token::Null | Token::Bad => {}
@@ -95,9 +95,9 @@ fn codes_of(alloc: Global, text: &str) -> Result<BTreeMap<usize, String>, AllocE
 }
 
 // Returns what is open after this key of it was read. The value of the key begins at the offset.
-fn after_key(open: Open, key: &str, place: usize) -> Open {
+fn after_key(open: Open, key: &str, offset: usize) -> Open {
     match open {
-        Open::Brace if is_scope(key) => Open::Scope(place),
+        Open::Brace if is_scope(key) => Open::Scope(offset),
         Open::Scope(scope) if key == "$code" => Open::Code(scope),
         _ => Open::Other,
     }

@@ -2,15 +2,15 @@
 ghost use Rattle.std.specs.Prelude.{[], IfErr, IfOk};
 ghost use Rattle.bson_model.specs.Value.{Value as Meaning, Pairs, document};
 ghost use Rattle.bson_model.specs.OrderedTexts.{HasMeaningInOrder};
-ghost use Rattle.bson_text.specs.Exact.{TextDenied};
-ghost use Rattle.bson_text.specs.Placed.{TextPlaced};
+ghost use Rattle.bson_text.specs.ErrorDenials.{RulesOutText};
+ghost use Rattle.bson_text.specs.ErrorPaths.{LocatesTextError};
 
 use crate::level::Level;
 use crate::lookahead::Lookahead;
-use crate::parts::{Scope, end_object, misplaced, read_scope, read_token, text_of};
-use crate::places::{give_up, in_element, in_member, in_scope, read_scalar, shape_at_value};
-use crate::stop::Stop;
-use crate::writer::ValueWriter;
+use crate::wrapper_parts::{Scope, end_object, misplaced_wrapper, read_scope, read_token, text_of};
+use crate::error_paths::{give_up, error_in_element, error_in_member, error_in_scope, read_scalar, wrong_shape_at_value};
+use crate::traversal_error::TraversalError;
+use crate::value_writer::ValueWriter;
 use bson_scalar::code::is_code_with_scope;
 use bson_scalar::form::Doubles;
 use bson_scalar::scalar::Scalar;
@@ -23,7 +23,7 @@ use json::{Reader, Scratch, Token};
 use std::alloc::Global;
 
 // A longer text is read with memory of its own, which is freed with its reader.
-const LONG: usize = 1 << 16;
+const LONG_TEXT_BYTES: usize = 1 << 16;
 
 /// Writes the value of the whole text, under no name, and returns the writer. One scratch serves one
 /// text after another; a text of more than 64 KiB is read with a scratch of its own.
@@ -41,43 +41,43 @@ pub fn write_text<W: ValueWriter + Drop>(
     text: &str,
     scratch: &mut Scratch,
     out: W,
-) -> Result<W, Stop>
-    ensures ok { IfOk result (λ new. (v : Meaning) × HasMeaningInOrder doubles text.now v × W.wrote out [] v new) }
-    ensures stops { IfErr result (λ e. TextDenied doubles (W.leaves doubles) W.sorts e text.now) }
-    ensures placed { IfErr result (λ e. TextPlaced doubles e text.now) }
+) -> Result<W, TraversalError>
+    ensures ok { IfOk result (λ new. (v : Meaning) × HasMeaningInOrder doubles text.now v × W.wrote_value out [] v new) }
+    ensures stops { IfErr result (λ e. RulesOutText doubles (W.may_give_up doubles) W.sorts_keys e text.now) }
+    ensures located { IfErr result (λ e. LocatesTextError doubles e text.now) }
 {
-    if text.len() > LONG {
-        return write_long(alloc, doubles, text, out);
+    if text.len() > LONG_TEXT_BYTES {
+        return write_long_text(alloc, doubles, text, out);
     }
-    write_whole(alloc, doubles, text, scratch, out)
+    write_with_scratch(alloc, doubles, text, scratch, out)
 }
 
 #[inline(never)]
-fn write_long<W: ValueWriter + Drop>(
+fn write_long_text<W: ValueWriter + Drop>(
     alloc: Global,
     doubles: Doubles,
     text: &str,
     out: W,
-) -> Result<W, Stop>
-    ensures ok { IfOk result (λ new. (v : Meaning) × HasMeaningInOrder doubles text.now v × W.wrote out [] v new) }
-    ensures stops { IfErr result (λ e. TextDenied doubles (W.leaves doubles) W.sorts e text.now) }
-    ensures placed { IfErr result (λ e. TextPlaced doubles e text.now) }
+) -> Result<W, TraversalError>
+    ensures ok { IfOk result (λ new. (v : Meaning) × HasMeaningInOrder doubles text.now v × W.wrote_value out [] v new) }
+    ensures stops { IfErr result (λ e. RulesOutText doubles (W.may_give_up doubles) W.sorts_keys e text.now) }
+    ensures located { IfErr result (λ e. LocatesTextError doubles e text.now) }
 {
     let mut scratch = Scratch::new(alloc);
-    write_whole(alloc, doubles, text, &mut scratch, out)
+    write_with_scratch(alloc, doubles, text, &mut scratch, out)
 }
 
 // Writes the value of a text of any length, with this scratch.
-fn write_whole<W: ValueWriter + Drop>(
+fn write_with_scratch<W: ValueWriter + Drop>(
     alloc: Global,
     doubles: Doubles,
     text: &str,
     scratch: &mut Scratch,
     out: W,
-) -> Result<W, Stop>
-    ensures ok { IfOk result (λ new. (v : Meaning) × HasMeaningInOrder doubles text.now v × W.wrote out [] v new) }
-    ensures stops { IfErr result (λ e. TextDenied doubles (W.leaves doubles) W.sorts e text.now) }
-    ensures placed { IfErr result (λ e. TextPlaced doubles e text.now) }
+) -> Result<W, TraversalError>
+    ensures ok { IfOk result (λ new. (v : Meaning) × HasMeaningInOrder doubles text.now v × W.wrote_value out [] v new) }
+    ensures stops { IfErr result (λ e. RulesOutText doubles (W.may_give_up doubles) W.sorts_keys e text.now) }
+    ensures located { IfErr result (λ e. LocatesTextError doubles e text.now) }
 {
     let reader = Reader::new(text, scratch)?;
     let mut traversal = Traversal {
@@ -106,14 +106,14 @@ pub fn write_document_text<W: ValueWriter + Drop>(
     text: &str,
     scratch: &mut Scratch,
     out: W,
-) -> Result<W, Stop>
-    ensures ok { IfOk result (λ new. (ps : Pairs) × HasMeaningInOrder doubles text.now (document ps) × W.framed out ps new) }
+) -> Result<W, TraversalError>
+    ensures ok { IfOk result (λ new. (ps : Pairs) × HasMeaningInOrder doubles text.now (document ps) × W.wrote_document out ps new) }
 {
     let mut reader = Reader::new(text, scratch)?;
     let Some(Token::BeginObject) = reader.next() else {
-        return Err(Stop::GaveUp);
+        return Err(TraversalError::GaveUp);
     };
-    let first = reader.next_key()?;
+    let first_key = reader.next_key()?;
     let mut traversal = Traversal {
         reader,
         keys: Vec::new(alloc),
@@ -125,7 +125,7 @@ pub fn write_document_text<W: ValueWriter + Drop>(
         doubles,
         depth: MAX_DEPTH - 1,
     };
-    traversal.write_document(level, first, true)?;
+    traversal.write_document(level, first_key, true)?;
     traversal.finish()
 }
 
@@ -141,10 +141,10 @@ pub(crate) struct Traversal<'a, W> {
 
 impl<'a, W: Drop> Traversal<'a, W> {
     ghost use Rattle.std.specs.Prelude.{◌≡◌, [], IfErr, IfOk};
-    ghost use Rattle.bson_text.specs.declared.stop.Stop.TheVariants.{Syntax};
+    ghost use Rattle.bson_text.specs.declared.traversal_error.TraversalError.TheVariants.{Syntax};
 
     // Returns the writer if no token remains.
-    fn finish(self) -> Result<W, Stop>
+    fn finish(self) -> Result<W, TraversalError>
         ensures ok { IfOk result (λ out. (self.entry.reader ≡ []) × (out ≡ self.entry.out)) }
         ensures stops { IfErr result (λ e. (e ≡ Syntax) × (self.entry.reader ≡ [] → ⊥)) }
     {
@@ -154,7 +154,7 @@ impl<'a, W: Drop> Traversal<'a, W> {
             ..
         } = self;
         if reader.next().is_some() {
-            return Err(Stop::Syntax);
+            return Err(TraversalError::Syntax);
         }
         Ok(out)
     }
@@ -167,21 +167,21 @@ impl<'a, W: ValueWriter> Traversal<'a, W> {
     ghost use Rattle.bson_scalar.specs.Table.{wrapper_of};
     ghost use Rattle.bson_model.specs.Value.{array};
     ghost use Rattle.bson_model.specs.OrderedTrees.{kept, kept_items};
-    ghost use Rattle.bson_text.specs.Walked.{TreeMeans, ItemsMean, ObjectMeans, MembersMean, ScopeMeans};
-    ghost use Rattle.bson_text.specs.Walked.{CodeMeans, kept_object, inside, from_key};
-    ghost use Rattle.bson_text.specs.Placed.{ValueStops, ItemsStop, ObjectStops, MembersStop, CodeStops, ScopeStops};
+    ghost use Rattle.bson_text.specs.TraversalResults.{ReadsTree, ReadsItems, ReadsObject, ReadsMembers, ReadsScope};
+    ghost use Rattle.bson_text.specs.TraversalResults.{ReadsCode, kept_object, members_inside, members_after_key};
+    ghost use Rattle.bson_text.specs.ErrorPaths.{IsValueError, IsItemsError, IsObjectError, IsMembersError, IsCodeError, IsScopeError};
 
     // Writes the next value under the name. It has at most as many levels as the level says.
     #[cycle(values)]
-    fn write_value(&mut self, level: Level, name: &str) -> Result<(), Stop>
-        ensures ok { OnOk result (TreeMeans level.doubles (converted kept (value level.depth self.old.reader)) self.new.reader
-            (λ v. W.wrote self.old.out name.now v self.new.out)) }
+    fn write_value(&mut self, level: Level, name: &str) -> Result<(), TraversalError>
+        ensures ok { OnOk result (ReadsTree level.doubles (converted kept (value level.depth self.old.reader)) self.new.reader
+            (λ v. W.wrote_value self.old.out name.now v self.new.out)) }
         ensures keys { OnOk result (self.new.keys.items ≡ self.old.keys.items) }
         ensures shorter { OnOk result (length self.new.reader < length self.old.reader) }
-        ensures fails { IfErr result (λ e. ValueStops level.doubles (W.leaves level.doubles) W.sorts e
+        ensures fails { IfErr result (λ e. IsValueError level.doubles (W.may_give_up level.doubles) W.sorts_keys e
             (value level.depth self.old.reader) self.new.reader) }
     {
-        let token = self.reader.next().ok_or(Stop::Syntax)?;
+        let token = self.reader.next().ok_or(TraversalError::Syntax)?;
         match token {
             Token::String(text) => self.out.string(name, text),
             Token::Number(text) => {
@@ -190,17 +190,17 @@ impl<'a, W: ValueWriter> Traversal<'a, W> {
             }
             Token::Bool(truth) => self.out.boolean(name, truth),
             Token::Null => self.out.null(name),
-            Token::EndObject | Token::EndArray | Token::Key(_) | Token::Bad => Err(Stop::Syntax),
+            Token::EndObject | Token::EndArray | Token::Key(_) | Token::Bad => Err(TraversalError::Syntax),
             Token::BeginArray => {
                 if level.depth == 0 {
-                    return Err(Stop::Syntax);
+                    return Err(TraversalError::Syntax);
                 }
                 let depth = level.depth - 1;
                 self.write_array(Level { depth, ..level }, name)
             }
             Token::BeginObject => {
                 if level.depth == 0 {
-                    return Err(Stop::Syntax);
+                    return Err(TraversalError::Syntax);
                 }
                 let depth = level.depth - 1;
                 self.write_object(Level { depth, ..level }, name)
@@ -210,57 +210,57 @@ impl<'a, W: ValueWriter> Traversal<'a, W> {
 
     // Writes the array whose bracket was read.
     #[cycle(values)]
-    fn write_array(&mut self, level: Level, name: &str) -> Result<(), Stop>
-        ensures ok { OnOk result (ItemsMean level.doubles
+    fn write_array(&mut self, level: Level, name: &str) -> Result<(), TraversalError>
+        ensures ok { OnOk result (ReadsItems level.doubles
             (converted kept_items (items (value level.depth) (length self.old.reader) self.old.reader)) self.new.reader
-            (λ vs. W.wrote self.old.out name.now (array vs) self.new.out)) }
+            (λ vs. W.wrote_value self.old.out name.now (array vs) self.new.out)) }
         ensures keys { OnOk result (self.new.keys.items ≡ self.old.keys.items) }
         ensures shorter { OnOk result (length self.new.reader < length self.old.reader) }
-        ensures fails { IfErr result (λ e. ItemsStop level.doubles (W.leaves level.doubles) W.sorts e
+        ensures fails { IfErr result (λ e. IsItemsError level.doubles (W.may_give_up level.doubles) W.sorts_keys e
             (items (value level.depth) (length self.old.reader) self.old.reader) self.new.reader) }
     {
         let mark = self.out.begin_array(name)?;
-        let mut place: usize = 0;
+        let mut index: usize = 0;
         'items: while !self.reader.take_end_array() {
             let mut buffer = Buffer::new();
-            let name = W::item_name(&mut buffer, place);
+            let name = W::item_name(&mut buffer, index);
             match self.write_value(level, name) {
                 Ok(()) => {}
-                Err(stop) => return Err(in_element(&mut self.reader, level.depth, place, stop)),
+                Err(failure) => return Err(error_in_element(&mut self.reader, level.depth, index, failure)),
             }
-            place = place.checked_add(1).ok_or(Stop::OutOfMemory)?;
+            index = index.checked_add(1).ok_or(TraversalError::OutOfMemory)?;
         }
         self.out.end_array(mark)
     }
 
     // Writes the object whose brace was read.
     #[cycle(values)]
-    fn write_object(&mut self, level: Level, name: &str) -> Result<(), Stop>
-        ensures ok { OnOk result (ObjectMeans level.doubles (kept_object (inside level.depth self.old.reader)) self.new.reader
-            (λ v. W.wrote self.old.out name.now v self.new.out)) }
+    fn write_object(&mut self, level: Level, name: &str) -> Result<(), TraversalError>
+        ensures ok { OnOk result (ReadsObject level.doubles (kept_object (members_inside level.depth self.old.reader)) self.new.reader
+            (λ v. W.wrote_value self.old.out name.now v self.new.out)) }
         ensures keys { OnOk result (self.new.keys.items ≡ self.old.keys.items) }
         ensures shorter { OnOk result (length self.new.reader < length self.old.reader) }
-        ensures fails { IfErr result (λ e. ObjectStops level.doubles (W.leaves level.doubles) W.sorts e
-            (inside level.depth self.old.reader) self.new.reader) }
+        ensures fails { IfErr result (λ e. IsObjectError level.doubles (W.may_give_up level.doubles) W.sorts_keys e
+            (members_inside level.depth self.old.reader) self.new.reader) }
     {
-        let first = self.reader.next_key()?;
+        let first_key = self.reader.next_key()?;
         if let Some(code) = self
             .lookahead
-            .code_after_scope(first, self.reader.offset())?
+            .code_after_scope(first_key, self.reader.offset())?
         {
             let written = self.write_code(level, &code, true, name);
             return match written {
                 Ok(()) => Ok(()),
-                Err(stop) => Err(give_up(stop)),
+                Err(failure) => Err(give_up(failure)),
             };
         }
-        if let Some(key) = first {
+        if let Some(key) = first_key {
             if let Some(wrapper) = wrapper_named(key) {
                 return self.write_wrapper(level, wrapper, key, name);
             }
         }
         self.out.embed(name)?;
-        self.write_document(level, first, true)
+        self.write_document(level, first_key, true)
     }
 
     // Writes the document of an object after its opening key was read, or an empty document.
@@ -269,32 +269,32 @@ impl<'a, W: ValueWriter> Traversal<'a, W> {
     fn write_document(
         &mut self,
         level: Level,
-        first: Option<&'a str>,
+        first_key: Option<&'a str>,
         is_document: bool,
-    ) -> Result<(), Stop>
-        ensures ok { OnOk result (MembersMean level.doubles is_document
-            (kept_object (from_key level.depth (option_map (λ k. k.now) first.entry) self.old.reader)) self.new.reader
-            (λ ps. W.framed self.old.out ps self.new.out)) }
+    ) -> Result<(), TraversalError>
+        ensures ok { OnOk result (ReadsMembers level.doubles is_document
+            (kept_object (members_after_key level.depth (option_map (λ k. k.now) first_key.entry) self.old.reader)) self.new.reader
+            (λ ps. W.wrote_document self.old.out ps self.new.out)) }
         ensures keys { OnOk result (self.new.keys.items ≡ self.old.keys.items) }
         ensures shorter { OnOk result (length self.new.reader ≤ length self.old.reader) }
-        ensures fails { IfErr result (λ e. MembersStop level.doubles (W.leaves level.doubles) W.sorts e is_document
-            (from_key level.depth (option_map (λ k. k.now) first.entry) self.old.reader) self.new.reader) }
+        ensures fails { IfErr result (λ e. IsMembersError level.doubles (W.may_give_up level.doubles) W.sorts_keys e is_document
+            (members_after_key level.depth (option_map (λ k. k.now) first_key.entry) self.old.reader) self.new.reader) }
     {
         let held = self.keys.len();
         let mark = self.out.begin()?;
-        let mut next = first;
+        let mut next = first_key;
         'members: while let Some(key) = next {
-            if let Some(wrapper) = misplaced(is_document, key) {
-                return Err(shape_at_value(level, &mut self.reader, other_keys_reason(wrapper)));
+            if let Some(wrapper) = misplaced_wrapper(is_document, key) {
+                return Err(wrong_shape_at_value(level, &mut self.reader, other_keys_reason(wrapper)));
             }
             let Ok(()) = self.keys.push(key) else {
-                return Err(Stop::OutOfMemory);
+                return Err(TraversalError::OutOfMemory);
             };
             self.out.key(key)?;
             match self.write_value(level, key) {
                 Ok(()) => {}
-                Err(stop) => {
-                    return Err(in_member(level, &mut self.reader, is_document, key, stop));
+                Err(failure) => {
+                    return Err(error_in_member(level, &mut self.reader, is_document, key, failure));
                 }
             }
             next = self.reader.next_key()?;
@@ -313,14 +313,14 @@ impl<'a, W: ValueWriter> Traversal<'a, W> {
         wrapper: Wrapper,
         key: &str,
         name: &str,
-    ) -> Result<(), Stop>
+    ) -> Result<(), TraversalError>
         requires { wrapper_of key.now ≡ Some wrapper }
-        ensures ok { OnOk result (ObjectMeans level.doubles (kept_object (from_key level.depth (Some key.now) self.old.reader))
-            self.new.reader (λ v. W.wrote self.old.out name.now v self.new.out)) }
+        ensures ok { OnOk result (ReadsObject level.doubles (kept_object (members_after_key level.depth (Some key.now) self.old.reader))
+            self.new.reader (λ v. W.wrote_value self.old.out name.now v self.new.out)) }
         ensures keys { OnOk result (self.new.keys.items ≡ self.old.keys.items) }
         ensures shorter { OnOk result (length self.new.reader < length self.old.reader) }
-        ensures fails { IfErr result (λ e. ObjectStops level.doubles (W.leaves level.doubles) W.sorts e
-            (from_key level.depth (Some key.now) self.old.reader) self.new.reader) }
+        ensures fails { IfErr result (λ e. IsObjectError level.doubles (W.may_give_up level.doubles) W.sorts_keys e
+            (members_after_key level.depth (Some key.now) self.old.reader) self.new.reader) }
     {
         let held = read_wrapper_content(level.alloc, &mut self.reader, level.depth)?;
         let Some(other) = self.reader.next_key()? else {
@@ -328,10 +328,10 @@ impl<'a, W: ValueWriter> Traversal<'a, W> {
             return self.out.scalar(name, value);
         };
         if !is_code_with_scope(key, other) {
-            return Err(shape_at_value(level, &mut self.reader, other_keys_reason(wrapper)));
+            return Err(wrong_shape_at_value(level, &mut self.reader, other_keys_reason(wrapper)));
         }
         let Ok(code) = text_of(held) else {
-            return Err(shape_at_value(level, &mut self.reader, CODE_MESSAGE));
+            return Err(wrong_shape_at_value(level, &mut self.reader, CODE_MESSAGE));
         };
         self.write_code(level, &code, false, name)
     }
@@ -346,12 +346,12 @@ impl<'a, W: ValueWriter> Traversal<'a, W> {
         code: &str,
         is_reversed: bool,
         name: &str,
-    ) -> Result<(), Stop>
-        ensures ok { OnOk result (CodeMeans level.doubles level.depth code.now is_reversed self.old.reader self.new.reader
-            (λ v. W.wrote self.old.out name.now v self.new.out)) }
+    ) -> Result<(), TraversalError>
+        ensures ok { OnOk result (ReadsCode level.doubles level.depth code.now is_reversed self.old.reader self.new.reader
+            (λ v. W.wrote_value self.old.out name.now v self.new.out)) }
         ensures keys { OnOk result (self.new.keys.items ≡ self.old.keys.items) }
         ensures shorter { OnOk result (length self.new.reader < length self.old.reader) }
-        ensures fails { IfErr result (λ e. CodeStops level.doubles (W.leaves level.doubles) W.sorts e is_reversed
+        ensures fails { IfErr result (λ e. IsCodeError level.doubles (W.may_give_up level.doubles) W.sorts_keys e is_reversed
             level.depth self.old.reader self.new.reader) }
     {
         let scope = read_scope(level, &mut self.reader)?;
@@ -365,7 +365,7 @@ impl<'a, W: ValueWriter> Traversal<'a, W> {
                 let mark = self.out.begin_code(name, code)?;
                 match self.write_scope(level) {
                     Ok(()) => {}
-                    Err(stop) => return Err(in_scope(level, &mut self.reader, stop)),
+                    Err(failure) => return Err(error_in_scope(level, &mut self.reader, failure)),
                 }
                 end_object(level, &mut self.reader, code, is_reversed)?;
                 self.out.end_code(mark)
@@ -375,25 +375,25 @@ impl<'a, W: ValueWriter> Traversal<'a, W> {
 
     // Writes the document of the scope whose brace was read.
     #[cycle(values)]
-    fn write_scope(&mut self, level: Level) -> Result<(), Stop>
-        ensures ok { OnOk result (ScopeMeans level.doubles level.depth self.old.reader self.new.reader
-            (λ ps. W.framed self.old.out ps self.new.out)) }
+    fn write_scope(&mut self, level: Level) -> Result<(), TraversalError>
+        ensures ok { OnOk result (ReadsScope level.doubles level.depth self.old.reader self.new.reader
+            (λ ps. W.wrote_document self.old.out ps self.new.out)) }
         ensures keys { OnOk result (self.new.keys.items ≡ self.old.keys.items) }
         ensures shorter { OnOk result (length self.new.reader < length self.old.reader) }
-        ensures fails { IfErr result (λ e. ScopeStops level.doubles (W.leaves level.doubles) W.sorts e level.depth
+        ensures fails { IfErr result (λ e. IsScopeError level.doubles (W.may_give_up level.doubles) W.sorts_keys e level.depth
             self.old.reader self.new.reader) }
     {
         if level.depth == 0 {
-            return Err(Stop::Syntax);
+            return Err(TraversalError::Syntax);
         }
-        let first = self.reader.next_key()?;
+        let first_key = self.reader.next_key()?;
         let inner = level.depth - 1;
         self.write_document(
             Level {
                 depth: inner,
                 ..level
             },
-            first,
+            first_key,
             false,
         )
     }

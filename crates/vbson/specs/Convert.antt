@@ -6,7 +6,7 @@ use Rattle.bson_model.specs.Fault.{MeansNothingIn, fault_of_in}
 use Rattle.bson_tree.specs.declared.place.Reason.{Reason}
 use Rattle.bson_tree.specs.declared.place.Reason.TheVariants.{BadObjectId, WrongShape}
 use Rattle.bson.specs.Doubles.TheVariants.{Special, Finite}
-use Rattle.bson.specs.TextMeaning.{IsNoText, IsTextOf}
+use Rattle.bson.specs.TextMeaning.{IsNotJsonText, IsTextOf}
 use Rattle.bson.specs.declared.extjson.options.Options.{Options}
 use Rattle.bson_convert.specs.Convert.{newline}
 use Rattle.bson_run.specs.InOrder.{ConvertsBy, IsKeptBy}
@@ -67,7 +67,7 @@ pub record HasNoMeaningIn (o : Options) (why : TreeFault → Type 0) (bytes : Li
 
 -- the cause of each status that rejects the bytes as text
 pub record IsCauseIn (o : Options) (status : ℕ) (bytes : List ℕ) : Type 0 where
-  pub not_json : status ≡ 2 → IsNoText bytes
+  pub not_json : status ≡ 2 → IsNotJsonText bytes
   pub bad_object_id : status ≡ 3 → HasNoMeaningIn o IsBadId bytes
   pub not_extended_json : status ≡ 4 → HasNoMeaningIn o IsBad bytes
 

@@ -1,6 +1,6 @@
 -- Which value the options read from a text, and from the bytes of a document.
 use Rattle.std.specs.Prelude.{◌≡◌, ◌⊎◌, ◌≤◌, ◌==◌, ℕ, List, Option, None, Some, if◌then◌else◌}
-use Rattle.bson.specs.TextMeaning.{HasTextMeaningIn, IsNoText}
+use Rattle.bson.specs.TextMeaning.{HasTextMeaningIn, IsNotJsonText}
 use Rattle.bson_bytes.specs.ReadDocuments.{IsReadIn}
 use Rattle.bson_bytes.specs.declared.duplicate_keys.DuplicateKeys.{DuplicateKeys}
 use Rattle.bson_bytes.specs.declared.duplicate_keys.DuplicateKeys.TheVariants.{Replace, Refuse}
@@ -47,7 +47,7 @@ pub record IsReadAndRejected (options : CallOptions) (cause : List ℕ → Type 
   pub rejected : cause read
 
 abbrev pub IsNoTextUnder : CallOptions → List ℕ → Type 0
-IsNoTextUnder options = IsReadAndRejected options IsNoText
+IsNoTextUnder options = IsReadAndRejected options IsNotJsonText
 
 abbrev pub HasBadIdUnder : CallOptions → List ℕ → Type 0
 HasBadIdUnder options = IsReadAndRejected options (HasNoMeaningIn (options_of_flags options) IsBadId)

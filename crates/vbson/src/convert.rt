@@ -5,7 +5,7 @@ ghost use Rattle.bson.specs.declared.extjson.options.Options.{Options};
 ghost use Rattle.bson_model.specs.Means.{MeansIn};
 ghost use Rattle.bson_model.specs.Value as model;
 ghost use Rattle.bson_convert.specs.Convert.{IsRefusedIn, newline};
-ghost use Rattle.bson.specs.TextMeaning.{IsNoText, IsTextOf};
+ghost use Rattle.bson.specs.TextMeaning.{IsNotJsonText, IsTextOf};
 ghost use Rattle.bson_convert.specs.declared.mode.Mode.{Mode};
 ghost use Rattle.vbson.specs.Convert.{HasNoMeaningIn, IsBad, IsBadId, IsCauseIn};
 ghost use Rattle.bson_run.specs.InOrder.{ConvertsBy};
@@ -46,7 +46,7 @@ pub extern "C" fn vbson_convert_nonnull(
 
     // When each other status comes, and that nothing is left then.
     ensures no_mode { result ≡ 1 ↔ (2 < mode) ⊎ AreNotForConversion options.now }
-    ensures not_json { result ≡ 2 → IsNoText text.now }
+    ensures not_json { result ≡ 2 → IsNotJsonText text.now }
     ensures bad_object_id { result ≡ 3 → HasNoMeaningIn (options_of_flags options.now) IsBadId text.now }
     ensures not_extended_json { result ≡ 4 → HasNoMeaningIn (options_of_flags options.now) IsBad text.now }
     ensures listed { result ≤ 5 }

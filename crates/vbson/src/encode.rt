@@ -1,6 +1,6 @@
 //! Encodes the document that a text denotes as BSON bytes.
 ghost use Rattle.std.specs.Prelude.{◌≡◌, ◌⊎◌, ◌↔◌, ◌<◌, ◌≤◌, ◌++◌, List, ℕ, IfOk, IfErr};
-ghost use Rattle.bson.specs.TextMeaning.{IsNoText, MeansBy};
+ghost use Rattle.bson.specs.TextMeaning.{IsNotJsonText, TextMeansBy};
 ghost use Rattle.bson_codec.specs.Canonical.{FitsDocument, too_long, zero_in_key, zero_in_regex};
 ghost use Rattle.bson_model.specs.Value.{Pairs, document};
 ghost use Rattle.bson_convert.specs.Convert.{newline};
@@ -29,12 +29,12 @@ pub extern "C" fn vbson_encode_nonnull(
     out: &mut Text<'static>,
 ) -> u32
     ensures done { result ≡ 0 → IsEncoded (options_of_flags options.now) text.now out.new }
-    ensures accepts { (ps : Pairs) → MeansBy (options_of_flags options.now).key_order (options_of_flags options.now).doubles text.now (document ps)
+    ensures accepts { (ps : Pairs) → TextMeansBy (options_of_flags options.now).key_order (options_of_flags options.now).doubles text.now (document ps)
         → FitsDocument ps → 1 < result → result ≡ 5 }
 
     // When each other status comes, and that nothing is left then.
     ensures no_mode { result ≡ 1 ↔ AreNotForConversion options.now }
-    ensures not_json { result ≡ 2 → IsNoText text.now }
+    ensures not_json { result ≡ 2 → IsNotJsonText text.now }
     ensures bad_object_id { result ≡ 3 → HasNoMeaningIn (options_of_flags options.now) IsBadId text.now }
     ensures not_extended_json { result ≡ 4 → HasNoMeaningIn (options_of_flags options.now) IsBad text.now }
     ensures no_document { result ≡ 10 → TextIsNotDocumentBy (options_of_flags options.now) text.now }
@@ -58,7 +58,7 @@ pub extern "C" fn vbson_encode_nonnull(
 fn encode_text(alloc: Global, options: Options, text: &[u8]) -> Result<Vec<u8>, u32>
     ensures ok { IfOk result (λ line. (bytes : List ℕ) × Encodes options.key_order options text.now bytes
         × (line.items ≡ bytes ++ newline)) }
-    ensures accepts { (ps : Pairs) → MeansBy options.key_order options.doubles text.now (document ps) → FitsDocument ps
+    ensures accepts { (ps : Pairs) → TextMeansBy options.key_order options.doubles text.now (document ps) → FitsDocument ps
         → IfErr result (λ status. status ≡ 5) }
     ensures refused { IfErr result (λ status. IsUnencoded options status text.now) }
 {

@@ -104,7 +104,7 @@ impl<'a> Entry<'a> {
     ghost use Rattle.std.specs.Borrow.{sem};
     ghost use Rattle.std.specs.Option.{UnwrapsOrElse};
     ghost use Rattle.bson.specs.declared.bson.Bson.{Bson};
-    ghost use Rattle.bson.specs.Entry.{entry_key, entry_value, entry_lends};
+    ghost use Rattle.bson.specs.Entry.{entry_key, entry_value, entry_loan};
 
     /// Returns the key of the entry.
     pub fn key(&self) -> &str
@@ -124,7 +124,7 @@ impl<'a> Entry<'a> {
     /// Returns `AllocError` if a request for memory is refused. The key is then absent, and the
     /// document is unchanged.
     pub fn or_insert(self, default: Bson) -> Result<&'a mut Bson, AllocError>
-        ensures* writes_back { sem 𝓛 (entry_lends self.entry result) }
+        ensures* writes_back { sem 𝓛 (entry_loan self.entry result) }
         ensures value { IfOk result (λ x. x.now ≡ unwrap_or (entry_value self.entry) default) }
         ensures absent { OnErr result (entry_value self.entry ≡ None) }
     {
@@ -149,7 +149,7 @@ impl<'a> Entry<'a> {
     /// was called, and the document is unchanged.
     pub fn or_insert_with<F: FnOnce() -> Bson>(self, default: F) -> Result<&'a mut Bson, AllocError>
         requires { entry_value self ≡ None → F.pre default }
-        ensures* writes_back { sem 𝓛 (entry_lends self.entry result) }
+        ensures* writes_back { sem 𝓛 (entry_loan self.entry result) }
         ensures value { IfOk result (λ x. UnwrapsOrElse (entry_value self.entry) (F.post default) x.now) }
         ensures absent { OnErr result (entry_value self.entry ≡ None) }
         ensures called { OnErr result ((v : Bson) × F.post default v) }
@@ -164,7 +164,7 @@ impl<'a> Entry<'a> {
 impl<'a> OccupiedEntry<'a> {
     ghost use Rattle.std.specs.Prelude.{◌≡◌, Some};
     ghost use Rattle.std.specs.Borrow.{sem};
-    ghost use Rattle.bson.specs.Entry.{Occupied, entry_key, entry_value, occupied_lends};
+    ghost use Rattle.bson.specs.Entry.{Occupied, entry_key, entry_value, occupied_loan};
 
     /// Returns the key of the entry.
     pub fn key(&self) -> &str
@@ -175,7 +175,7 @@ impl<'a> OccupiedEntry<'a> {
 
     // The value, for as long as the document is lent.
     fn into_mut(self) -> &'a mut Bson
-        ensures* writes_back { sem 𝓛 (occupied_lends self.entry result) }
+        ensures* writes_back { sem 𝓛 (occupied_loan self.entry result) }
         ensures value { entry_value (Occupied self.entry) ≡ Some result.now }
     {
         let OccupiedEntry { document, key, at } = self;
@@ -187,11 +187,11 @@ impl<'a> OccupiedEntry<'a> {
 impl<'a> VacantEntry<'a> {
     ghost use Rattle.std.specs.Prelude.{◌≡◌, IfOk};
     ghost use Rattle.std.specs.Borrow.{sem};
-    ghost use Rattle.bson.specs.Entry.{Vacant, entry_lends};
+    ghost use Rattle.bson.specs.Entry.{Vacant, entry_loan};
 
     // Puts the pair last, and gives its value.
     fn insert(self, value: Bson) -> Result<&'a mut Bson, AllocError>
-        ensures* writes_back { sem 𝓛 (entry_lends (Vacant self.entry) result) }
+        ensures* writes_back { sem 𝓛 (entry_loan (Vacant self.entry) result) }
         ensures value { IfOk result (λ x. x.now ≡ value) }
     {
         let VacantEntry { document, key } = self;

@@ -38,15 +38,15 @@ impl Document {
     ghost use Rattle.std.specs.Prelude.{◌≡◌, Ok, Err, IfOk, IfErr};
     ghost use Rattle.std.specs.Borrow.{MutBor, sem};
     ghost use Rattle.std.specs.Fn.{FnOnceReturnsAtMut};
-    ghost use Rattle.bson.specs.Lends.{LendsAtKey};
+    ghost use Rattle.bson.specs.Loans.{LoanAtKey};
     ghost use Rattle.bson.specs.View.{contents};
     ghost use Rattle.bson.specs.declared.document.Document as document;
     ghost use Rattle.bson_store.specs.Pairs.{insert_pair};
     ghost use Rattle.bson.specs.declared.bson.Bson.TheVariants as value;
-    ghost use Rattle.bson.specs.Rows.{array_row, boolean_row, bytes_row, date_row, decimal_row};
-    ghost use Rattle.bson.specs.Rows.{double_row, int32_row, int64_row, object_id_row, string_row};
-    ghost use Rattle.bson.specs.Rows.{timestamp_row};
-    ghost use Rattle.bson.specs.Kinds.{held_at, ok_copied, ok_copied_mut};
+    ghost use Rattle.bson.specs.LoanTypes.{array_row, boolean_row, bytes_row, date_row, decimal_row};
+    ghost use Rattle.bson.specs.LoanTypes.{double_row, int32_row, int64_row, object_id_row, string_row};
+    ghost use Rattle.bson.specs.LoanTypes.{timestamp_row};
+    ghost use Rattle.bson.specs.Kinds.{typed_get, ok_copied, ok_copied_mut};
     ghost use Rattle.bson.specs.Kinds.{array_of, boolean_of, date_of, decimal_of, document_of};
     ghost use Rattle.bson.specs.Kinds.{double_of};
     ghost use Rattle.bson.specs.Kinds.{generic, generic_of, int32_of, int64_of, object_id_of};
@@ -60,7 +60,7 @@ impl Document {
     /// - `NotPresent`: the key is absent.
     /// - `UnexpectedType`: the value of the key is of another kind.
     pub fn get_f64(&self, key: &str) -> ValueAccessResult<u64>
-        ensures { result ≡ held_at double_of key.now self.now }
+        ensures { result ≡ typed_get double_of key.now self.now }
     {
         Ok(*self.kind_at::<u64>(key)?)
     }
@@ -71,8 +71,8 @@ impl Document {
     ///
     /// The errors of [`Document::get_f64`].
     pub fn get_f64_mut(&mut self, key: &str) -> ValueAccessResult<&mut u64>
-        ensures* writes_back { sem 𝓛 (LendsAtKey double_row value.Double self.entry self.old key.now result) }
-        ensures value { ok_copied_mut result ≡ held_at double_of key.now self.old }
+        ensures* writes_back { sem 𝓛 (LoanAtKey double_row value.Double self.entry self.old key.now result) }
+        ensures value { ok_copied_mut result ≡ typed_get double_of key.now self.old }
     {
         self.kind_at_mut::<u64>(key)
     }
@@ -84,7 +84,7 @@ impl Document {
     /// - `NotPresent`: the key is absent.
     /// - `UnexpectedType`: the value of the key is of another kind.
     pub fn get_str(&self, key: &str) -> ValueAccessResult<&str>
-        ensures { ok_copied result ≡ held_at (text_bytes_of string_of) key.now self.now }
+        ensures { ok_copied result ≡ typed_get (text_bytes_of string_of) key.now self.now }
     {
         let text = self.kind_at::<String>(key)?;
         Ok(text.as_str())
@@ -96,8 +96,8 @@ impl Document {
     ///
     /// The errors of [`Document::get_str`].
     pub fn get_str_mut(&mut self, key: &str) -> ValueAccessResult<&mut String>
-        ensures* writes_back { sem 𝓛 (LendsAtKey string_row value.String self.entry self.old key.now result) }
-        ensures value { ok_copied_mut result ≡ held_at string_of key.now self.old }
+        ensures* writes_back { sem 𝓛 (LoanAtKey string_row value.String self.entry self.old key.now result) }
+        ensures value { ok_copied_mut result ≡ typed_get string_of key.now self.old }
     {
         self.kind_at_mut::<String>(key)
     }
@@ -109,7 +109,7 @@ impl Document {
     /// - `NotPresent`: the key is absent.
     /// - `UnexpectedType`: the value of the key is of another kind.
     pub fn get_array(&self, key: &str) -> ValueAccessResult<&Array>
-        ensures { ok_copied result ≡ held_at array_of key.now self.now }
+        ensures { ok_copied result ≡ typed_get array_of key.now self.now }
     {
         self.kind_at::<Array>(key)
     }
@@ -120,8 +120,8 @@ impl Document {
     ///
     /// The errors of [`Document::get_array`].
     pub fn get_array_mut(&mut self, key: &str) -> ValueAccessResult<&mut Array>
-        ensures* writes_back { sem 𝓛 (LendsAtKey array_row value.Array self.entry self.old key.now result) }
-        ensures value { ok_copied_mut result ≡ held_at array_of key.now self.old }
+        ensures* writes_back { sem 𝓛 (LoanAtKey array_row value.Array self.entry self.old key.now result) }
+        ensures value { ok_copied_mut result ≡ typed_get array_of key.now self.old }
     {
         self.kind_at_mut::<Array>(key)
     }
@@ -133,7 +133,7 @@ impl Document {
     /// - `NotPresent`: the key is absent.
     /// - `UnexpectedType`: the value of the key is of another kind.
     pub fn get_document(&self, key: &str) -> ValueAccessResult<&Document>
-        ensures { ok_copied result ≡ held_at document_of key.now self.now }
+        ensures { ok_copied result ≡ typed_get document_of key.now self.now }
     {
         self.kind_at::<Document>(key)
     }
@@ -148,7 +148,7 @@ impl Document {
     ///
     /// The errors of [`Document::get_document`].
     pub fn get_document_mut(&mut self, key: &str) -> ValueAccessResult<&mut Document>
-        ensures value { ok_copied_mut result ≡ held_at document_of key.now self.old }
+        ensures value { ok_copied_mut result ≡ typed_get document_of key.now self.old }
     {
         self.kind_at_mut::<Document>(key)
     }
@@ -167,12 +167,12 @@ impl Document {
         change: F,
     ) -> ValueAccessResult<U>
         requires { (d : MutBor document.Document)
-            → held_at document_of key.now self.old ≡ Ok d.now → F.pre change d }
+            → typed_get document_of key.now self.old ≡ Ok d.now → F.pre change d }
         ensures changed { IfOk result (λ u. (d e : document.Document)
-            × (held_at document_of key.now self.old ≡ Ok d)
+            × (typed_get document_of key.now self.old ≡ Ok d)
             × FnOnceReturnsAtMut F.FnOnce change d u e
             × (contents self.new ≡ insert_pair key.now (value.Document e) (contents self.old))) }
-        ensures refused { IfErr result (λ e. (held_at document_of key.now self.old ≡ Err e)
+        ensures refused { IfErr result (λ e. (typed_get document_of key.now self.old ≡ Err e)
             × (contents self.new ≡ contents self.old)) }
     {
         match self.get_mut(key) {
@@ -191,7 +191,7 @@ impl Document {
     /// - `NotPresent`: the key is absent.
     /// - `UnexpectedType`: the value of the key is of another kind.
     pub fn get_bool(&self, key: &str) -> ValueAccessResult<bool>
-        ensures { result ≡ held_at boolean_of key.now self.now }
+        ensures { result ≡ typed_get boolean_of key.now self.now }
     {
         Ok(*self.kind_at::<bool>(key)?)
     }
@@ -202,8 +202,8 @@ impl Document {
     ///
     /// The errors of [`Document::get_bool`].
     pub fn get_bool_mut(&mut self, key: &str) -> ValueAccessResult<&mut bool>
-        ensures* writes_back { sem 𝓛 (LendsAtKey boolean_row value.Boolean self.entry self.old key.now result) }
-        ensures value { ok_copied_mut result ≡ held_at boolean_of key.now self.old }
+        ensures* writes_back { sem 𝓛 (LoanAtKey boolean_row value.Boolean self.entry self.old key.now result) }
+        ensures value { ok_copied_mut result ≡ typed_get boolean_of key.now self.old }
     {
         self.kind_at_mut::<bool>(key)
     }
@@ -215,7 +215,7 @@ impl Document {
     /// - `NotPresent`: the key is absent.
     /// - `UnexpectedType`: the value of the key is of another kind.
     pub fn get_i32(&self, key: &str) -> ValueAccessResult<i32>
-        ensures { result ≡ held_at int32_of key.now self.now }
+        ensures { result ≡ typed_get int32_of key.now self.now }
     {
         Ok(*self.kind_at::<i32>(key)?)
     }
@@ -226,8 +226,8 @@ impl Document {
     ///
     /// The errors of [`Document::get_i32`].
     pub fn get_i32_mut(&mut self, key: &str) -> ValueAccessResult<&mut i32>
-        ensures* writes_back { sem 𝓛 (LendsAtKey int32_row value.Int32 self.entry self.old key.now result) }
-        ensures value { ok_copied_mut result ≡ held_at int32_of key.now self.old }
+        ensures* writes_back { sem 𝓛 (LoanAtKey int32_row value.Int32 self.entry self.old key.now result) }
+        ensures value { ok_copied_mut result ≡ typed_get int32_of key.now self.old }
     {
         self.kind_at_mut::<i32>(key)
     }
@@ -239,7 +239,7 @@ impl Document {
     /// - `NotPresent`: the key is absent.
     /// - `UnexpectedType`: the value of the key is of another kind.
     pub fn get_i64(&self, key: &str) -> ValueAccessResult<i64>
-        ensures { result ≡ held_at int64_of key.now self.now }
+        ensures { result ≡ typed_get int64_of key.now self.now }
     {
         Ok(*self.kind_at::<i64>(key)?)
     }
@@ -250,8 +250,8 @@ impl Document {
     ///
     /// The errors of [`Document::get_i64`].
     pub fn get_i64_mut(&mut self, key: &str) -> ValueAccessResult<&mut i64>
-        ensures* writes_back { sem 𝓛 (LendsAtKey int64_row value.Int64 self.entry self.old key.now result) }
-        ensures value { ok_copied_mut result ≡ held_at int64_of key.now self.old }
+        ensures* writes_back { sem 𝓛 (LoanAtKey int64_row value.Int64 self.entry self.old key.now result) }
+        ensures value { ok_copied_mut result ≡ typed_get int64_of key.now self.old }
     {
         self.kind_at_mut::<i64>(key)
     }
@@ -263,7 +263,7 @@ impl Document {
     /// - `NotPresent`: the key is absent.
     /// - `UnexpectedType`: the value of the key is of another kind.
     pub fn get_timestamp(&self, key: &str) -> ValueAccessResult<Timestamp>
-        ensures { result ≡ held_at timestamp_of key.now self.now }
+        ensures { result ≡ typed_get timestamp_of key.now self.now }
     {
         Ok(*self.kind_at::<Timestamp>(key)?)
     }
@@ -274,8 +274,8 @@ impl Document {
     ///
     /// The errors of [`Document::get_timestamp`].
     pub fn get_timestamp_mut(&mut self, key: &str) -> ValueAccessResult<&mut Timestamp>
-        ensures* writes_back { sem 𝓛 (LendsAtKey timestamp_row value.Timestamp self.entry self.old key.now result) }
-        ensures value { ok_copied_mut result ≡ held_at timestamp_of key.now self.old }
+        ensures* writes_back { sem 𝓛 (LoanAtKey timestamp_row value.Timestamp self.entry self.old key.now result) }
+        ensures value { ok_copied_mut result ≡ typed_get timestamp_of key.now self.old }
     {
         self.kind_at_mut::<Timestamp>(key)
     }
@@ -287,7 +287,7 @@ impl Document {
     /// - `NotPresent`: the key is absent.
     /// - `UnexpectedType`: the value is of another kind or subtype, for example `UserDefined(0)`.
     pub fn get_binary_generic(&self, key: &str) -> ValueAccessResult<&Vec<u8>>
-        ensures { ok_copied result ≡ held_at generic_of key.now self.now }
+        ensures { ok_copied result ≡ typed_get generic_of key.now self.now }
     {
         self.kind_at::<Vec<u8>>(key)
     }
@@ -298,8 +298,8 @@ impl Document {
     ///
     /// The errors of [`Document::get_binary_generic`].
     pub fn get_binary_generic_mut(&mut self, key: &str) -> ValueAccessResult<&mut Vec<u8>>
-        ensures* writes_back { sem 𝓛 (LendsAtKey bytes_row generic self.entry self.old key.now result) }
-        ensures value { ok_copied_mut result ≡ held_at generic_of key.now self.old }
+        ensures* writes_back { sem 𝓛 (LoanAtKey bytes_row generic self.entry self.old key.now result) }
+        ensures value { ok_copied_mut result ≡ typed_get generic_of key.now self.old }
     {
         self.kind_at_mut::<Vec<u8>>(key)
     }
@@ -311,7 +311,7 @@ impl Document {
     /// - `NotPresent`: the key is absent.
     /// - `UnexpectedType`: the value of the key is of another kind.
     pub fn get_object_id(&self, key: &str) -> ValueAccessResult<ObjectId>
-        ensures { result ≡ held_at object_id_of key.now self.now }
+        ensures { result ≡ typed_get object_id_of key.now self.now }
     {
         Ok(*self.kind_at::<ObjectId>(key)?)
     }
@@ -322,8 +322,8 @@ impl Document {
     ///
     /// The errors of [`Document::get_object_id`].
     pub fn get_object_id_mut(&mut self, key: &str) -> ValueAccessResult<&mut ObjectId>
-        ensures* writes_back { sem 𝓛 (LendsAtKey object_id_row value.ObjectId self.entry self.old key.now result) }
-        ensures value { ok_copied_mut result ≡ held_at object_id_of key.now self.old }
+        ensures* writes_back { sem 𝓛 (LoanAtKey object_id_row value.ObjectId self.entry self.old key.now result) }
+        ensures value { ok_copied_mut result ≡ typed_get object_id_of key.now self.old }
     {
         self.kind_at_mut::<ObjectId>(key)
     }
@@ -335,7 +335,7 @@ impl Document {
     /// - `NotPresent`: the key is absent.
     /// - `UnexpectedType`: the value of the key is of another kind.
     pub fn get_datetime(&self, key: &str) -> ValueAccessResult<&DateTime>
-        ensures { ok_copied result ≡ held_at date_of key.now self.now }
+        ensures { ok_copied result ≡ typed_get date_of key.now self.now }
     {
         self.kind_at::<DateTime>(key)
     }
@@ -346,8 +346,8 @@ impl Document {
     ///
     /// The errors of [`Document::get_datetime`].
     pub fn get_datetime_mut(&mut self, key: &str) -> ValueAccessResult<&mut DateTime>
-        ensures* writes_back { sem 𝓛 (LendsAtKey date_row value.DateTime self.entry self.old key.now result) }
-        ensures value { ok_copied_mut result ≡ held_at date_of key.now self.old }
+        ensures* writes_back { sem 𝓛 (LoanAtKey date_row value.DateTime self.entry self.old key.now result) }
+        ensures value { ok_copied_mut result ≡ typed_get date_of key.now self.old }
     {
         self.kind_at_mut::<DateTime>(key)
     }
@@ -359,7 +359,7 @@ impl Document {
     /// - `NotPresent`: the key is absent.
     /// - `UnexpectedType`: the value of the key is of another kind.
     pub fn get_decimal128(&self, key: &str) -> ValueAccessResult<&Decimal128>
-        ensures { ok_copied result ≡ held_at decimal_of key.now self.now }
+        ensures { ok_copied result ≡ typed_get decimal_of key.now self.now }
     {
         self.kind_at::<Decimal128>(key)
     }
@@ -370,15 +370,15 @@ impl Document {
     ///
     /// The errors of [`Document::get_decimal128`].
     pub fn get_decimal128_mut(&mut self, key: &str) -> ValueAccessResult<&mut Decimal128>
-        ensures* writes_back { sem 𝓛 (LendsAtKey decimal_row value.Decimal128 self.entry self.old key.now result) }
-        ensures value { ok_copied_mut result ≡ held_at decimal_of key.now self.old }
+        ensures* writes_back { sem 𝓛 (LoanAtKey decimal_row value.Decimal128 self.entry self.old key.now result) }
+        ensures value { ok_copied_mut result ≡ typed_get decimal_of key.now self.old }
     {
         self.kind_at_mut::<Decimal128>(key)
     }
 
     // The value at the key, of the one kind that the type stands for.
     fn kind_at<T: Kind>(&self, key: &str) -> ValueAccessResult<&T>
-        ensures { ok_copied result ≡ held_at T.held key.now self.now }
+        ensures { ok_copied result ≡ typed_get T.content_of key.now self.now }
     {
         let value = self.get(key).ok_or(ValueAccessError::NotPresent)?;
         T::kind(value).ok_or(ValueAccessError::UnexpectedType)
@@ -386,8 +386,8 @@ impl Document {
 
     // The same, to write.
     fn kind_at_mut<T: Kind>(&mut self, key: &str) -> ValueAccessResult<&mut T>
-        ensures* writes_back { sem 𝓛 (LendsAtKey T.row T.made self.entry self.old key.now result) }
-        ensures value { ok_copied_mut result ≡ held_at T.held key.now self.old }
+        ensures* writes_back { sem 𝓛 (LoanAtKey T.row T.value_of self.entry self.old key.now result) }
+        ensures value { ok_copied_mut result ≡ typed_get T.content_of key.now self.old }
     {
         match self.get_mut(key) {
             None => Err(ValueAccessError::NotPresent),

@@ -4,7 +4,7 @@ ghost use Rattle.std.specs.Prelude.{IfOk, OnOk, IfErr, OnErr};
 ghost use Rattle.std.specs.declared.alloc.Global.{Global};
 ghost use Rattle.std.specs.Iterator.{IsFinite, Drains, YieldsThen};
 ghost use Rattle.bson_store.specs.Pairs.{get, insert_pair, remove_pair};
-ghost use Rattle.bson.specs.Put.{put_all, put_entries};
+ghost use Rattle.bson.specs.InsertedPairs.{put_all, insert_entries};
 ghost use Rattle.bson.specs.View.{contents};
 ghost use Rattle.bson.specs.declared.bson.Bson as value;
 
@@ -155,7 +155,7 @@ impl Document {
     /// println!(rt; "{}", Document::from_entries(alloc, entries)?)?; // { "a": null }
     /// ```
     pub fn from_entries(alloc: Global, entries: Vec<Pair<Bson>>) -> Result<Document, AllocError>
-        ensures { IfOk result (λ d. contents d ≡ put_entries entries.items []) }
+        ensures { IfOk result (λ d. contents d ≡ insert_entries entries.items []) }
     {
         let pairs = SmallPairs::from_entries(alloc, entries)?;
         Ok(Document { pairs })

@@ -6,7 +6,7 @@ ghost use Rattle.bson.specs.View.{bson_view, document_view, pairs_view, values_v
 
 use crate::bson::{Bson, JavaScriptCodeWithScope};
 use crate::document::Document;
-use crate::extjson::scalars::of_scalar;
+use crate::extjson::scalars::from_scalar;
 use bson_scalar::scalar::Scalar;
 use bson_store::{PairStore, SmallPairs};
 use bson_tree::builder::ValueBuilder;
@@ -29,7 +29,7 @@ impl ValueBuilder for BsonBuilder {
     ghost paired = { λ pairs ps. (pairs_view pairs ≡ ps) × PairsInRange (pairs_view pairs) };
 
     fn scalar(value: Scalar) -> Bson {
-        of_scalar(value)
+        from_scalar(value)
     }
 
     fn items(alloc: Global, len: usize) -> Result<Vec<Bson>, AllocError> {

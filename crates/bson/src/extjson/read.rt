@@ -6,13 +6,13 @@ ghost use Rattle.bson_scalar.specs.Reading.{number_read_in, optional_wrapper_rea
 ghost use Rattle.bson_scalar.specs.Table.{wrapper_of};
 ghost use Rattle.bson_model.specs.Normal.{InRange, PairsInRange};
 ghost use Rattle.bson_model.specs.Reading.{scalar_value, reads_in, reads_members_in};
-ghost use Rattle.bson.specs.Refused.{IsErrorOf};
+ghost use Rattle.bson.specs.ReadErrors.{IsErrorOf};
 ghost use Rattle.bson.specs.View.{bson_view, document_view};
 
 use crate::bson::Bson;
 use crate::document::Document;
 use crate::extjson::builder::BsonBuilder;
-use crate::extjson::scalars::of_scalar;
+use crate::extjson::scalars::from_scalar;
 use bson_scalar::doubles::read_number;
 use bson_scalar::error::Error;
 use bson_scalar::form::Doubles;
@@ -32,7 +32,7 @@ pub(crate) fn single_value(
     ensures given { IsReadResult bson_view result (scalar_value (optional_wrapper_read_in doubles (wrapper_of key.now) (view value))) }
     ensures ranged { IfOk result (λ v. InRange (bson_view v)) }
 {
-    Ok(of_scalar(read_single_key_in(alloc, doubles, key, value)?))
+    Ok(from_scalar(read_single_key_in(alloc, doubles, key, value)?))
 }
 
 // What a number of JSON means.
@@ -40,7 +40,7 @@ pub(crate) fn number_value(doubles: Doubles, n: &Number) -> Result<Bson, Error>
     ensures given { IsReadResult bson_view result (scalar_value (number_read_in doubles (number_view n.now))) }
     ensures ranged { IfOk result (λ v. InRange (bson_view v)) }
 {
-    Ok(of_scalar(read_number(doubles, n)?))
+    Ok(from_scalar(read_number(doubles, n)?))
 }
 
 // What a tree means.

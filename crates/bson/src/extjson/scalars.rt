@@ -21,7 +21,7 @@ use bson_types::oid::ObjectId;
 use bson_types::spec::BinarySubtype;
 use std::alloc::{AllocError, Global};
 
-pub(crate) fn of_scalar(value: Scalar) -> Bson
+pub(crate) fn from_scalar(value: Scalar) -> Bson
     ensures value { bson_view result ≡ scalar (scalar_view value) }
     ensures ranged { InRange (bson_view result) }
 {
@@ -39,22 +39,22 @@ pub(crate) fn of_scalar(value: Scalar) -> Bson
         Scalar::JavaScriptCode(code) => Bson::JavaScriptCode(code),
         Scalar::RegularExpression(regex) => Bson::RegularExpression(regex),
         Scalar::Timestamp(stamp) => Bson::Timestamp(stamp),
-        Scalar::Binary(binary) => Bson::Binary(normal_binary(binary)),
-        Scalar::ObjectId(id) => Bson::ObjectId(of_twelve(id)),
+        Scalar::Binary(binary) => Bson::Binary(binary_in_range(binary)),
+        Scalar::ObjectId(id) => Bson::ObjectId(object_id_in_range(id)),
         Scalar::DateTime(date) => Bson::DateTime(date),
         Scalar::Decimal128(decimal) => Bson::Decimal128(decimal),
-        Scalar::DbPointer(pointer) => Bson::DbPointer(to_twelve(pointer)),
+        Scalar::DbPointer(pointer) => Bson::DbPointer(pointer_in_range(pointer)),
     }
 }
 
 // These show that numbers of the type u8 are below 256, and that an object id has twelve.
-fn are_bytes(bytes: &[u8])
+fn bytes_in_range(bytes: &[u8])
     ensures { IsBytes bytes.now }
 {
     let _len = bytes.len();
 }
 
-fn has_byte(subtype: BinarySubtype)
+fn subtype_in_range(subtype: BinarySubtype)
     ensures { subtype_byte subtype < 256 }
 {
     let _byte = u8::from(subtype);
@@ -78,16 +78,16 @@ pub(crate) fn has_text(value: &ScalarRef<'_>)
     }
 }
 
-fn normal_binary(binary: Binary) -> Binary
+fn binary_in_range(binary: Binary) -> Binary
     ensures same { result ≡ binary }
     ensures ranged { (subtype_byte binary.subtype < 256) × IsBytes binary.bytes.items }
 {
-    are_bytes(binary.bytes.as_slice());
-    has_byte(binary.subtype);
+    bytes_in_range(binary.bytes.as_slice());
+    subtype_in_range(binary.subtype);
     binary
 }
 
-fn of_twelve(id: ObjectId) -> ObjectId
+fn object_id_in_range(id: ObjectId) -> ObjectId
     ensures same { result ≡ id }
     ensures ranged { IsObjectId id }
 {
@@ -95,11 +95,11 @@ fn of_twelve(id: ObjectId) -> ObjectId
     id
 }
 
-fn to_twelve(pointer: DbPointer) -> DbPointer
+fn pointer_in_range(pointer: DbPointer) -> DbPointer
     ensures same { result ≡ pointer }
     ensures ranged { IsObjectId (id_of pointer) }
 {
-    let _id = of_twelve(pointer.id());
+    let _id = object_id_in_range(pointer.id());
     pointer
 }
 

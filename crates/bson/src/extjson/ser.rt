@@ -8,13 +8,13 @@ ghost use Rattle.bson_model.specs.Texts.{ReadsAgain, ReadsAgainIn};
 ghost use Rattle.bson_model.specs.Normal.{InRange, writable, writable_in};
 ghost use Rattle.bson_model.specs.Laws.{IsTreeOf, IsTreeOfIn, FormsAreIdempotent, FormsAreIdempotentIn};
 ghost use Rattle.bson_model.specs.DistinctKeys.{AllKeysDistinct};
-ghost use Rattle.bson.specs.Room.{IsDirect, value_room};
+ghost use Rattle.bson.specs.OutputCapacity.{IsAllocationFree, value_room};
 ghost use Rattle.bson.specs.Texts.{IsTextBy, IsTextIn, IsTextInOrder, IsWriteErrorIn};
 ghost use Rattle.bson.specs.View.{bson_view};
 
 use crate::bson::Bson;
 use crate::extjson::options::Options;
-use crate::extjson::text::{append_text, text_of};
+use crate::extjson::text_writer::{append_text, text_of};
 use crate::extjson::write::write;
 use bson_scalar::form::{Doubles, Form};
 use bson_scalar::write_error::WriteError;
@@ -249,7 +249,7 @@ impl Bson {
         ensures unchanged { OnErr result (out.new.items ≡ out.old.items) }
 
         // With enough room memory is never wanting.
-        ensures room { IsDirect form (bson_view self.now) → result ≡ Err WriteError.OutOfMemory
+        ensures room { IsAllocationFree form (bson_view self.now) → result ≡ Err WriteError.OutOfMemory
             → vec_capacity out.old - vec_len out.old < value_room options.doubles form (bson_view self.now) }
         ensures twice { (s : List ℕ) → IsTextInOrder options.doubles form (bson_view self.now) s
             → InRange (bson_view self.now) → value_room options.doubles form (bson_view self.now) ≤ 2 * length s }

@@ -1,6 +1,6 @@
 //! Values from texts, with no tree of the whole.
 //!
-//! In reading order: `again` (what is read if a text is not read at once) and `members` (the members
+//! In reading order: `retry` (what is read if a text is not read at once) and `sorted_members` (the members
 //! of an object in ascending order of keys).
 ghost use Rattle.std.specs.Prelude.{◌≡◌, IfOk, IfErr};
 ghost use Rattle.serde_json.specs.Data.{Data};
@@ -10,20 +10,20 @@ ghost use Rattle.bson_model.specs.Texts.{ValueRoundTrips};
 ghost use Rattle.bson_model.specs.Value as model;
 ghost use Rattle.bson.specs.View.{bson_view};
 ghost use Rattle.bson.specs.TextMeaning.{IsTextOf, HasTextMeaning, IsTextFault};
-ghost use Rattle.bson.specs.TextMeaning.{ComesBackBy, HasTextMeaningBy, IsTextFaultIn, MeansBy};
+ghost use Rattle.bson.specs.TextMeaning.{ComesBackBy, HasTextMeaningBy, IsTextFaultIn, TextMeansBy};
 ghost use Rattle.bson.specs.declared.extjson.text_error.TextError.TheVariants.{OutOfMemory};
 
-mod again;
-pub(crate) mod members;
+mod retry;
+pub(crate) mod sorted_members;
 
 use crate::bson::Bson;
 use crate::extjson::key_order::KeyOrder;
 use crate::extjson::options::Options;
 use crate::extjson::text_error::TextError;
-use crate::extjson::text_reader::again::read_again;
-use crate::extjson::value_writer::read_once;
+use crate::extjson::text_reader::retry::read_again;
+use crate::extjson::bson_writer::read_once;
 use bson_scalar::form::Doubles;
-use bson_text::stop::Stop;
+use bson_text::traversal_error::TraversalError;
 use std::alloc::Global;
 
 impl Bson {
@@ -101,7 +101,7 @@ impl Bson {
             (λ v. HasTextMeaningBy options.key_order options.doubles bytes.now (bson_view v)) }
         ensures accepts { (t : Data) (v : model.Value) → IsTextOf bytes.now t → MeansIn options.doubles t v
             → IfErr result (λ e. e ≡ OutOfMemory) }
-        ensures accepts_by { (v : model.Value) → MeansBy options.key_order options.doubles bytes.now v
+        ensures accepts_by { (v : model.Value) → TextMeansBy options.key_order options.doubles bytes.now v
             → IfErr result (λ e. e ≡ OutOfMemory) }
         ensures fault { IfErr result (λ e. IsTextFaultIn options.doubles bytes.now e) }
         ensures ranged { IfOk result (λ v. InRange (bson_view v)) }
@@ -126,7 +126,7 @@ fn read_by(
     };
     match read_once(alloc, doubles, order, text) {
         Ok(value) => Ok(value),
-        Err(Stop::OutOfMemory) => Err(TextError::OutOfMemory),
+        Err(TraversalError::OutOfMemory) => Err(TextError::OutOfMemory),
         Err(_) => read_again(alloc, doubles, order, text),
     }
 }

@@ -3,7 +3,7 @@ use Rattle.std.proofs.lemmas.Result.{on_ok_weaker}
 use Rattle.bson_model.specs.Pretty.{closing}
 use Rattle.bson.proofs.Joined.{join_more, at_get, appended}
 use Rattle.bson.proofs.Places.{pair_from}
-use Rattle.bson.specs.Lines.{item_line, entry_line}
+use Rattle.bson.specs.PrettyLines.{item_line, entry_line}
 use Rattle.bson.proofs.Texts.{array_pretty, document_pretty}
 use Rattle.bson.proofs.pretty.+pretty.Goals as goal
 

@@ -1,6 +1,6 @@
 use Rattle.std.proofs.Common.{◌≡◌, ◌++◌, codes, take, string_bytes}
 use Rattle.std.specs.List.{join_by}
-use Rattle.bson.specs.Lines.{item_line, entry_line}
+use Rattle.bson.specs.PrettyLines.{item_line, entry_line}
 use Rattle.bson.proofs.pretty.+pretty.Given as goal
 
 abbrev pub invariant-push_items-loop-i : goal.invariant-push_items-loop-i

@@ -3,7 +3,7 @@ use Rattle.std.proofs.lemmas.Result.{err_from_is_err_and}
 use Rattle.bson_text.proofs.TextDenials.{refused}
 use Rattle.std.proofs.Common.{◌≡◌, [], refl, ◌∙◌, sym, subst, arith, IsUtf8}
 use Rattle.json.specs.Print.{print}
-use Rattle.bson_text.specs.declared.text.TextWriter.{TextWriter}
+use Rattle.bson_text.specs.declared.text_writer.TextWriter.{TextWriter}
 use Rattle.bson_text.proofs.Sending.{text_sent}
 use Rattle.bson_text.proofs.filter.filter_text.Goals as goal
 

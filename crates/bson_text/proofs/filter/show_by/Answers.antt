@@ -3,7 +3,7 @@ use Rattle.std.proofs.lemmas.Result.{err_from_is_err_and}
 use Rattle.bson_text.proofs.TextDenials.{refused}
 use Rattle.std.proofs.Common.{false, refl}
 use Rattle.std.proofs.lemmas.Str.{IsUtf8-from_is_utf8}
-use Rattle.bson_text.specs.declared.shown_text.ShownWriter.{ShownWriter}
+use Rattle.bson_text.specs.declared.display_writer.DisplayWriter.{DisplayWriter}
 use Rattle.bson_text.proofs.ShownTexts.{text_shown}
 use Rattle.bson_text.proofs.Utf8Texts.{nothing_utf8}
 use Rattle.bson_text.proofs.filter.show_by.Goals as goal
@@ -13,14 +13,14 @@ invariant_of-writer c = record { utf8 = nothing_utf8 _ c.in_ok-with_capacity.ens
 
 pub returns : goal.returns
 returns c =
-    let old : ShownWriter = record {
+    let old : DisplayWriter = record {
       alloc = c.args.alloc;
       arrangement = c.args.arrangement;
       text = c.in_ok-with_capacity.field-0;
       part = c.new.result;
-      starts = c.new-2.result;
+      member_starts = c.new-2.result;
       needs_comma = false;
-      most = c.memory_allowed.result;
+      limit = c.memory_allowed.result;
       utf8 = nothing_utf8 _ c.in_ok-with_capacity.ensures.items;
     } in
     record {

@@ -4,7 +4,7 @@ use Rattle.std.proofs.lemmas.Result.{err_from_is_err_and}
 use Rattle.bson_text.proofs.TextDenials.{refused}
 use Rattle.std.proofs.Common.{◌≡◌, false, refl}
 use Rattle.std.proofs.lemmas.Str.{IsUtf8-from_is_utf8}
-use Rattle.bson_text.specs.declared.sorted_text.SortedWriter.{SortedWriter}
+use Rattle.bson_text.specs.declared.sorted_writer.SortedWriter.{SortedWriter}
 use Rattle.bson_text.proofs.Sorting.{text_sorted}
 use Rattle.bson_text.proofs.Utf8Texts.{nothing_utf8}
 use Rattle.bson_text.proofs.filter.sort_text.Goals as goal
@@ -22,9 +22,9 @@ returns c =
       form = f;
       text = c.in_ok-with_capacity.field-0;
       part = c.in_ok-with_capacity-2.field-0;
-      starts = c.in_ok-with_capacity-3.field-0;
+      member_starts = c.in_ok-with_capacity-3.field-0;
       needs_comma = false;
-      most = c.memory_allowed.result;
+      limit = c.memory_allowed.result;
       utf8 = nothing_utf8 _ c.in_ok-with_capacity.ensures.items;
     } in
     record {

@@ -1,7 +1,7 @@
 use Rattle.std.proofs.Common.{◌≡◌, ◌+◌, [], ◌∷◌, take, drop, string_bytes, refl, sym, ap, ◌∙◌, subst, arith, of_calls}
 use Rattle.std.proofs.lemmas.List.{drop_all, take_all, append-nil}
 use Rattle.bson_store.proofs.Offered.{drop-at}
-use Rattle.bson.specs.Changes.{ChangesValue, ChangesEach}
+use Rattle.bson.specs.ChangedValues.{ChangesValue, ChangesEach}
 use Rattle.bson.proofs.Places.{pair_from}
 use Rattle.bson.proofs.Changed.{length-with, drop-next, drop-with, take-with}
 use Rattle.bson.proofs.document.Document.change_values.Goals as goal

@@ -1,6 +1,6 @@
 use Rattle.std.proofs.Common.{◌≡◌, List, ◌++◌, ℕ, take, drop, length}
 use Rattle.std.specs.Fn.{always_mut}
-use Rattle.bson.specs.Changes.{ChangesEach}
+use Rattle.bson.specs.ChangedValues.{ChangesEach}
 use Rattle.bson.specs.declared.bson.Bson.{Bson}
 use Rattle.bson.proofs.document.Document.change_values.Given as goal
 

@@ -4,7 +4,7 @@ use Rattle.bson_model.specs.Normal.{PairsInRange}
 use Rattle.bson_model.specs.Reading.{reads_members_in}
 use Rattle.bson_tree.specs.Place.{MemberFaultAtIn}
 use Rattle.bson_tree.proofs.Offered.{in_to}
-use Rattle.bson.specs.View.{holding, pairs_view}
+use Rattle.bson.specs.View.{document_of_pairs, pairs_view}
 use Rattle.bson.proofs.Answered.{value_given, fault_given}
 use Rattle.bson.proofs.Seen.{document_view-pairs}
 use Rattle.bson.proofs.extjson.read.read_members.Goals as goal
@@ -15,7 +15,7 @@ returns-in-Ok c =
     let given = value_given pairs_view (λ ps. PairsInRange (pairs_view ps)) (reads_members_in c.args.doubles ms)
     (λ f. MemberFaultAtIn c.args.doubles f ms) c.in_ok-pairs.field-0 c.in_ok-pairs.ensures c.in-Ok.pairs
     c.in-Ok.is in
-    let seen = sym (document_view-pairs (holding c.in-Ok.pairs)) in
+    let seen = sym (document_view-pairs (document_of_pairs c.in-Ok.pairs)) in
     record { given = given.0 ∙ ap Ok seen; ranged = subst PairsInRange seen given.1 }
 
 pub returns-in-Err : goal.returns-in-Err

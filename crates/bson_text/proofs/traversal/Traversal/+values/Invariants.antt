@@ -1,6 +1,6 @@
 use Rattle.std.proofs.Common.{◌≡◌, ℕ, ◌+◌, ◌*◌, ◌≤◌, ◌++◌, List, length, option_map}
 use Rattle.json.specs.Json.{value, items, members, members_step}
-use Rattle.bson_text.specs.Walked.{from_key}
+use Rattle.bson_text.specs.TraversalResults.{members_after_key}
 use Rattle.bson_text.proofs.Objects.{Key}
 use Rattle.bson_text.proofs.Walking.{ItemsToGo, ToGo}
 use Rattle.bson_text.proofs.Faults.{ItemsFrom, MembersFrom}
@@ -32,12 +32,12 @@ abbrev pub invariant-write_array-items : goal.invariant-write_array-items
 invariant-write_array-items g l = (length l.self.reader ≤ length l.initial.self.reader)
     × (l.self.keys.items ≡ l.initial.self.keys.items)
     × (n : ℕ) × (length l.self.reader ≤ n)
-    × ItemsToGo l.level.doubles g.W.ValueWriter.wrote g.W.ValueWriter.name_of
-    (items (value l.level.depth) (length l.initial.self.reader) l.initial.self.reader) (items (value l.level.depth) n l.self.reader) l.place
+    × ItemsToGo l.level.doubles g.W.ValueWriter.wrote_value g.W.ValueWriter.item_name_of
+    (items (value l.level.depth) (length l.initial.self.reader) l.initial.self.reader) (items (value l.level.depth) n l.self.reader) l.index
     l.initial.self.out l.self.out
     × ItemsFrom l.level.doubles (items (value l.level.depth) (length l.initial.self.reader) l.initial.self.reader)
-    (items (value l.level.depth) n l.self.reader) l.place
-    × ItemsStill l.level.doubles (g.W.ValueWriter.leaves l.level.doubles) g.W.ValueWriter.sorts (items (value l.level.depth) (length l.initial.self.reader) l.initial.self.reader)
+    (items (value l.level.depth) n l.self.reader) l.index
+    × ItemsStill l.level.doubles (g.W.ValueWriter.may_give_up l.level.doubles) g.W.ValueWriter.sorts_keys (items (value l.level.depth) (length l.initial.self.reader) l.initial.self.reader)
     (items (value l.level.depth) n l.self.reader)
 
 abbrev pub decreases-write_array-items : goal.decreases-write_array-items
@@ -47,15 +47,15 @@ abbrev pub invariant-write_document-members : goal.invariant-write_document-memb
 invariant-write_document-members g l = (length l.self.reader ≤ length l.initial.self.reader)
     × (ks : List Key) × (l.self.keys.items ≡ l.initial.self.keys.items ++ ks)
     × (n : ℕ) × (length l.self.reader ≤ n)
-    × ToGo l.level.doubles g.W.ValueWriter.wrote g.W.ValueWriter.keyed l.is_document
-    (from_key l.level.depth (option_map (λ s. s.now) l.first) l.initial.self.reader)
+    × ToGo l.level.doubles g.W.ValueWriter.wrote_value g.W.ValueWriter.wrote_key l.is_document
+    (members_after_key l.level.depth (option_map (λ s. s.now) l.first_key) l.initial.self.reader)
     (members_step (value l.level.depth) (members (value l.level.depth) n) (option_map (λ s. s.now) l.next) l.self.reader)
     ks l.initial.self.out l.self.out
     × MembersFrom l.level.doubles l.is_document
-    (from_key l.level.depth (option_map (λ s. s.now) l.first) l.initial.self.reader)
+    (members_after_key l.level.depth (option_map (λ s. s.now) l.first_key) l.initial.self.reader)
     (members_step (value l.level.depth) (members (value l.level.depth) n) (option_map (λ s. s.now) l.next) l.self.reader)
-    × MembersStill l.level.doubles (g.W.ValueWriter.leaves l.level.doubles) g.W.ValueWriter.sorts l.is_document
-    (from_key l.level.depth (option_map (λ s. s.now) l.first) l.initial.self.reader)
+    × MembersStill l.level.doubles (g.W.ValueWriter.may_give_up l.level.doubles) g.W.ValueWriter.sorts_keys l.is_document
+    (members_after_key l.level.depth (option_map (λ s. s.now) l.first_key) l.initial.self.reader)
     (members_step (value l.level.depth) (members (value l.level.depth) n) (option_map (λ s. s.now) l.next) l.self.reader)
 
 abbrev pub decreases-write_document-members : goal.decreases-write_document-members

@@ -1,4 +1,0 @@
-use Rattle.bson.proofs.extjson.text_reader.again.normalize_faultless.Goals as goal
-
-pub returns-in-Err-clause-fault : goal.returns-in-Err-clause-fault
-returns-in-Err-clause-fault c = c.no_tree.ensures c.args.doubles c.args.text.now c.in-Err.ensures.broken

@@ -1,8 +1,0 @@
-use Rattle.bson_scalar.specs.Scalar.{null}
-use Rattle.bson.specs.declared.bson.Bson.TheVariants.{Null}
-use Rattle.bson.proofs.Pushing.{scalar_pushed, null_is}
-use Rattle.bson.proofs.extjson.value_writer.BsonWriterValueWriter.null.Goals as goal
-
-pub returns-clause-written : goal.returns-clause-written
-returns-clause-written c =
-    scalar_pushed c.push_under.result c.args.name.now c.args.self.now c.push_under.new.self Null null c.push_under.ensures.pushed null_is

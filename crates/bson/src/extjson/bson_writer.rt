@@ -1,0 +1,243 @@
+//! Values in memory that a text is read into.
+ghost use Rattle.std.specs.Prelude.{◌≡◌, ◌++◌, ◌∷◌, [], string_bytes, IfOk, OnOk, IfErr};
+ghost use Rattle.bson_text.specs.ErrorDenials.{RulesOutText};
+ghost use Rattle.bson_text.specs.TraversalErrors.{MayFail};
+ghost use Rattle.bson.specs.SortedMembers.{pairs_of_members};
+ghost use Rattle.bson.specs.BsonWriterState.{HasPushed, key_in_container, document_in_order};
+ghost use Rattle.bson.specs.TextMeaning.{HasTextMeaningBy};
+ghost use Rattle.bson.specs.View.{bson_view, document_view};
+
+use crate::bson::Bson;
+use crate::document::Document;
+use crate::extjson::builder::with_scope;
+use crate::extjson::key_order::KeyOrder;
+use crate::extjson::scalars::from_scalar;
+use crate::extjson::text_reader::sorted_members::document_of_members;
+use bson_scalar::form::Doubles;
+use bson_scalar::scalar::Scalar;
+use bson_store::Pair;
+use bson_text::traversal_error::TraversalError;
+use bson_text::traversal::write_text;
+use bson_text::value_writer::ValueWriter;
+use itoa::Buffer;
+use json::Scratch;
+use std::alloc::{AllocError, Global};
+use std::mem::replace;
+
+/// Makes values in memory.
+#[derive(Drop)]
+pub(crate) struct BsonWriter {
+    pub(crate) alloc: Global,
+    pub(crate) order: KeyOrder,
+    // The innermost array or document that is open. Outside of them, and around a scope, it is an
+    // array.
+    pub(crate) container: Container,
+    // The key of the document that begins next.
+    pub(crate) key: String,
+}
+
+/// The values so far of an array or a document.
+#[derive(Drop)]
+pub(crate) enum Container {
+    Array(Vec<Bson>),
+    Document(Vec<Pair<Bson>>),
+}
+
+/// The container around an array, a document or code, and its key there.
+#[derive(Drop)]
+pub(crate) struct Enclosing {
+    pub(crate) outer: Container,
+    pub(crate) key: String,
+}
+
+impl BsonWriter {
+    // Returns a copy of the name if the container has keys.
+    fn key_of(&self, name: &str) -> Result<String, AllocError>
+        ensures { IfOk result (λ key. key_in_container self.now.container (string_bytes key) ≡ key_in_container self.now.container name.now) }
+    {
+        match &self.container {
+            Container::Array(_) => Ok(String::new(self.alloc)),
+            Container::Document(_) => String::from_str(self.alloc, name),
+        }
+    }
+
+    fn push(&mut self, key: String, value: Bson) -> Result<(), TraversalError>
+        ensures pushed { OnOk result (HasPushed self.old (string_bytes key) value self.new) }
+        ensures stops { IfErr result (MayFail (λ doubles. ⊥)) }
+    {
+        match &mut self.container {
+            Container::Array(items) => push_to(items, value),
+            Container::Document(entries) => push_to(entries, Pair { key, value }),
+        }
+    }
+
+    fn push_under(&mut self, name: &str, value: Bson) -> Result<(), TraversalError>
+        ensures pushed { OnOk result (HasPushed self.old name.now value self.new) }
+        ensures stops { IfErr result (MayFail (λ doubles. ⊥)) }
+    {
+        let key = self.key_of(name)?;
+        self.push(key, value)
+    }
+}
+
+fn push_to<T: Drop>(list: &mut Vec<T>, value: T) -> Result<(), TraversalError>
+    ensures pushed { OnOk result (list.new.items ≡ list.old.items ++ value ∷ []) }
+    ensures stops { IfErr result (MayFail (λ doubles. ⊥)) }
+{
+    let Ok(()) = list.push(value) else {
+        return Err(TraversalError::OutOfMemory);
+    };
+    Ok(())
+}
+
+impl ValueWriter for BsonWriter {
+    type Open = Enclosing;
+
+    ghost use Rattle.bson.specs.BsonWriterState.{HasPushedValue, HasPushedDocument, HasBegunArray, HasBegunDocument, HasBegunCode};
+
+    ghost may_give_up = { λ doubles. ⊥ };
+
+    ghost sorts_keys = { ⊥ };
+
+    ghost item_name_of = { λ n. [] };
+
+    ghost wrote_value = { λ old k v new. HasPushedValue old k v new };
+
+    ghost wrote_document = { λ old ps new. HasPushedDocument old ps new };
+
+    ghost began_array = { λ old k enclosing new. HasBegunArray old k enclosing new };
+
+    ghost began_document = { λ old enclosing new. HasBegunDocument old enclosing new };
+
+    ghost wrote_key = { λ old k new. new ≡ old };
+
+    ghost began_code = { λ old k s enclosing new. HasBegunCode old k s enclosing new };
+
+    fn string(&mut self, name: &str, text: &str) -> Result<(), TraversalError> {
+        let text = String::from_str(self.alloc, text)?;
+        self.push_under(name, Bson::String(text))
+    }
+
+    fn boolean(&mut self, name: &str, truth: bool) -> Result<(), TraversalError> {
+        self.push_under(name, Bson::Boolean(truth))
+    }
+
+    fn null(&mut self, name: &str) -> Result<(), TraversalError> {
+        self.push_under(name, Bson::Null)
+    }
+
+    fn scalar(&mut self, name: &str, value: Scalar) -> Result<(), TraversalError> {
+        self.push_under(name, from_scalar(value))
+    }
+
+    fn item_name<'b>(_buffer: &'b mut Buffer, _place: usize) -> &'b str {
+        ""
+    }
+
+    fn begin_array(&mut self, name: &str) -> Result<Enclosing, TraversalError> {
+        let key = self.key_of(name)?;
+        let items = Container::Array(Vec::new(self.alloc));
+        let outer = replace(&mut self.container, items);
+        Ok(Enclosing { outer, key })
+    }
+
+    fn end_array(&mut self, enclosing: Enclosing) -> Result<(), TraversalError> {
+        let Enclosing { outer, key } = enclosing;
+        let Container::Array(mut items) = replace(&mut self.container, outer) else {
+            unreachable!()
+        };
+        items.shrink_to_fit();
+        self.push(key, Bson::Array(items))
+    }
+
+    fn embed(&mut self, name: &str) -> Result<(), TraversalError> {
+        self.key = self.key_of(name)?;
+        Ok(())
+    }
+
+    fn begin(&mut self) -> Result<Enclosing, TraversalError> {
+        let key = replace(&mut self.key, String::new(self.alloc));
+        let entries = Container::Document(Vec::new(self.alloc));
+        let outer = replace(&mut self.container, entries);
+        Ok(Enclosing { outer, key })
+    }
+
+    fn key(&mut self, _name: &str) -> Result<(), TraversalError> {
+        Ok(())
+    }
+
+    fn end(&mut self, enclosing: Enclosing, _keys: &mut [&str]) -> Result<(), TraversalError> {
+        let Enclosing { outer, key } = enclosing;
+        let Container::Document(entries) = replace(&mut self.container, outer) else {
+            unreachable!()
+        };
+        let document = document_of(self.alloc, self.order, entries)?;
+        self.push(key, Bson::Document(document))
+    }
+
+    fn begin_code(&mut self, name: &str, code: &str) -> Result<Enclosing, TraversalError> {
+        let key = self.key_of(name)?;
+        let items = Container::Array(Vec::new(self.alloc));
+        let outer = replace(&mut self.container, items);
+        let code = String::from_str(self.alloc, code)?;
+        self.push_under("", Bson::JavaScriptCode(code))?;
+        Ok(Enclosing { outer, key })
+    }
+
+    fn end_code(&mut self, enclosing: Enclosing) -> Result<(), TraversalError> {
+        let Enclosing { outer, key } = enclosing;
+        let Container::Array(mut items) = replace(&mut self.container, outer) else {
+            unreachable!()
+        };
+        let Some(Bson::Document(scope)) = items.pop() else {
+            unreachable!()
+        };
+        let Some(Bson::JavaScriptCode(code)) = items.pop() else {
+            unreachable!()
+        };
+        self.push(key, with_scope(code, scope))
+    }
+}
+
+// Makes the document of the entries. If a key is duplicated, its last value wins.
+fn document_of(
+    alloc: Global,
+    order: KeyOrder,
+    entries: Vec<Pair<Bson>>,
+) -> Result<Document, AllocError>
+    ensures { IfOk result (λ document. document_view document ≡ document_in_order order (pairs_of_members entries.items)) }
+{
+    match order {
+        KeyOrder::Ascending => document_of_members(alloc, entries),
+        KeyOrder::AsGiven => Document::from_entries(alloc, entries),
+    }
+}
+
+/// Reads the value of the text, each document with its keys in the order.
+pub(crate) fn read_once(
+    alloc: Global,
+    doubles: Doubles,
+    order: KeyOrder,
+    text: &str,
+) -> Result<Bson, TraversalError>
+    ensures ok { IfOk result (λ v. HasTextMeaningBy order doubles text.now (bson_view v)) }
+    ensures stops { IfErr result (λ e. RulesOutText doubles ⊥ ⊥ e text.now) }
+{
+    let writer = BsonWriter {
+        alloc,
+        order,
+        container: Container::Array(Vec::new(alloc)),
+        key: String::new(alloc),
+    };
+    let mut scratch = Scratch::new(alloc);
+    let written = write_text(alloc, doubles, text, &mut scratch, writer)?;
+    drop(scratch);
+    let BsonWriter { container, .. } = written;
+    let Container::Array(mut items) = container else {
+        unreachable!()
+    };
+    match items.pop() {
+        Some(value) => Ok(value),
+        None => unreachable!(),
+    }
+}

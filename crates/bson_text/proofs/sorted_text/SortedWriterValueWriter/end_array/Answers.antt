@@ -1,6 +1,0 @@
-use Rattle.bson_text.proofs.Sorting.{array_added}
-use Rattle.bson_text.proofs.sorted_text.SortedWriterValueWriter.end_array.Goals as goal
-
-pub returns-clause-written : goal.returns-clause-written
-returns-clause-written c = λ start mid k vs mark written.
-    array_added vs start mid c.args.self.now c.add_byte.new.self mark written c.in_ok-add_byte.ensures

@@ -1,0 +1,15 @@
+use Rattle.std.proofs.Common.{true, refl}
+use Rattle.serde_json.specs.Data.{boolean}
+use Rattle.bson_scalar.specs.Tokens.{tokens_of}
+use Rattle.bson_text.proofs.Sorting.{part_added}
+use Rattle.bson_text.proofs.sorted_writer.SortedWriterValueWriter.boolean.Goals as goal
+
+pub returns-clause-written : goal.returns-clause-written
+returns-clause-written c =
+    let t = boolean c.args.truth in (
+      t,
+      refl,
+      part_added c.args.self.now c.begin_part.new.self c.add_part.new.self true c.in_ok-part.part.tokens
+          c.boolean.new.self.tokens (tokens_of t) c.in_ok-part.ensures.comma c.in_ok-add_part.ensures
+          c.in_ok-part.ensures.empty.1 c.in_ok-boolean.ensures.ok,
+    )

@@ -1,0 +1,276 @@
+//! The text that shows values, each document's keys in ascending order or in the order in which they
+//! came.
+ghost use Rattle.std.specs.Prelude.{◌≡◌, ◌-◌, ◌∷◌, ◌++◌, [], length, map, take, true, false, codes, OnOk, IfErr, ⊤};
+ghost use Rattle.std.specs.Prelude.{if◌then◌else◌};
+ghost use Rattle.std.specs.Str.{is_utf8};
+ghost use Rattle.bson_scalar.specs.Displayed.{scalar_text};
+ghost use Rattle.bson_scalar.specs.View.{scalar_of, scalar_view};
+ghost use Rattle.bson_model.specs.Value.{Pairs};
+ghost use Rattle.bson_tokens.specs.declared.arrangement.Arrangement.TheVariants as arrangement;
+ghost use Rattle.bson_text.specs.MemberSpans.{EndsWithBrace};
+ghost use Rattle.bson_text.specs.TraversalErrors.{MayFailAtDocumentEnd};
+ghost use Rattle.bson_text.specs.TraversalResults.{PairsWritten, keys_of, each_key_once};
+
+use crate::distinct_keys::are_distinct;
+use crate::sorted_writer::Mark;
+use crate::member_spans::{end_object, put_comma};
+use crate::traversal_error::TraversalError;
+use crate::value_writer::ValueWriter;
+use bson_scalar::scalar::Scalar;
+use bson_scalar::scalar_ref::ScalarRef;
+use bson_tokens::arrangement::Arrangement;
+use itoa::Buffer;
+use std::alloc::{AllocError, Global};
+
+/// The text of values on one line, as people read it. It has the members of an open
+/// document in input order, each from its offset on.
+#[derive(Drop)]
+pub(crate) struct DisplayWriter {
+    pub(crate) alloc: Global,
+    // Where the keys of a document go.
+    pub(crate) arrangement: Arrangement,
+    pub(crate) text: Vec<u8>,
+    // Memory for the text of a scalar.
+    pub(crate) part: String,
+    // The offsets of the members of all open documents, the outermost document before the others.
+    pub(crate) member_starts: Vec<usize>,
+    // Whether a value precedes the next value.
+    pub(crate) needs_comma: bool,
+    // How many bytes may be allocated to sort members.
+    pub(crate) limit: usize,
+    ghost utf8: { is_utf8 text.items ≡ true },
+}
+
+impl DisplayWriter {
+    ghost use Rattle.bson_text.specs.DisplayOutput.{HasDisplayAdded, HasBegunDisplay, HasDisplayOfKey, HasDisplayAfterSeparator, HasDisplayOfPairs, HasDisplayOfValue, closing_brace};
+    ghost use Rattle.bson_text.specs.DisplayOutput.{separator_if};
+
+    // Adds the separator of elements that is due.
+    fn add_separator(&mut self) -> Result<(), AllocError>
+        ensures { OnOk result (HasDisplayAdded self.old (separator_if self.old.needs_comma) self.old.needs_comma self.new) }
+    {
+        if self.needs_comma {
+            self.text.extend_from_slice(b", ")?;
+        }
+        Ok(())
+    }
+
+    // Adds the text, after which a comma is needed or not.
+    fn add(&mut self, text: &str, needs_comma: bool) -> Result<(), AllocError>
+        ensures { OnOk result (HasDisplayAdded self.old text.now needs_comma self.new) }
+    {
+        self.text.extend_from_slice(text.as_bytes())?;
+        self.needs_comma = needs_comma;
+        Ok(())
+    }
+
+    // Adds the separator that is due, and the scalar's text.
+    fn add_scalar(&mut self, value: Scalar) -> Result<(), AllocError>
+        ensures { OnOk result (HasDisplayAfterSeparator self.old (scalar_text (scalar_view value)) true self.new) }
+    {
+        self.add_separator()?;
+        self.part.clear();
+        write!(self.part, "{}", scalar_ref(&value))?;
+        self.text.extend_from_slice(self.part.as_bytes())?;
+        self.needs_comma = true;
+        Ok(())
+    }
+
+    fn position(&self) -> Mark
+        ensures start { result.start ≡ length self.now.text.items }
+        ensures start_count { result.start_count ≡ length self.now.member_starts.items }
+    {
+        Mark {
+            start: self.text.len(),
+            start_count: self.member_starts.len(),
+        }
+    }
+
+    // Ends a document with its members in ascending key order.
+    fn end_sorted(&mut self, mark: Mark, keys: &[&str]) -> Result<(), TraversalError>
+        requires stands { (start : DisplayWriter) × (mid : DisplayWriter) × (ps : Pairs) × HasBegunDisplay start mark mid
+            × PairsWritten (λ a k v b. HasDisplayOfValue a v b) HasDisplayOfKey ps mid self.old
+            × (keys_of ps ≡ map (λ k. k.now) keys.now) }
+        requires ascending { self.old.arrangement ≡ arrangement.Ascending }
+        ensures written { OnOk result ((start : DisplayWriter) (mid : DisplayWriter) (ps : Pairs) → HasBegunDisplay start mark mid
+            → PairsWritten (λ a k v b. HasDisplayOfValue a v b) HasDisplayOfKey ps mid self.old
+            → keys_of ps ≡ map (λ k. k.now) keys.now → HasDisplayOfPairs start (each_key_once ps) self.new) }
+        ensures stops { IfErr result (MayFailAtDocumentEnd (λ doubles. ⊥) ⊤ (map (λ k. k.now) keys.now)) }
+    {
+        let member_starts = &self.member_starts[mark.start_count..];
+        end_object(
+            self.alloc,
+            keys,
+            member_starts,
+            mark.start,
+            self.limit,
+            &mut self.text,
+        )?;
+        put_space_before_brace(keys.is_empty(), &mut self.text)?;
+        self.member_starts.truncate(mark.start_count);
+        self.needs_comma = true;
+        Ok(())
+    }
+
+    // Ends a document, and keeps its members in input order. Rejects a duplicate key.
+    fn end_in_order(&mut self, mark: Mark, keys: &mut [&str]) -> Result<(), TraversalError>
+        requires first_places { self.old.arrangement ≡ arrangement.FirstPositions }
+        ensures written { OnOk result ((start : DisplayWriter) (mid : DisplayWriter) (ps : Pairs) → HasBegunDisplay start mark mid
+            → PairsWritten (λ a k v b. HasDisplayOfValue a v b) HasDisplayOfKey ps mid self.old
+            → keys_of ps ≡ map (λ k. k.now) keys.old → HasDisplayOfPairs start (each_key_once ps) self.new) }
+        ensures stops { IfErr result (MayFailAtDocumentEnd (λ doubles. ⊥) ⊤ (map (λ k. k.now) keys.old)) }
+    {
+        let brace = DisplayWriter::closing_brace(self.needs_comma);
+        if !are_distinct(self.alloc, keys) {
+            return Err(TraversalError::DuplicateKey);
+        }
+        self.member_starts.truncate(mark.start_count);
+        Ok(self.add(brace, true)?)
+    }
+
+    // Returns the brace that ends a document, with a space after members.
+    fn closing_brace(needs_comma: bool) -> &'static str
+        ensures { result.now ≡ closing_brace needs_comma }
+    {
+        if needs_comma { " }" } else { "}" }
+    }
+}
+
+// The members begin with a space, so that only a comma separates them.
+impl ValueWriter for DisplayWriter {
+    type Open = Mark;
+
+    ghost use Rattle.bson_text.specs.DisplayOutput.{HasBegunDisplay, HasBegunCodeDisplay, HasDisplayOfKey, HasDisplayAfterSeparator, HasDisplayOfPairs, HasDisplayOfValue};
+
+    ghost may_give_up = { λ doubles. ⊥ };
+
+    ghost sorts_keys = { ⊤ };
+
+    ghost item_name_of = { λ n. [] };
+
+    ghost wrote_value = { λ old k v new. HasDisplayOfValue old v new };
+
+    ghost wrote_document = { λ old ps new. HasDisplayOfPairs old ps new };
+
+    ghost began_array = { λ old k mark new. HasDisplayAfterSeparator old (codes "[") false new };
+
+    ghost began_document = { λ old mark new. HasBegunDisplay old mark new };
+
+    ghost wrote_key = { λ old k new. HasDisplayOfKey old k new };
+
+    ghost began_code = { λ old k s mark new. HasBegunCodeDisplay old s mark new };
+
+    fn string(&mut self, _name: &str, text: &str) -> Result<(), TraversalError> {
+        self.add_separator()?;
+        self.add("\"", false)?;
+        self.add(text, false)?;
+        Ok(self.add("\"", true)?)
+    }
+
+    fn boolean(&mut self, _name: &str, truth: bool) -> Result<(), TraversalError> {
+        Ok(self.add_scalar(Scalar::Boolean(truth))?)
+    }
+
+    fn null(&mut self, _name: &str) -> Result<(), TraversalError> {
+        Ok(self.add_scalar(Scalar::Null)?)
+    }
+
+    fn scalar(&mut self, _name: &str, value: Scalar) -> Result<(), TraversalError> {
+        Ok(self.add_scalar(value)?)
+    }
+
+    fn item_name<'b>(_buffer: &'b mut Buffer, _index: usize) -> &'b str {
+        ""
+    }
+
+    fn begin_array(&mut self, _name: &str) -> Result<Mark, TraversalError> {
+        self.add_separator()?;
+        let mark = self.position();
+        self.add("[", false)?;
+        Ok(mark)
+    }
+
+    fn end_array(&mut self, _mark: Mark) -> Result<(), TraversalError> {
+        Ok(self.add("]", true)?)
+    }
+
+    fn embed(&mut self, _name: &str) -> Result<(), TraversalError> {
+        Ok(())
+    }
+
+    fn begin(&mut self) -> Result<Mark, TraversalError> {
+        self.add_separator()?;
+        let mark = self.position();
+        self.add("{", false)?;
+        Ok(mark)
+    }
+
+    fn key(&mut self, name: &str) -> Result<(), TraversalError> {
+        put_comma(self.needs_comma, &mut self.text)?;
+        let Ok(()) = self.member_starts.push(self.text.len()) else {
+            return Err(TraversalError::OutOfMemory);
+        };
+        self.add(" \"", false)?;
+        self.add(name, false)?;
+        Ok(self.add("\": ", false)?)
+    }
+
+    fn end(&mut self, mark: Mark, keys: &mut [&str]) -> Result<(), TraversalError> {
+        match self.arrangement {
+            Arrangement::FirstPositions => self.end_in_order(mark, keys),
+            Arrangement::Ascending => self.end_sorted(mark, keys),
+        }
+    }
+
+    // Begins the scope, which is not shown.
+    fn begin_code(&mut self, _name: &str, code: &str) -> Result<Mark, TraversalError> {
+        self.add_separator()?;
+        self.add(code, false)?;
+        Ok(self.position())
+    }
+
+    fn end_code(&mut self, scope: Mark) -> Result<(), TraversalError> {
+        self.text.truncate(scope.start);
+        self.needs_comma = true;
+        Ok(())
+    }
+}
+
+// Inserts a space before the brace that ends a document, if it has members.
+fn put_space_before_brace(is_empty: bool, text: &mut Vec<u8>) -> Result<(), AllocError>
+    requires { EndsWithBrace text.old.items }
+    ensures text { OnOk result (text.new.items ≡ (if is_empty then text.old.items
+        else (take (length text.old.items - 1) text.old.items ++ codes " }"))) }
+    ensures utf8 { is_utf8 text.new.items ≡ true }
+{
+    if !is_empty {
+        text.pop();
+        text.extend_from_slice(b" }")?;
+    }
+    Ok(())
+}
+
+fn scalar_ref(value: &Scalar) -> ScalarRef<'_>
+    ensures { scalar_of result ≡ scalar_view value.now }
+{
+    match value {
+        Scalar::Null => ScalarRef::Null,
+        Scalar::Undefined => ScalarRef::Undefined,
+        Scalar::MinKey => ScalarRef::MinKey,
+        Scalar::MaxKey => ScalarRef::MaxKey,
+        Scalar::Boolean(b) => ScalarRef::Boolean(*b),
+        Scalar::Double(pattern) => ScalarRef::Double(*pattern),
+        Scalar::Int32(z) => ScalarRef::Int32(*z),
+        Scalar::Int64(z) => ScalarRef::Int64(*z),
+        Scalar::String(text) => ScalarRef::String(text.as_str()),
+        Scalar::Symbol(text) => ScalarRef::Symbol(text.as_str()),
+        Scalar::JavaScriptCode(code) => ScalarRef::JavaScriptCode(code.as_str()),
+        Scalar::RegularExpression(regex) => ScalarRef::RegularExpression(regex),
+        Scalar::Timestamp(stamp) => ScalarRef::Timestamp(*stamp),
+        Scalar::Binary(binary) => ScalarRef::Binary(binary),
+        Scalar::ObjectId(id) => ScalarRef::ObjectId(*id),
+        Scalar::DateTime(date) => ScalarRef::DateTime(*date),
+        Scalar::Decimal128(decimal) => ScalarRef::Decimal128(*decimal),
+        Scalar::DbPointer(pointer) => ScalarRef::DbPointer(pointer),
+    }
+}

@@ -1,0 +1,107 @@
+//! A text of Extended JSON that values are written to.
+ghost use Rattle.std.specs.Prelude.{◌≡◌};
+
+use crate::distinct_keys::are_distinct;
+use crate::traversal_error::{TraversalError, write_error};
+use crate::value_writer::ValueWriter;
+use bson_scalar::code::put_code;
+use bson_scalar::form::{Doubles, Form};
+use bson_scalar::scalar::Scalar;
+use bson_scalar::write::print_scalar_in;
+use itoa::Buffer;
+use json::Writer;
+use std::alloc::Global;
+
+/// The compact text of values in a form.
+#[derive(Drop)]
+pub(crate) struct TextWriter {
+    pub(crate) alloc: Global,
+    pub(crate) doubles: Doubles,
+    pub(crate) form: Form,
+    pub(crate) out: Writer,
+}
+
+impl ValueWriter for TextWriter {
+    type Open = ();
+
+    ghost use Rattle.std.specs.Prelude.{[], ◌∷◌};
+    ghost use Rattle.bson_scalar.specs.declared.form.Doubles.TheVariants.{Finite};
+    ghost use Rattle.json.specs.Token as token;
+    ghost use Rattle.bson_scalar.specs.Tokens.{code_tokens};
+    ghost use Rattle.bson_text.specs.TextOutput.{HasTokensAdded, HasValueTokens, HasPairTokens};
+
+    ghost may_give_up = { λ doubles. doubles ≡ Finite };
+
+    ghost sorts_keys = { ⊥ };
+
+    ghost item_name_of = { λ n. [] };
+
+    ghost wrote_value = { λ old k v new. HasValueTokens old v new };
+
+    ghost wrote_document = { λ old ps new. HasPairTokens old ps new };
+
+    ghost began_array = { λ old k mark new. HasTokensAdded old (token.begin_array ∷ []) new };
+
+    ghost began_document = { λ old mark new. HasTokensAdded old (token.begin_object ∷ []) new };
+
+    ghost wrote_key = { λ old k new. HasTokensAdded old (token.key k ∷ []) new };
+
+    ghost began_code = { λ old k s mark new. HasTokensAdded old (code_tokens s) new };
+
+    fn string(&mut self, _name: &str, text: &str) -> Result<(), TraversalError> {
+        Ok(self.out.string(text)?)
+    }
+
+    fn boolean(&mut self, _name: &str, truth: bool) -> Result<(), TraversalError> {
+        Ok(self.out.boolean(truth)?)
+    }
+
+    fn null(&mut self, _name: &str) -> Result<(), TraversalError> {
+        Ok(self.out.null()?)
+    }
+
+    fn scalar(&mut self, _name: &str, value: Scalar) -> Result<(), TraversalError> {
+        print_scalar_in(self.alloc, self.doubles, self.form, value, &mut self.out).map_err(
+            write_error,
+        )
+    }
+
+    fn item_name<'b>(_buffer: &'b mut Buffer, _index: usize) -> &'b str {
+        ""
+    }
+
+    fn begin_array(&mut self, _name: &str) -> Result<(), TraversalError> {
+        Ok(self.out.begin_array()?)
+    }
+
+    fn end_array(&mut self, _open: ()) -> Result<(), TraversalError> {
+        Ok(self.out.end_array()?)
+    }
+
+    fn embed(&mut self, _name: &str) -> Result<(), TraversalError> {
+        Ok(())
+    }
+
+    fn begin(&mut self) -> Result<(), TraversalError> {
+        Ok(self.out.begin_object()?)
+    }
+
+    fn key(&mut self, name: &str) -> Result<(), TraversalError> {
+        Ok(self.out.key(name)?)
+    }
+
+    fn end(&mut self, _open: (), keys: &mut [&str]) -> Result<(), TraversalError> {
+        if !are_distinct(self.alloc, keys) {
+            return Err(TraversalError::DuplicateKey);
+        }
+        Ok(self.out.end_object()?)
+    }
+
+    fn begin_code(&mut self, _name: &str, code: &str) -> Result<(), TraversalError> {
+        Ok(put_code(code, &mut self.out)?)
+    }
+
+    fn end_code(&mut self, _open: ()) -> Result<(), TraversalError> {
+        Ok(self.out.end_object()?)
+    }
+}
