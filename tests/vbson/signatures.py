@@ -129,8 +129,8 @@ FLAGS = {"DOUBLES": 1, "KEEP_ORDER": 2, "REJECT_DUPLICATE_KEYS": 4, "LEGACY": 8}
 
 
 def answers(contract):
-    """The numbers for which the clause `listed` of a contract holds."""
-    clause = re.search(r"(?m)^    ensures listed \{ (.*) \}$", contract)
+    """The numbers for which the clause `possible_statuses` of a contract holds."""
+    clause = re.search(r"(?m)^    ensures possible_statuses \{ (.*) \}$", contract)
     if not clause:
         return None
     test = clause[1].replace("≡", "==").replace("⊎", "or").replace("×", "and").replace("≤", "<=")

@@ -20,7 +20,7 @@ use Rattle.bson_codec.specs.Canonical.{PairsNestUpTo, as_read_back, with_written
 use Rattle.bson_codec.specs.ReadDocuments.{IsRead}
 use Rattle.bson_run.specs.Encode.{Encodes}
 use Rattle.bson_scalar.specs.Normal.{normal_scalar}
-use Rattle.bson_pairs.specs.Again.{RoundTrips, NestsAtMost}
+use Rattle.bson_pairs.specs.RoundTrip.{RoundTrips, NestsAtMost}
 
 -- ---- what is in normal form has the subtypes that its bytes name
 

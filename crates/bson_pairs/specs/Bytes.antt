@@ -8,27 +8,27 @@ use Rattle.bson_codec.specs.declared.de.Error.TheVariants as errors
 use Rattle.bson_codec.specs.Unwritten.TheVariants as causes
 use Rattle.bson_pairs.specs.declared.bytes.NoBytes.{NoBytes}
 use Rattle.bson_pairs.specs.declared.bytes.NoBytes.TheVariants as refusals
-use Rattle.bson_pairs.specs.declared.bytes.NoText.{NoText}
-use Rattle.bson_pairs.specs.declared.bytes.NoText.TheVariants.{NoDocument, FiniteDouble, OutOfMemory}
+use Rattle.bson_pairs.specs.declared.bytes.NoTextReason.{NoTextReason}
+use Rattle.bson_pairs.specs.declared.bytes.NoTextReason.TheVariants.{NoDocument, FiniteDouble, OutOfMemory}
 
 -- an allocation failed while bytes were converted to text
-abbrev pub IsWantOfMemory : NoText → Type 0
-IsWantOfMemory (NoDocument e) = e ≡ errors.OutOfMemory
-IsWantOfMemory FiniteDouble = ⊥
-IsWantOfMemory OutOfMemory = Unit {0}
+abbrev pub IsTextAllocationFailure : NoTextReason → Type 0
+IsTextAllocationFailure (NoDocument e) = e ≡ errors.OutOfMemory
+IsTextAllocationFailure FiniteDouble = ⊥
+IsTextAllocationFailure OutOfMemory = Unit {0}
 
 -- the text denotes a value that is not a document
 abbrev pub TextIsNotDocument : List ℕ → Type 0
 TextIsNotDocument text = (v : Value) × HasTextMeaning text v × ((ps : Pairs) → v ≡ document ps → ⊥)
 
 -- why the text has no bytes: it is invalid, its value is not a document, the document does not fit, or memory ran out
-abbrev pub GivesNoBytes : List ℕ → NoBytes → Type 0
-GivesNoBytes text (refusals.NoValue e) = IsTextFault text e
-GivesNoBytes text refusals.NoDocument = TextIsNotDocument text
-GivesNoBytes text (refusals.NoBytes e) = (ps : Pairs) × HasTextMeaning text (document ps) × IsWriteErrorFor e ps
+abbrev pub IsBytesFailure : List ℕ → NoBytes → Type 0
+IsBytesFailure text (refusals.NoValue e) = IsTextFault text e
+IsBytesFailure text refusals.NoDocument = TextIsNotDocument text
+IsBytesFailure text (refusals.NoBytes e) = (ps : Pairs) × HasTextMeaning text (document ps) × IsWriteErrorFor e ps
 
 -- an allocation failed while a text was converted to bytes
-abbrev pub IsWantOfBytes : NoBytes → Type 0
-IsWantOfBytes (refusals.NoValue e) = e ≡ text_errors.OutOfMemory
-IsWantOfBytes refusals.NoDocument = ⊥
-IsWantOfBytes (refusals.NoBytes e) = e ≡ causes.OutOfMemory
+abbrev pub IsBytesAllocationFailure : NoBytes → Type 0
+IsBytesAllocationFailure (refusals.NoValue e) = e ≡ text_errors.OutOfMemory
+IsBytesAllocationFailure refusals.NoDocument = ⊥
+IsBytesAllocationFailure (refusals.NoBytes e) = e ≡ causes.OutOfMemory

@@ -8,7 +8,7 @@ ghost use Rattle.bson.specs.Texts.{IsTextIn};
 ghost use Rattle.bson.specs.Value.{Pairs, document};
 ghost use Rattle.bson_codec.specs.Canonical.{document_bytes, as_read_back, FitsDocument, PairsNestUpTo};
 ghost use Rattle.bson_codec.specs.ReadDocuments.{IsRead};
-ghost use Rattle.bson_pairs.specs.Bytes.{GivesNoBytes, IsWantOfBytes, IsWantOfMemory};
+ghost use Rattle.bson_pairs.specs.Bytes.{IsBytesFailure, IsBytesAllocationFailure, IsTextAllocationFailure};
 
 use bson::Bson;
 use bson::extjson::WriteError;
@@ -18,7 +18,7 @@ use std::alloc::Global;
 
 /// Why bytes have no text.
 #[derive(Debug, Drop)]
-pub enum NoText {
+pub enum NoTextReason {
     /// The bytes are not a document.
     NoDocument(de::Error),
     /// The document has a finite double other than zero, so it has no text.
@@ -28,22 +28,22 @@ pub enum NoText {
 }
 
 /// Returns the canonical text of the document that the bytes encode.
-pub fn text_of_bytes(alloc: Global, bytes: &[u8], depth: usize) -> Result<String, NoText>
+pub fn text_of_bytes(alloc: Global, bytes: &[u8], depth: usize) -> Result<String, NoTextReason>
     // It is the text of the one document that the bytes are in the grammar.
     ensures ok { IfOk result (λ text. (ps : Pairs) × IsRead depth bytes.now ps
         × IsTextIn Canonical (document ps) (string_bytes text)) }
     // If they are a document without finite doubles except zeros, only an allocation can fail.
     ensures only { (ps : Pairs) → IsRead depth bytes.now ps → writable (document ps) ≡ true
-        → IfErr result (λ e. IsWantOfMemory e) }
+        → IfErr result (λ error. IsTextAllocationFailure error) }
 {
     let document = match from_slice(alloc, bytes, depth) {
         Ok(document) => document,
-        Err(error) => return Err(NoText::NoDocument(error)),
+        Err(error) => return Err(NoTextReason::NoDocument(error)),
     };
     match Bson::Document(document).into_canonical_text(alloc) {
         Ok(text) => Ok(text),
-        Err(WriteError::FiniteDouble) => Err(NoText::FiniteDouble),
-        Err(WriteError::OutOfMemory) => Err(NoText::OutOfMemory),
+        Err(WriteError::FiniteDouble) => Err(NoTextReason::FiniteDouble),
+        Err(WriteError::OutOfMemory) => Err(NoTextReason::OutOfMemory),
     }
 }
 
@@ -63,13 +63,13 @@ pub fn bytes_of_text(alloc: Global, text: &[u8]) -> Result<Vec<u8>, NoBytes>
     // They are the canonical bytes of a document that the text means, and are read back as it.
     ensures ok { IfOk result (λ out. (ps : Pairs) × HasTextMeaning text.now (document ps)
         × (out.items ≡ document_bytes ps)
-        × ((d : ℕ) → PairsNestUpTo ps d → IsRead (suc d) out.items (as_read_back ps))) }
+        × ((depth : ℕ) → PairsNestUpTo ps depth → IsRead (suc depth) out.items (as_read_back ps))) }
     // Why there are none: the first error of the text, a value that is not a document, or the first
     // part of the document that does not fit.
-    ensures refused { IfErr result (λ e. GivesNoBytes text.now e) }
+    ensures refused { IfErr result (λ error. IsBytesFailure text.now error) }
     // If the text denotes a document each part of which fits, only an allocation can fail.
     ensures only { (ps : Pairs) → HasTextMeaning text.now (document ps) → FitsDocument ps
-        → IfErr result (λ e. IsWantOfBytes e) }
+        → IfErr result (λ error. IsBytesAllocationFailure error) }
 {
     let value = match Bson::try_from_text(alloc, text) {
         Ok(value) => value,

@@ -8,9 +8,9 @@ ghost use Rattle.bson.specs.Same.{same};
 ghost use Rattle.bson.specs.Normal.{normal_form, as_read_back, plain};
 ghost use Rattle.bson.specs.Texts.{IsWriteErrorIn};
 
-pub mod again;
+pub mod round_trip;
 pub mod bytes;
-pub mod twice;
+pub mod second_conversion;
 
 use bson::Bson;
 use bson::extjson::{Doubles, Form, KeyOrder, Options, WriteError};

@@ -1,7 +1,7 @@
 //! `uuid CALL ARGS` and `binary CALL ARGS`: UUIDs, base64, and binaries that hold UUIDs.
-use crate::answer::Answer;
-use crate::stop::{Outcome, Refusal, Stop};
-use crate::words::{byte_of, bytes_of, cut, sixteen};
+use crate::row_output::RowOutput;
+use crate::row_error::{RowResult, CallError, RowError};
+use crate::arguments::{parse_byte, parse_bytes, split_at_space, parse_16_bytes};
 use bson::Bson;
 use bson::binary::Binary;
 use bson::spec::BinarySubtype;
@@ -9,8 +9,8 @@ use bson::uuid::{self, Uuid, UuidRepresentation};
 use std::alloc::Global;
 
 /// `uuid parse TEXT`, `uuid to ORDER UUID`, `uuid from ORDER SUBTYPE BYTES`, `uuid value UUID`.
-pub(crate) fn uuid_call(alloc: Global, rest: &str, out: &mut Answer) -> Outcome {
-    let (name, text) = cut(rest);
+pub(crate) fn uuid_call(alloc: Global, rest: &str, out: &mut RowOutput) -> RowResult {
+    let (name, text) = split_at_space(rest);
     match name {
         "parse" => {
             put_uuid(&Uuid::parse_str(text), out);
@@ -19,36 +19,36 @@ pub(crate) fn uuid_call(alloc: Global, rest: &str, out: &mut Answer) -> Outcome 
         "to" => to_order(alloc, text, out),
         "from" => from_order(alloc, text, out),
         "value" => as_value(alloc, text, out),
-        _ => Err(Stop::NotUnderstood),
+        _ => Err(RowError::InvalidRow),
     }
 }
 
 /// Puts the UUID's text, and its bytes.
-fn put_uuid(read: &uuid::Result<Uuid>, out: &mut Answer) {
+fn put_uuid(read: &uuid::Result<Uuid>, out: &mut RowOutput) {
     match read {
         Ok(id) => {
-            out.show(id);
-            out.text(" ");
-            out.hex(&id.bytes());
+            out.write_value(id);
+            out.write_str(" ");
+            out.write_hex(&id.bytes());
         }
-        Err(error) => out.refuse(error),
+        Err(error) => out.write_error(error),
     }
 }
 
-pub(crate) fn order_of(word: &str) -> Result<UuidRepresentation, Stop> {
+pub(crate) fn order_of(word: &str) -> Result<UuidRepresentation, RowError> {
     match word {
         "standard" => Ok(UuidRepresentation::Standard),
         "csharp" => Ok(UuidRepresentation::CSharpLegacy),
         "java" => Ok(UuidRepresentation::JavaLegacy),
         "python" => Ok(UuidRepresentation::PythonLegacy),
-        _ => Err(Stop::NotUnderstood),
+        _ => Err(RowError::InvalidRow),
     }
 }
 
 /// Writes the subtype and the bytes of the binary. `plain` calls `from_uuid`.
-fn to_order(alloc: Global, text: &str, out: &mut Answer) -> Outcome {
-    let (word, bytes) = cut(text);
-    let id = Uuid::from_bytes(sixteen(bytes)?);
+fn to_order(alloc: Global, text: &str, out: &mut RowOutput) -> RowResult {
+    let (word, bytes) = split_at_space(text);
+    let id = Uuid::from_bytes(parse_16_bytes(bytes)?);
     if word == "plain" {
         put_binary(Binary::from_uuid(alloc, id), out);
     } else {
@@ -59,20 +59,20 @@ fn to_order(alloc: Global, text: &str, out: &mut Answer) -> Outcome {
 }
 
 /// Puts the subtype by its name, and the bytes.
-pub(crate) fn put_binary<E: Refusal>(made: Result<Binary, E>, out: &mut Answer) {
+pub(crate) fn put_binary<E: CallError>(made: Result<Binary, E>, out: &mut RowOutput) {
     match made {
         Ok(binary) => {
-            out.debug(&binary.subtype);
-            out.text(" ");
-            out.hex(binary.bytes.as_slice());
+            out.write_debug(&binary.subtype);
+            out.write_str(" ");
+            out.write_hex(binary.bytes.as_slice());
         }
-        Err(error) => out.refuse(&error),
+        Err(error) => out.write_error(&error),
     }
 }
 
 /// Writes the UUID of a binary with the subtype's byte and these bytes. `plain` calls `to_uuid`.
-fn from_order(alloc: Global, text: &str, out: &mut Answer) -> Outcome {
-    let (word, rest) = cut(text);
+fn from_order(alloc: Global, text: &str, out: &mut RowOutput) -> RowResult {
+    let (word, rest) = split_at_space(text);
     let binary = binary_of(alloc, rest)?;
     if word == "plain" {
         put_uuid(&binary.to_uuid(), out);
@@ -84,54 +84,54 @@ fn from_order(alloc: Global, text: &str, out: &mut Answer) -> Outcome {
 }
 
 /// `SUBTYPE BYTES`.
-pub(crate) fn binary_of(alloc: Global, text: &str) -> Result<Binary, Stop> {
-    let (subtype, bytes) = cut(text);
-    let subtype = BinarySubtype::from(byte_of(subtype)?);
-    let bytes = bytes_of(alloc, bytes)?;
+pub(crate) fn binary_of(alloc: Global, text: &str) -> Result<Binary, RowError> {
+    let (subtype, bytes) = split_at_space(text);
+    let subtype = BinarySubtype::from(parse_byte(subtype)?);
+    let bytes = parse_bytes(alloc, bytes)?;
     Ok(Binary { subtype, bytes })
 }
 
-fn as_value(alloc: Global, text: &str, out: &mut Answer) -> Outcome {
-    let id = Uuid::from_bytes(sixteen(text)?);
-    out.result(Bson::from_uuid(alloc, id));
+fn as_value(alloc: Global, text: &str, out: &mut RowOutput) -> RowResult {
+    let id = Uuid::from_bytes(parse_16_bytes(text)?);
+    out.write_result(Bson::from_uuid(alloc, id));
     Ok(())
 }
 
 /// `binary base64 TEXT`, `binary base64_as SUBTYPE TEXT`, `binary shown SUBTYPE BYTES`, `binary
 /// clone SUBTYPE BYTES`.
-pub(crate) fn call(alloc: Global, rest: &str, out: &mut Answer) -> Outcome {
-    let (name, text) = cut(rest);
+pub(crate) fn call(alloc: Global, rest: &str, out: &mut RowOutput) -> RowResult {
+    let (name, text) = split_at_space(rest);
     match name {
         "shown" => shown(alloc, text, out),
         "clone" => copied(alloc, text, out),
         "base64" => base64(alloc, None, text, out),
         "base64_as" => base64_as(alloc, text, out),
-        _ => Err(Stop::NotUnderstood),
+        _ => Err(RowError::InvalidRow),
     }
 }
 
-fn base64(alloc: Global, subtype: Option<BinarySubtype>, text: &str, out: &mut Answer) -> Outcome {
+fn base64(alloc: Global, subtype: Option<BinarySubtype>, text: &str, out: &mut RowOutput) -> RowResult {
     put_binary(Binary::from_base64(alloc, text, subtype), out);
     Ok(())
 }
 
-fn base64_as(alloc: Global, text: &str, out: &mut Answer) -> Outcome {
-    let (subtype, text) = cut(text);
+fn base64_as(alloc: Global, text: &str, out: &mut RowOutput) -> RowResult {
+    let (subtype, text) = split_at_space(text);
     base64(
         alloc,
-        Some(BinarySubtype::from(byte_of(subtype)?)),
+        Some(BinarySubtype::from(parse_byte(subtype)?)),
         text,
         out,
     )
 }
 
-fn shown(alloc: Global, text: &str, out: &mut Answer) -> Outcome {
-    out.show(&binary_of(alloc, text)?);
+fn shown(alloc: Global, text: &str, out: &mut RowOutput) -> RowResult {
+    out.write_value(&binary_of(alloc, text)?);
     Ok(())
 }
 
-fn copied(alloc: Global, text: &str, out: &mut Answer) -> Outcome {
+fn copied(alloc: Global, text: &str, out: &mut RowOutput) -> RowResult {
     let binary = binary_of(alloc, text)?;
-    out.copy(&binary, binary.clone(alloc));
+    out.write_copy(&binary, binary.clone(alloc));
     Ok(())
 }

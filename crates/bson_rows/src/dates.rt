@@ -1,14 +1,14 @@
 //! `date CALL ARGS`: the calls of dates. A moment is a number of milliseconds, MIN or MAX.
-use crate::answer::Answer;
-use crate::stop::{Outcome, Stop};
-use crate::words::{cut, cut_at_colon, number};
+use crate::row_output::RowOutput;
+use crate::row_error::{RowResult, RowError};
+use crate::arguments::{split_at_space, split_at_colon, parse_number};
 use bson::DateTime;
 use bson::datetime::{DateTimeBuilder, Day, Month, Year};
 use std::alloc::Global;
 use std::time::Duration;
 
-pub(crate) fn call(alloc: Global, rest: &str, out: &mut Answer) -> Outcome {
-    let (name, text) = cut(rest);
+pub(crate) fn call(alloc: Global, rest: &str, out: &mut RowOutput) -> RowResult {
+    let (name, text) = split_at_space(rest);
     match name {
         "read" => put_moment(DateTime::parse_rfc3339_str(text), out),
         "build" => build(text, out),
@@ -16,54 +16,54 @@ pub(crate) fn call(alloc: Global, rest: &str, out: &mut Answer) -> Outcome {
     }
 }
 
-fn moment(text: &str) -> Result<DateTime, Stop> {
+fn moment(text: &str) -> Result<DateTime, RowError> {
     match text {
         "MIN" => Ok(DateTime::MIN),
         "MAX" => Ok(DateTime::MAX),
-        _ => Ok(DateTime::from_millis(number::<i64>(text)?)),
+        _ => Ok(DateTime::from_millis(parse_number::<i64>(text)?)),
     }
 }
 
-fn put_moment(answer: bson::datetime::Result<DateTime>, out: &mut Answer) -> Outcome {
-    match answer {
-        Ok(at) => out.put(&at.timestamp_millis()),
-        Err(error) => out.refuse(&error),
+fn put_moment(result: bson::datetime::Result<DateTime>, out: &mut RowOutput) -> RowResult {
+    match result {
+        Ok(at) => out.write_display(&at.timestamp_millis()),
+        Err(error) => out.write_error(&error),
     }
     Ok(())
 }
 
 /// The calls on a moment.
-fn of_moment(alloc: Global, name: &str, text: &str, out: &mut Answer) -> Outcome {
-    let (at, rest) = cut(text);
+fn of_moment(alloc: Global, name: &str, text: &str, out: &mut RowOutput) -> RowResult {
+    let (at, rest) = split_at_space(text);
     let at = moment(at)?;
     match name {
-        "written" => out.result(at.try_to_rfc3339_string(alloc)),
-        "shown" => out.show(&at),
-        "order" => out.order(at, moment(rest)?),
+        "written" => out.write_result(at.try_to_rfc3339_string(alloc)),
+        "shown" => out.write_value(&at),
+        "order" => out.write_ordering(at, moment(rest)?),
         "since" => put_since(at, moment(rest)?, out),
-        "add_millis" => out.put(
-            &at.saturating_add_millis(number::<i64>(rest)?)
+        "add_millis" => out.write_display(
+            &at.saturating_add_millis(parse_number::<i64>(rest)?)
                 .timestamp_millis(),
         ),
-        "add_duration" => out.put(
+        "add_duration" => out.write_display(
             &at.saturating_add_duration(duration(rest)?)
                 .timestamp_millis(),
         ),
-        _ => return Err(Stop::NotUnderstood),
+        _ => return Err(RowError::InvalidRow),
     }
     Ok(())
 }
 
 /// `YEAR MONTH DAY` and then any of `hour:H minute:M second:S millisecond:MS`, of which the last
 /// call of each counts.
-fn build(text: &str, out: &mut Answer) -> Outcome {
-    let (year, rest) = cut(text);
-    let (month, rest) = cut(rest);
-    let (day, rest) = cut(rest);
+fn build(text: &str, out: &mut RowOutput) -> RowResult {
+    let (year, rest) = split_at_space(text);
+    let (month, rest) = split_at_space(rest);
+    let (day, rest) = split_at_space(rest);
     let mut builder = DateTime::builder()
-        .day(number::<u8>(day)?)
-        .year(number::<i32>(year)?)
-        .month(number::<u8>(month)?);
+        .day(parse_number::<u8>(day)?)
+        .year(parse_number::<i32>(year)?)
+        .month(parse_number::<u8>(month)?);
     for part in rest.split_whitespace() {
         builder = with_part(builder, part)?;
     }
@@ -72,14 +72,14 @@ fn build(text: &str, out: &mut Answer) -> Outcome {
 
 type Builder = DateTimeBuilder<Year, Month, Day>;
 
-fn with_part(builder: Builder, part: &str) -> Result<Builder, Stop> {
-    let (name, amount) = cut_at_colon(part);
-    let amount = number::<u16>(amount)?;
+fn with_part(builder: Builder, part: &str) -> Result<Builder, RowError> {
+    let (name, amount) = split_at_colon(part);
+    let amount = parse_number::<u16>(amount)?;
     if name == "millisecond" {
         return Ok(builder.millisecond(amount));
     }
     let Ok(amount) = u8::try_from(amount) else {
-        return Err(Stop::NotUnderstood);
+        return Err(RowError::InvalidRow);
     };
     match name {
         "hour" => Ok(builder.hour(amount)),
@@ -89,27 +89,27 @@ fn with_part(builder: Builder, part: &str) -> Result<Builder, Stop> {
 }
 
 /// `Nms` or `Nus`.
-fn duration(text: &str) -> Result<Duration, Stop> {
+fn duration(text: &str) -> Result<Duration, RowError> {
     if let Some(micros) = text.strip_suffix("us") {
-        return Ok(Duration::from_micros(number::<u64>(micros)?));
+        return Ok(Duration::from_micros(parse_number::<u64>(micros)?));
     }
     match text.strip_suffix("ms") {
-        Some(millis) => Ok(Duration::from_millis(number::<u64>(millis)?)),
-        None => Err(Stop::NotUnderstood),
+        Some(millis) => Ok(Duration::from_millis(parse_number::<u64>(millis)?)),
+        None => Err(RowError::InvalidRow),
     }
 }
 
 /// Writes the checked difference, and then the saturating one.
-fn put_since(at: DateTime, earlier: DateTime, out: &mut Answer) {
+fn put_since(at: DateTime, earlier: DateTime, out: &mut RowOutput) {
     match at.checked_duration_since(earlier) {
         Some(difference) => put_millis(difference, out),
-        None => out.text("None"),
+        None => out.write_str("None"),
     }
-    out.text(", ");
+    out.write_str(", ");
     put_millis(at.saturating_duration_since(earlier), out);
 }
 
-fn put_millis(difference: Duration, out: &mut Answer) {
-    out.put(&difference.as_millis());
-    out.text(" ms");
+fn put_millis(difference: Duration, out: &mut RowOutput) {
+    out.write_display(&difference.as_millis());
+    out.write_str(" ms");
 }

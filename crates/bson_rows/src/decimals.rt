@@ -1,35 +1,35 @@
 //! `decimal read TEXT`, `decimal bits TEXT`, `decimal print BYTES`: decimals of 128 bits.
-use crate::answer::Answer;
-use crate::stop::{Outcome, Stop};
-use crate::words::{cut, sixteen};
+use crate::row_output::RowOutput;
+use crate::row_error::{RowResult, RowError};
+use crate::arguments::{split_at_space, parse_16_bytes};
 use bson::Decimal128;
 
-pub(crate) fn call(rest: &str, out: &mut Answer) -> Outcome {
-    let (name, text) = cut(rest);
+pub(crate) fn call(rest: &str, out: &mut RowOutput) -> RowResult {
+    let (name, text) = split_at_space(rest);
     match name {
-        "read" => out.result(text.parse::<Decimal128>()),
+        "read" => out.write_result(text.parse::<Decimal128>()),
         "bits" => bits(text, out),
         "print" => return print(text, out),
-        _ => return Err(Stop::NotUnderstood),
+        _ => return Err(RowError::InvalidRow),
     }
     Ok(())
 }
 
 /// The 16 bytes of what is read.
-fn bits(text: &str, out: &mut Answer) {
+fn bits(text: &str, out: &mut RowOutput) {
     match text.parse::<Decimal128>() {
-        Ok(decimal) => out.hex(&decimal.bytes()),
-        Err(error) => out.refuse(&error),
+        Ok(decimal) => out.write_hex(&decimal.bytes()),
+        Err(error) => out.write_error(&error),
     }
 }
 
 /// What the 16 bytes print as.
-fn print(text: &str, out: &mut Answer) -> Outcome {
-    let bytes = sixteen(text)?;
+fn print(text: &str, out: &mut RowOutput) -> RowResult {
+    let bytes = parse_16_bytes(text)?;
     let decimal = Decimal128::from_bytes(bytes);
     if decimal.bytes() != bytes {
-        out.text("other bytes ");
+        out.write_str("other bytes ");
     }
-    out.show(&decimal);
+    out.write_value(&decimal);
     Ok(())
 }

@@ -1,14 +1,14 @@
 //! The program `bson_rows`: for each line `CALL ARGS` of standard input it makes that call of the
 //! library, and writes a line with the result of the call. It runs the rows of tests/rows.
 //!
-//! In reading order: `row` (a line and its call), `answer` (the output line of a row), `stop` (why a
-//! row has no result), `words` (parses arguments), `held` (parses values); then the calls, one file
+//! In reading order: `row` (a line and its call), `row_output` (the output line of a row), `row_error` (why a
+//! row has no result), `arguments` (parses arguments), `row_values` (parses values); then the calls, one file
 //! for each subject.
 #![tactic(auto)]
 
-mod answer;
+mod row_output;
 mod binaries;
-mod bytes;
+mod codec;
 mod conversions;
 mod dates;
 mod decimals;
@@ -16,45 +16,45 @@ mod documents;
 mod doubles;
 mod errors;
 mod extended_json;
-mod finite;
+mod finite_doubles;
 mod fnv;
 mod getters;
-mod held;
-mod ids;
-mod json_texts;
-mod kinds;
-mod ordered;
+mod row_values;
+mod object_ids;
+mod json_checks;
+mod value_accessors;
+mod ordered_keys;
 mod row;
-mod small_kinds;
-mod steps;
-mod stop;
+mod small_types;
+mod value_steps;
+mod row_error;
 mod stores;
-mod tables;
-mod texts;
+mod type_tags;
+mod equality;
 mod vectors;
-mod words;
+mod arguments;
 
-use answer::Answer;
-use row::put_answer;
+use row_output::RowOutput;
+use row::run_row;
 use std::io;
 
 /// The longest output line that is written without an allocation.
-const ROOM: usize = 1 << 20;
+const CAPACITY: usize = 1 << 20;
 
 fn main(rt: HostRuntime) -> io::Result<()> {
     let alloc = rt.alloc();
     let rows = io::read_to_string(alloc, rt.reader())?;
-    let mut answer = Answer::new(String::with_capacity(alloc, ROOM)?);
+    let mut row_output = RowOutput::new(String::with_capacity(alloc, CAPACITY)?);
     for row in rows.as_str().lines() {
-        put_answer(alloc, row, &mut answer);
-        write_line(&rt, answer.line())?;
+        run_row(alloc, row, &mut row_output);
+        write_line(&rt, row_output.line())?;
     }
     Ok(())
 }
 
 /// Writes the output as one line: a newline in it is written as `↵`.
-fn write_line(rt: &impl Print, answer: &str) -> io::Result<()> {
-    for (at, part) in answer.split('\n').enumerate() {
+fn write_line(rt: &impl Print, row_output: &str) -> io::Result<()> {
+    for (at, part) in row_output.split('\n').enumerate() {
         if at > 0 {
             rt.print("↵")?;
         }

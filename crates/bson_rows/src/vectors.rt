@@ -1,23 +1,23 @@
 //! `vector CALL ARGS`: vectors and their bytes.
-use crate::answer::Answer;
+use crate::row_output::RowOutput;
 use crate::binaries::{binary_of, put_binary};
-use crate::stop::{Outcome, Stop};
-use crate::words::{bytes_of, cut, number};
+use crate::row_error::{RowResult, RowError};
+use crate::arguments::{parse_bytes, split_at_space, parse_number};
 use bson::Bson;
 use bson::binary::{Binary, PackedBitVector, Result as Made, Vector};
 use std::alloc::Global;
 
-pub(crate) fn call(alloc: Global, rest: &str, out: &mut Answer) -> Outcome {
-    let (name, text) = cut(rest);
+pub(crate) fn call(alloc: Global, rest: &str, out: &mut RowOutput) -> RowResult {
+    let (name, text) = split_at_space(rest);
     match name {
         "binary" => from_binary(alloc, text, out),
         "packed" => packed(alloc, text, out),
-        _ => of_bytes(alloc, name, bytes_of(alloc, text)?, out),
+        _ => of_bytes(alloc, name, parse_bytes(alloc, text)?, out),
     }
 }
 
 /// The calls on the vector of the bytes.
-fn of_bytes(alloc: Global, name: &str, bytes: Vec<u8>, out: &mut Answer) -> Outcome {
+fn of_bytes(alloc: Global, name: &str, bytes: Vec<u8>, out: &mut RowOutput) -> RowResult {
     let vector = if name == "cleared" {
         Vector::from_bytes_clearing(alloc, bytes.as_slice())
     } else {
@@ -25,50 +25,50 @@ fn of_bytes(alloc: Global, name: &str, bytes: Vec<u8>, out: &mut Answer) -> Outc
     };
     match vector {
         Ok(vector) => return of_vector(alloc, name, vector, out),
-        Err(error) => out.refuse(&error),
+        Err(error) => out.write_error(&error),
     }
     Ok(())
 }
 
-fn of_vector(alloc: Global, name: &str, vector: Vector, out: &mut Answer) -> Outcome {
+fn of_vector(alloc: Global, name: &str, vector: Vector, out: &mut RowOutput) -> RowResult {
     match name {
-        "read" => out.show_debug(&vector),
+        "read" => out.write_debug_value(&vector),
         "back" | "cleared" => put_binary(Binary::from_vector(alloc, &vector), out),
-        "value" => out.result(Bson::from_vector(alloc, &vector)),
-        "clone" => out.copy_debug(&vector, vector.clone(alloc)),
-        _ => return Err(Stop::NotUnderstood),
+        "value" => out.write_result(Bson::from_vector(alloc, &vector)),
+        "clone" => out.write_debug_copy(&vector, vector.clone(alloc)),
+        _ => return Err(RowError::InvalidRow),
     }
     Ok(())
 }
 
 /// `SUBTYPE BYTES`: the vector that the binary holds.
-fn from_binary(alloc: Global, text: &str, out: &mut Answer) -> Outcome {
+fn from_binary(alloc: Global, text: &str, out: &mut RowOutput) -> RowResult {
     let binary = binary_of(alloc, text)?;
-    out.result_debug(Vector::from_binary(alloc, &binary));
+    out.write_debug_result(Vector::from_binary(alloc, &binary));
     Ok(())
 }
 
 /// `PADDING BYTES`, the padding a number or `none`: the padding and the bytes, and a copy.
-fn packed(alloc: Global, text: &str, out: &mut Answer) -> Outcome {
-    let (padding, bytes) = cut(text);
+fn packed(alloc: Global, text: &str, out: &mut RowOutput) -> RowResult {
+    let (padding, bytes) = split_at_space(text);
     let padding = match padding {
         "none" => None,
-        _ => Some(number::<u8>(padding)?),
+        _ => Some(parse_number::<u8>(padding)?),
     };
-    let bytes = bytes_of(alloc, bytes)?;
+    let bytes = parse_bytes(alloc, bytes)?;
     put_packed(alloc, PackedBitVector::new(bytes, padding), out);
     Ok(())
 }
 
-fn put_packed(alloc: Global, made: Made<PackedBitVector>, out: &mut Answer) {
+fn put_packed(alloc: Global, made: Made<PackedBitVector>, out: &mut RowOutput) {
     match made {
         Ok(bits) => {
-            out.put(&bits.padding());
-            out.text(" ");
-            out.hex(bits.as_bytes());
-            out.text(" ");
-            out.copy_debug(&bits, bits.clone(alloc));
+            out.write_display(&bits.padding());
+            out.write_str(" ");
+            out.write_hex(bits.as_bytes());
+            out.write_str(" ");
+            out.write_debug_copy(&bits, bits.clone(alloc));
         }
-        Err(error) => out.refuse(&error),
+        Err(error) => out.write_error(&error),
     }
 }

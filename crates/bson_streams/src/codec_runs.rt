@@ -1,5 +1,5 @@
 //! Runs of the calls on BSON bytes.
-use crate::runs::Ends;
+use crate::runs::RunStreams;
 use bson::extjson::{Doubles, KeyOrder, Options};
 use bson::{Bson, Document};
 use bson_codec::de::DEPTH;
@@ -11,14 +11,14 @@ use std::alloc::{AllocError, Global};
 
 /// Returns the result of `from_reader`: `done` and how many bytes the reader has left, or its error.
 /// The document's bytes become the bytes of the writer.
-pub(crate) fn read(alloc: Global, ends: &mut Ends<'_>) -> Result<String, AllocError> {
-    match from_reader(alloc, &mut ends.reader, DEPTH) {
+pub(crate) fn read(alloc: Global, streams: &mut RunStreams<'_>) -> Result<String, AllocError> {
+    match from_reader(alloc, &mut streams.reader, DEPTH) {
         Ok(document) => {
             match to_vec(alloc, &document) {
-                Ok(bytes) => ends.writer.taken = bytes,
+                Ok(bytes) => streams.writer.accepted = bytes,
                 Err(error) => return format!(in alloc; "{error}"),
             }
-            format!(in alloc; "done, {} left", ends.reader.rest.len())
+            format!(in alloc; "done, {} left", streams.reader.rest.len())
         }
         Err(error) => format!(in alloc; "{error}"),
     }
@@ -28,12 +28,12 @@ pub(crate) fn read(alloc: Global, ends: &mut Ends<'_>) -> Result<String, AllocEr
 pub(crate) fn write_document(
     alloc: Global,
     text: &[u8],
-    ends: &mut Ends<'_>,
+    streams: &mut RunStreams<'_>,
 ) -> Result<String, AllocError> {
     let Some(document) = document_of(alloc, text) else {
         return String::from_str(alloc, "no document");
     };
-    match to_writer(alloc, &document, &mut ends.writer) {
+    match to_writer(alloc, &document, &mut streams.writer) {
         Ok(()) => String::from_str(alloc, "done"),
         Err(error) => format!(in alloc; "{error}"),
     }
@@ -53,7 +53,7 @@ pub(crate) fn documents(
     line: Line,
     key_order: KeyOrder,
     on_refusal: OnRefusal,
-    ends: &mut Ends<'_>,
+    streams: &mut RunStreams<'_>,
 ) -> Result<String, AllocError> {
     let run = Run {
         options: Options {
@@ -64,7 +64,7 @@ pub(crate) fn documents(
         keep_going: on_refusal == OnRefusal::KeepGoing,
         ..Run::default()
     };
-    let (reader, writer, report) = (&mut ends.reader, &mut ends.writer, &mut ends.report);
+    let (reader, writer, report) = (&mut streams.reader, &mut streams.writer, &mut streams.report);
     match run_documents(alloc, run, reader, writer, report) {
         Ok(counts) => format!(in alloc; "{} {}", counts.documents, counts.refused),
         Err(end) => {

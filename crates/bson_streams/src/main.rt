@@ -8,12 +8,12 @@
 #![tactic(auto)]
 
 mod codec_runs;
-mod failing;
-mod order;
+mod failing_streams;
+mod run_request;
 mod runs;
 
-use order::order_of;
-use runs::ran;
+use run_request::parse_request;
+use runs::execute;
 use std::io;
 use std::io::{Read, Write};
 
@@ -21,10 +21,10 @@ fn main(rt: HostRuntime) -> io::Result<()> {
     let alloc = rt.alloc();
     let mut given = Vec::new(alloc);
     rt.stdin().read_to_end(&mut given)?;
-    let (orders, input) = cut_at_empty_line(&given);
-    for line in orders.split(|byte| *byte == b'\n') {
-        let answer = match order_of(line) {
-            Some(order) => ran(alloc, order, input)?,
+    let (requests, input) = cut_at_empty_line(&given);
+    for line in requests.split(|byte| *byte == b'\n') {
+        let answer = match parse_request(line) {
+            Some(request) => execute(alloc, request, input)?,
             None => Vec::from_slice(alloc, b"this order is not understood\n")?,
         };
         rt.stdout().write_all(&answer)?;

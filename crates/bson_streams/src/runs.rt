@@ -1,7 +1,7 @@
 //! Makes a run, and writes its result.
 use crate::codec_runs;
-use crate::failing::{Drip, MemberSpans};
-use crate::order::{Call, Order};
+use crate::failing_streams::{ByteWriter, ChunkReader};
+use crate::run_request::{Call, RunRequest};
 use bson::extjson::{KeyOrder, Options};
 use bson_convert::convert::convert;
 use bson_convert::error::Error;
@@ -13,71 +13,71 @@ use bson_run::order::{OnRefusal, Task};
 use std::alloc::{AllocError, Global};
 
 /// The longest output that is written without an allocation.
-const ROOM: usize = 4096;
+const CAPACITY: usize = 4096;
 
 /// The reader and the writers of a run.
 #[derive(Drop)]
-pub(crate) struct Ends<'a> {
-    pub reader: MemberSpans<'a>,
-    pub writer: Drip,
-    pub report: Drip,
+pub(crate) struct RunStreams<'a> {
+    pub reader: ChunkReader<'a>,
+    pub writer: ByteWriter,
+    pub report: ByteWriter,
 }
 
-impl<'a> Ends<'a> {
-    fn of(alloc: Global, order: Order, input: &'a [u8]) -> Result<Ends<'a>, AllocError> {
-        Ok(Ends {
-            reader: MemberSpans {
+impl<'a> RunStreams<'a> {
+    fn of(alloc: Global, request: RunRequest, input: &'a [u8]) -> Result<RunStreams<'a>, AllocError> {
+        Ok(RunStreams {
+            reader: ChunkReader {
                 rest: input,
-                span: order.span,
-                reads: order.reads,
-                end: order.end,
+                chunk_size: request.chunk_size,
+                reads: request.reads,
+                end: request.end,
             },
-            writer: Drip {
-                taken: Vec::with_capacity(alloc, ROOM)?,
-                calls: order.writes,
-                end: order.end,
+            writer: ByteWriter {
+                accepted: Vec::with_capacity(alloc, CAPACITY)?,
+                calls: request.writes,
+                end: request.end,
             },
-            report: Drip {
-                taken: Vec::with_capacity(alloc, ROOM)?,
-                calls: order.reports,
-                end: order.end,
+            report: ByteWriter {
+                accepted: Vec::with_capacity(alloc, CAPACITY)?,
+                calls: request.reports,
+                end: request.end,
             },
         })
     }
 }
 
 /// Makes the run of the request. Returns its result, and the bytes that its writers accepted.
-pub(crate) fn ran(alloc: Global, order: Order, input: &[u8]) -> Result<Vec<u8>, AllocError> {
-    let mut ends = Ends::of(alloc, order, input)?;
-    let answer = match order.call {
-        Call::Run(mode) => whole(alloc, mode, &mut ends)?,
-        Call::Convert(mode) => converted(alloc, convert(alloc, mode, input), &mut ends)?,
+pub(crate) fn execute(alloc: Global, request: RunRequest, input: &[u8]) -> Result<Vec<u8>, AllocError> {
+    let mut streams = RunStreams::of(alloc, request, input)?;
+    let outcome = match request.call {
+        Call::Run(mode) => call_run(alloc, mode, &mut streams)?,
+        Call::Convert(mode) => finish_conversion(alloc, convert(alloc, mode, input), &mut streams)?,
         Call::ConvertInOrder(mode) => {
             let options = Options {
                 key_order: KeyOrder::AsGiven,
                 ..Options::default()
             };
             let output = convert_text(alloc, options, mode, input);
-            converted(alloc, output, &mut ends)?
+            finish_conversion(alloc, output, &mut streams)?
         }
-        Call::RunLines(task, on_refusal) => by_lines(alloc, task, on_refusal, &mut ends)?,
-        Call::FromReader => codec_runs::read(alloc, &mut ends)?,
-        Call::ToWriter => codec_runs::write_document(alloc, input, &mut ends)?,
-        Call::RunDocuments(line, order, on_refusal) => {
-            codec_runs::documents(alloc, line, order, on_refusal, &mut ends)?
+        Call::RunLines(task, on_refusal) => run_lines(alloc, task, on_refusal, &mut streams)?,
+        Call::FromReader => codec_runs::read(alloc, &mut streams)?,
+        Call::ToWriter => codec_runs::write_document(alloc, input, &mut streams)?,
+        Call::RunDocuments(line, request, on_refusal) => {
+            codec_runs::documents(alloc, line, request, on_refusal, &mut streams)?
         }
     };
-    tell(
+    result_line(
         alloc,
-        answer.as_str(),
-        &ends.writer.taken,
-        &ends.report.taken,
+        outcome.as_str(),
+        &streams.writer.accepted,
+        &streams.report.accepted,
     )
 }
 
 /// Returns the result of `run`: `done`, or the line of its fault.
-fn whole(alloc: Global, mode: Mode, ends: &mut Ends<'_>) -> Result<String, AllocError> {
-    match run(alloc, mode, &mut ends.reader, &mut ends.writer) {
+fn call_run(alloc: Global, mode: Mode, streams: &mut RunStreams<'_>) -> Result<String, AllocError> {
+    match run(alloc, mode, &mut streams.reader, &mut streams.writer) {
         Ok(()) => String::from_str(alloc, "done"),
         Err(fault) => String::from_str(alloc, fault.line()),
     }
@@ -85,14 +85,14 @@ fn whole(alloc: Global, mode: Mode, ends: &mut Ends<'_>) -> Result<String, Alloc
 
 /// Returns the result of `convert` or `convert_text`, in the form of that of `run`. The output
 /// becomes the bytes of the writer.
-fn converted(
+fn finish_conversion(
     alloc: Global,
-    answer: Result<Vec<u8>, Error>,
-    ends: &mut Ends<'_>,
+    outcome: Result<Vec<u8>, Error>,
+    streams: &mut RunStreams<'_>,
 ) -> Result<String, AllocError> {
-    match answer {
+    match outcome {
         Ok(output) => {
-            ends.writer.taken = output;
+            streams.writer.accepted = output;
             String::from_str(alloc, "done")
         }
         Err(error) => String::from_str(alloc, line_of(&error)),
@@ -109,13 +109,13 @@ fn line_of(error: &Error) -> &'static str {
 
 /// Returns the result of a run over lines: `LINES REFUSED`, or the line at which it stopped and the
 /// message of its fault.
-fn by_lines(
+fn run_lines(
     alloc: Global,
     task: Task,
     on_refusal: OnRefusal,
-    ends: &mut Ends<'_>,
+    streams: &mut RunStreams<'_>,
 ) -> Result<String, AllocError> {
-    let (reader, writer, report) = (&mut ends.reader, &mut ends.writer, &mut ends.report);
+    let (reader, writer, report) = (&mut streams.reader, &mut streams.writer, &mut streams.report);
     let mut run = LineRun::new(alloc, task, on_refusal);
     match run.run(alloc, reader, writer, report) {
         Ok(counts) => format!(in alloc; "{} {}", counts.lines, counts.refused),
@@ -123,13 +123,13 @@ fn by_lines(
     }
 }
 
-fn tell(
+fn result_line(
     alloc: Global,
-    answer: &str,
+    outcome: &str,
     written: &[u8],
     reported: &[u8],
 ) -> Result<Vec<u8>, AllocError> {
-    let head = format!(in alloc; "{} {} {answer}\n", written.len(), reported.len())?;
+    let head = format!(in alloc; "{} {} {outcome}\n", written.len(), reported.len())?;
     let mut line = Vec::from_slice(alloc, head.as_bytes())?;
     line.extend_from_slice(written)?;
     line.extend_from_slice(reported)?;

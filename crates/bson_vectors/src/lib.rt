@@ -7,13 +7,13 @@
 #![tactic(auto)]
 
 #[cfg(test)]
-mod changes;
+mod in_place_changes;
 #[cfg(test)]
-mod chosen_keys;
+mod colliding_keys;
 #[cfg(test)]
 mod documents;
 #[cfg(test)]
-mod given;
+mod fixtures;
 #[cfg(test)]
 mod stores;
 #[cfg(test)]

@@ -29,7 +29,7 @@ const PAIRS: [(&str, u32); 20] = [
 ];
 
 /// Returns whether the store has exactly these pairs in this order, and finds each key at its index.
-fn holds<S: PairStore<u32>>(store: &S, pairs: &[(&str, u32)]) -> bool {
+fn has_exactly<S: PairStore<u32>>(store: &S, pairs: &[(&str, u32)]) -> bool {
     let mut same = store.len() == pairs.len();
     for i in 0..store.len().min(pairs.len()) {
         let (key, value) = pairs[i];
@@ -53,7 +53,7 @@ fn fill<S: PairStore<u32>>(
 }
 
 /// A failed push returns the pair and leaves the store unchanged; the same pair is then pushed again.
-fn pushes<S: PairStore<u32>>(rt: &impl Abort, alloc: Global, store: &mut S) -> Result<(), Fail> {
+fn check_pushes<S: PairStore<u32>>(rt: &impl Abort, alloc: Global, store: &mut S) -> Result<(), Fail> {
     let mut was_refused = false;
     for i in 0..PAIRS.len() {
         let (key, value) = PAIRS[i];
@@ -62,11 +62,11 @@ fn pushes<S: PairStore<u32>>(rt: &impl Abort, alloc: Global, store: &mut S) -> R
         if let Err((back, same)) = store.push(owned, value) {
             was_refused = true;
             assert!(rt; back.as_str() == key && same == value);
-            assert!(rt; holds(store, &PAIRS[..i]));
+            assert!(rt; has_exactly(store, &PAIRS[..i]));
             assert!(rt; store.find(back.as_str()).is_none());
             assert!(rt; store.push(back, same).is_ok());
         }
-        assert!(rt; holds(store, &PAIRS[..i + 1]));
+        assert!(rt; has_exactly(store, &PAIRS[..i + 1]));
     }
     if was_refused {
         Err(Fail::from(AllocError))
@@ -78,15 +78,15 @@ fn pushes<S: PairStore<u32>>(rt: &impl Abort, alloc: Global, store: &mut S) -> R
 #[test]
 fn refused_push(rt: HostRuntime) -> Result<(), Fail> {
     let alloc = rt.alloc();
-    pushes(&rt, alloc, &mut IndexedPairs::new(alloc))?;
-    pushes(&rt, alloc, &mut IndexedPairs::with_capacity(alloc, 9)?)
+    check_pushes(&rt, alloc, &mut IndexedPairs::new(alloc))?;
+    check_pushes(&rt, alloc, &mut IndexedPairs::with_capacity(alloc, 9)?)
 }
 
 #[test]
 fn refused_push_to_a_small_store(rt: HostRuntime) -> Result<(), Fail> {
     let alloc = rt.alloc();
-    pushes(&rt, alloc, &mut SmallPairs::new(alloc))?;
-    pushes(&rt, alloc, &mut SmallPairs::with_capacity(alloc, 9)?)
+    check_pushes(&rt, alloc, &mut SmallPairs::new(alloc))?;
+    check_pushes(&rt, alloc, &mut SmallPairs::with_capacity(alloc, 9)?)
 }
 
 /// The first nineteen pairs.
@@ -105,39 +105,39 @@ fn entries(alloc: Global) -> Result<Vec<Pair<u32>>, AllocError> {
 fn refused_from_entries(rt: HostRuntime) -> Result<(), Fail> {
     let alloc = rt.alloc();
     let mut store = SmallPairs::from_entries(alloc, entries(alloc)?)?;
-    assert!(rt; holds(&store, &PAIRS[..19]));
+    assert!(rt; has_exactly(&store, &PAIRS[..19]));
     let (key, value) = PAIRS[19];
     if let Err((back, same)) = put(&mut store, String::from_str(alloc, key)?, value) {
         assert!(rt; back.as_str() == key && same == value);
-        assert!(rt; holds(&store, &PAIRS[..19]));
+        assert!(rt; has_exactly(&store, &PAIRS[..19]));
         for i in 0..2 {
             assert!(rt; take(&mut store, PAIRS[i].0) == Some(PAIRS[i].1));
-            assert!(rt; holds(&store, &PAIRS[i + 1..19]));
+            assert!(rt; has_exactly(&store, &PAIRS[i + 1..19]));
         }
         return Err(Fail::from(AllocError));
     }
-    assert!(rt; holds(&store, &PAIRS));
+    assert!(rt; has_exactly(&store, &PAIRS));
     Ok(())
 }
 
 /// Nine keys are removed one by one, the rest is cleared, and none of it allocates memory.
-fn takes_out<S: PairStore<u32>>(rt: &impl Abort, alloc: Global, store: &mut S) -> Result<(), Fail> {
+fn check_removals<S: PairStore<u32>>(rt: &impl Abort, alloc: Global, store: &mut S) -> Result<(), Fail> {
     fill(alloc, store, &PAIRS)?;
     for i in 0..9 {
         let (key, value) = PAIRS[i];
         assert!(rt; take(store, key) == Some(value));
-        assert!(rt; holds(store, &PAIRS[i + 1..]));
+        assert!(rt; has_exactly(store, &PAIRS[i + 1..]));
     }
     store.clear();
-    assert!(rt; holds(store, &[]));
+    assert!(rt; has_exactly(store, &[]));
     Ok(())
 }
 
 #[test]
-fn refused_nowhere_in_taking_out(rt: HostRuntime) -> Result<(), Fail> {
+fn refused_no_allocation_in_removals(rt: HostRuntime) -> Result<(), Fail> {
     let alloc = rt.alloc();
-    takes_out(&rt, alloc, &mut IndexedPairs::new(alloc))?;
-    takes_out(&rt, alloc, &mut SmallPairs::new(alloc))
+    check_removals(&rt, alloc, &mut IndexedPairs::new(alloc))?;
+    check_removals(&rt, alloc, &mut SmallPairs::new(alloc))
 }
 
 /// Put k1 1 to k17 17, Put k9 10, Take k1 twice, Clear.
@@ -179,16 +179,16 @@ const REPLIES: [Option<u32>; 21] = [
 
 /// A stopped replay leaves the store as it is after the first `done` commands. From the
 /// eighteenth on, no command allocates memory.
-fn replays<S: PairStore<u32>>(rt: &impl Abort, alloc: Global, store: &mut S) -> Result<(), Fail> {
+fn check_replay<S: PairStore<u32>>(rt: &impl Abort, alloc: Global, store: &mut S) -> Result<(), Fail> {
     match replay(alloc, store, commands(alloc)?) {
         Ok(replies) => {
             assert!(rt; replies.as_slice() == REPLIES.as_slice());
-            assert!(rt; holds(store, &[]));
+            assert!(rt; has_exactly(store, &[]));
             Ok(())
         }
         Err(Stopped { done }) => {
             assert!(rt; done < 17);
-            assert!(rt; holds(store, &PAIRS[..done]));
+            assert!(rt; has_exactly(store, &PAIRS[..done]));
             Err(Fail::from(AllocError))
         }
     }
@@ -197,8 +197,8 @@ fn replays<S: PairStore<u32>>(rt: &impl Abort, alloc: Global, store: &mut S) -> 
 #[test]
 fn refused_replay(rt: HostRuntime) -> Result<(), Fail> {
     let alloc = rt.alloc();
-    replays(&rt, alloc, &mut IndexedPairs::new(alloc))?;
-    replays(&rt, alloc, &mut SmallPairs::new(alloc))
+    check_replay(&rt, alloc, &mut IndexedPairs::new(alloc))?;
+    check_replay(&rt, alloc, &mut SmallPairs::new(alloc))
 }
 
 #[test]

@@ -1,5 +1,5 @@
 //! Equality and hashing by a real hasher, whatever the order of keys.
-use crate::given::filled;
+use crate::fixtures::document_of;
 use bson::extjson::{Form, Options};
 use bson::{Bson, Document};
 use std::alloc::{AllocError, Global};
@@ -14,26 +14,26 @@ fn hashed(value: &Bson) -> u64 {
 }
 
 /// Returns {x: 1, y: 2}, or with its keys in reverse order.
-fn numbers(alloc: Global, turned: bool) -> Result<Document, AllocError> {
-    if turned {
-        filled(alloc, &[("y", 2), ("x", 1)])
+fn numbers(alloc: Global, reversed: bool) -> Result<Document, AllocError> {
+    if reversed {
+        document_of(alloc, &[("y", 2), ("x", 1)])
     } else {
-        filled(alloc, &[("x", 1), ("y", 2)])
+        document_of(alloc, &[("x", 1), ("y", 2)])
     }
 }
 
 /// Returns [{x: 1, y: 2}], or with its keys in reverse order.
-fn listed(alloc: Global, turned: bool) -> Result<Bson, AllocError> {
+fn array_of_document(alloc: Global, reversed: bool) -> Result<Bson, AllocError> {
     let mut list = Vec::new(alloc);
-    list.push(Bson::Document(numbers(alloc, turned)?))?;
+    list.push(Bson::Document(numbers(alloc, reversed)?))?;
     Ok(Bson::Array(list))
 }
 
 /// Comparing and hashing take no memory.
 #[test]
-fn refused_nowhere_in_comparing_and_hashing(rt: HostRuntime) -> Result<(), Fail> {
-    let one = listed(rt.alloc(), false)?;
-    let other = listed(rt.alloc(), true)?;
+fn refused_no_allocation_in_comparing_and_hashing(rt: HostRuntime) -> Result<(), Fail> {
+    let one = array_of_document(rt.alloc(), false)?;
+    let other = array_of_document(rt.alloc(), true)?;
     assert!(rt; one == other);
     assert!(rt; hashed(&one) == hashed(&other));
     assert!(rt; one != Bson::Null);
@@ -43,7 +43,7 @@ fn refused_nowhere_in_comparing_and_hashing(rt: HostRuntime) -> Result<(), Fail>
 }
 
 #[test]
-fn refused_nowhere_in_comparing_documents(rt: HostRuntime) -> Result<(), Fail> {
+fn refused_no_allocation_in_comparing_documents(rt: HostRuntime) -> Result<(), Fail> {
     let one = numbers(rt.alloc(), false)?;
     let other = numbers(rt.alloc(), true)?;
     assert!(rt; one == other);
@@ -54,8 +54,8 @@ fn refused_nowhere_in_comparing_documents(rt: HostRuntime) -> Result<(), Fail> {
 
 /// Writing into a vector with room takes no memory.
 #[test]
-fn refused_nowhere_in_writing_into_a_vector(rt: HostRuntime) -> Result<(), Fail> {
-    let value = listed(rt.alloc(), false)?;
+fn refused_no_allocation_writing_into_a_vector(rt: HostRuntime) -> Result<(), Fail> {
+    let value = array_of_document(rt.alloc(), false)?;
     let mut out = Vec::with_capacity(rt.alloc(), 256)?;
     let options = Options::default();
     let written = value.write_text_into(rt.alloc(), options, Form::Relaxed, &mut out);
@@ -68,7 +68,7 @@ fn refused_nowhere_in_writing_into_a_vector(rt: HostRuntime) -> Result<(), Fail>
 fn a_value_is_found_under_another_order_of_its_keys(rt: HostRuntime) -> Result<(), Fail> {
     let alloc = rt.alloc();
     let mut found: HashMap<Bson, u32> = HashMap::new(alloc);
-    drop(found.insert(listed(alloc, false)?, 7)?);
-    assert!(rt; found.get(&listed(alloc, true)?).copied() == Some(7));
+    drop(found.insert(array_of_document(alloc, false)?, 7)?);
+    assert!(rt; found.get(&array_of_document(alloc, true)?).copied() == Some(7));
     Ok(())
 }

@@ -8,7 +8,7 @@ use Rattle.bson_bytes.specs.Grammar.{NoZero}
 use Rattle.bson_bytes.specs.PutSteps.{has_no_nul}
 use Rattle.bson_bytes.specs.Reading.{prepend_byte, split_at_nul}
 use Rattle.std.proofs.lemmas.Str.{IsUtf8-from_is_utf8}
-use Rattle.vbson.specs.Builder.{IsAppended, IsTooSmall, built}
+use Rattle.vbson.specs.Builder.{IsAppended, IsTooSmall, written_bytes}
 use Rattle.vbson.specs.declared.builder.Builder.{Builder}
 
 -- what follows the first i bytes is the same, so what follows more is
@@ -20,7 +20,7 @@ pub both : (p q : List ℕ) (a b c : Builder) → IsAppended p a b → IsAppende
 both p q a b c s t =
     record {
       fits = omega (arith, t.fits, s.len, s.size, length-append p q);
-      built = t.built ∙ ap (λ (x : List ℕ). x ++ q) s.built ∙ append_assoc (built a) p q;
+      written_bytes = t.written_bytes ∙ ap (λ (x : List ℕ). x ++ q) s.written_bytes ∙ append_assoc (written_bytes a) p q;
       len = omega (arith, t.len, s.len, length-append p q);
       rest = t.rest ∙ drop_more b.len (length q) c.len b.bytes.now a.bytes.now t.len s.rest;
       size = t.size ∙ s.size;
@@ -56,6 +56,6 @@ zero_from k e free = let is : false ≡ true = e ∙ ap is_none (unsplit_again k
 pub too_small : (n size : ℕ) (a b : Builder) → size ≡ min n (2 ^ 64 - 1) → IsTooSmall size a b → IsTooSmall n a b
 too_small n size a b is t =
     record {
-      short = omega (arith, is, t.short);
+      too_short = omega (arith, is, t.too_short);
       needed = omega (arith, is, t.needed);
     }

@@ -26,7 +26,7 @@ use Rattle.bson_model.specs.Sorted.{sorted}
 use Rattle.bson_model.specs.Value.{Value, Pairs, document}
 use Rattle.bson_convert.specs.declared.mode.Mode.{Mode}
 use Rattle.bson_convert.specs.declared.mode.Mode.TheVariants.{Canonical, Relaxed, Show}
-use Rattle.vbson.specs.Documents.{Decodes, HasNoTextIn, IsOneDocument, IsUndecoded, depth, direct_form, direct_form_by, form_in}
+use Rattle.vbson.specs.Documents.{Decodes, HasNoTextIn, IsOneDocument, IsDecodeFailure, depth, streaming_form, direct_form_by, form_of_mode}
 use Rattle.bson.specs.declared.extjson.key_order.KeyOrder.{KeyOrder}
 use Rattle.bson.specs.declared.extjson.key_order.KeyOrder.TheVariants.{Ascending, AsGiven}
 
@@ -41,44 +41,44 @@ unwritable o Show ps none writes = none
 -- the one document that the bytes are has no text, or memory ran out
 pub undecoded : (o : Options) (mode : Mode) (status : ℕ) (bytes : List ℕ) (ps : Pairs) → IsRead depth bytes ps
     → ((qs : Pairs) → IsRead depth bytes qs → ps ≡ qs) → (status ≡ 5) ⊎ ((status ≡ 7) × HasNoTextIn o mode ps)
-    → IsUndecoded o mode status bytes
+    → IsDecodeFailure o mode status bytes
 undecoded o mode status bytes ps is one (inl five) = record {
   no_document = λ ten other. absurd (omega (arith, five, ten));
   no_text = λ seven. absurd (omega (arith, five, seven));
   accepts = λ qs also writes. five;
-  listed = inl five;
+  possible_statuses = inl five;
 }
 undecoded o mode status bytes ps is one (inr (seven, none)) = record {
   no_document = λ ten other. absurd (omega (arith, seven, ten));
   no_text = λ s. (ps, is, none);
   accepts = λ qs also writes.
       absurd (unwritable o mode ps none (ap (λ xs. writable_in o.doubles (document xs)) (one qs also) ∙ writes));
-  listed = inr (inl seven);
+  possible_statuses = inr (inl seven);
 }
 
 -- the bytes are no document
-pub no_document : (o : Options) (mode : Mode) (bytes : List ℕ) → (IsOneDocument bytes → ⊥) → IsUndecoded o mode 10 bytes
+pub no_document : (o : Options) (mode : Mode) (bytes : List ℕ) → (IsOneDocument bytes → ⊥) → IsDecodeFailure o mode 10 bytes
 no_document o mode bytes none = record {
   no_document = λ ten is. none is;
   no_text = λ seven. absurd (omega (arith, seven));
   accepts = λ ps is writes. absurd (none (ps, is));
-  listed = inr (inr refl);
+  possible_statuses = inr (inr refl);
 }
 
 -- memory ran out
-pub no_memory : (o : Options) (mode : Mode) (bytes : List ℕ) → IsUndecoded o mode 5 bytes
+pub no_memory : (o : Options) (mode : Mode) (bytes : List ℕ) → IsDecodeFailure o mode 5 bytes
 no_memory o mode bytes = record {
   no_document = λ ten is. absurd (omega (arith, ten));
   no_text = λ seven. absurd (omega (arith, seven));
   accepts = λ ps is writes. refl;
-  listed = inl refl;
+  possible_statuses = inl refl;
 }
 
 pub unread : (o : Options) (mode : Mode) (status : ℕ) (bytes : List ℕ)
-    → (status ≡ 5) ⊎ ((status ≡ 10) × (IsOneDocument bytes → ⊥)) → IsUndecoded o mode status bytes
-unread o mode status bytes (inl five) = subst (λ n. IsUndecoded o mode n bytes) (sym five) (no_memory o mode bytes)
+    → (status ≡ 5) ⊎ ((status ≡ 10) × (IsOneDocument bytes → ⊥)) → IsDecodeFailure o mode status bytes
+unread o mode status bytes (inl five) = subst (λ n. IsDecodeFailure o mode n bytes) (sym five) (no_memory o mode bytes)
 unread o mode status bytes (inr (ten, none)) =
-    subst (λ n. IsUndecoded o mode n bytes) (sym ten) (no_document o mode bytes none)
+    subst (λ n. IsDecodeFailure o mode n bytes) (sym ten) (no_document o mode bytes none)
 
 -- the text that is written while the bytes are read is that of the document
 module _ (o : Options) (bytes text : List ℕ) (given : o.key_order ≡ AsGiven) (finite : o.doubles ≡ Finite) where
@@ -86,7 +86,7 @@ module _ (o : Options) (bytes text : List ℕ) (given : o.key_order ≡ AsGiven)
   under_options f v is =
       subst (λ k. IsTextBy k o.doubles f v text) (sym given) (subst (λ D. IsTextInOrder D f v text) (sym finite) is)
 
-  in_form : (mode : Mode) (f : Form) → form_in mode ≡ Some f → IsDocumentTextOf f depth bytes text → Decodes o mode bytes text
+  in_form : (mode : Mode) (f : Form) → form_of_mode mode ≡ Some f → IsDocumentTextOf f depth bytes text → Decodes o mode bytes text
   in_form Canonical f is it =
       let same : f ≡ form.Canonical = cc in
       record {
@@ -112,7 +112,7 @@ by_options o Ascending D mode f bytes text given is form it = absurd cc
 by_options o AsGiven Special mode f bytes text given is form it = absurd cc
 by_options o AsGiven Finite mode f bytes text given is form it = in_form o bytes text given is mode f form it
 
-pub directly : (o : Options) (mode : Mode) (f : Form) (bytes text : List ℕ) → direct_form o mode ≡ Some f
+pub directly : (o : Options) (mode : Mode) (f : Form) (bytes text : List ℕ) → streaming_form o mode ≡ Some f
     → IsDocumentTextOf f depth bytes text → Decodes o mode bytes text
 directly o mode f bytes text given it = by_options o o.key_order o.doubles mode f bytes text refl refl given it
 

@@ -9,7 +9,7 @@ use Rattle.bson_codec.specs.Diagnostics.{diagnostic_of}
 use Rattle.bson_codec.specs.declared.documents.Run.{Run}
 use Rattle.bson_codec.specs.declared.run_end.RunFault.{RunFault}
 use Rattle.bson_convert.specs.Convert.{newline}
-use Rattle.vbson.specs.Dumps.{GivesDocuments}
+use Rattle.vbson.specs.Dumps.{IsOutputOfDocuments}
 use Rattle.vbson.specs.Text.{IsOwnedText}
 use Rattle.vbson.specs.declared.text.Text.{Text}
 
@@ -22,8 +22,8 @@ pub cut_block : (run : Run) (block had output held diagnostics all : List ℕ) (
     (number refused start : ℕ)
     → EndsAt run (Some block) after (Some had) (Some output) (Some held) (Some diagnostics) fault number refused start
     → had ≡ [] → held ≡ [] → IsFaultOfDocument fault → all ≡ diagnostics ++ diagnostic_of number start fault
-    → GivesDocuments run block output all number start
-cut_block run block had output held diagnostics all after fault number refused start h none also is said =
+    → IsOutputOfDocuments run block output all number start
+cut_block run block had output held diagnostics all after fault number refused start h none also is last_diagnostic =
     let (out, reports, inside, written, reports_appended) =
     ends_inside run block after (Some had) (Some output) (Some held) (Some diagnostics) fault number refused start h is in
     inr (record {
@@ -32,17 +32,17 @@ cut_block run block had output held diagnostics all after fault number refused s
       fault = fault;
       cut = subst (λ x. EndsInside run block x diagnostics fault number refused start) (wrote had output out written none)
           (subst (λ x. EndsInside run block out x fault number refused start) (wrote held diagnostics reports reports_appended also) inside);
-      said = said;
+      last_diagnostic = last_diagnostic;
     })
 
 -- what a block gives is UTF-8
-pub gives_utf8 : (run : Run) (block output verdicts : List ℕ) (count consumed : ℕ)
-    → GivesDocuments run block output verdicts count consumed → IsUtf8 output × IsUtf8 verdicts
-gives_utf8 run block output verdicts count consumed (inl all) = dump_utf8 all.documents
-gives_utf8 run block output verdicts count consumed (inr it) =
+pub gives_utf8 : (run : Run) (block output all_diagnostics : List ℕ) (count consumed : ℕ)
+    → IsOutputOfDocuments run block output all_diagnostics count consumed → IsUtf8 output × IsUtf8 all_diagnostics
+gives_utf8 run block output all_diagnostics count consumed (inl all) = dump_utf8 all.documents
+gives_utf8 run block output all_diagnostics count consumed (inr it) =
     let before = dump_utf8 it.cut.documents in
     let reported = diagnostic_utf8 count consumed it.fault in
-    (before.0, subst IsUtf8 (sym it.said) (IsUtf8-append it.diagnostics _ before.1 reported))
+    (before.0, subst IsUtf8 (sym it.last_diagnostic) (IsUtf8-append it.diagnostics _ before.1 reported))
 
 -- the text of a line
 pub of_line : (text line : List ℕ) (out : Text) → line ≡ text ++ newline → IsOwnedText (take (length line - 1) line) out

@@ -21,8 +21,8 @@ use Rattle.bson_run.specs.declared.explain.Explanation.{Explanation}
 use Rattle.bson_run.specs.declared.explain.Explanation.TheVariants as explained
 use Rattle.bson_run.specs.declared.order.Preprocessing.{Preprocessing}
 use Rattle.vbson.proofs.Preprocessed.{meant, not_read, rejected_key}
-use Rattle.vbson.specs.Convert.{options_of_flags, status_for}
-use Rattle.vbson.specs.Explain.{Explains, ExplainsRead, IsError, IsLongPath, IsRejectedFor, IsTooLong, IsUnexplained, ExplainsRejection, code_in}
+use Rattle.vbson.specs.Convert.{options_of_flags, status_of_reason}
+use Rattle.vbson.specs.Explain.{Explains, ExplainsWithoutPreprocessing, ExplainsError, HasTooLongPath, IsRejectedFor, IsTooLong, IsUnexplained, ExplainsRejection, explanation_code}
 use Rattle.vbson.specs.Reading.{IsReadAs, IsPreprocessingFault, MeansUnder, preprocessing_of}
 use Rattle.vbson.specs.declared.explain.Rejection.{Rejection}
 use Rattle.vbson.specs.declared.options.CallOptions.{CallOptions}
@@ -30,7 +30,7 @@ use Rattle.vbson.specs.declared.options.CallOptions.{CallOptions}
 -- ---- of what is read in the place of the text, and of a text that preprocessing rejects
 
 pub of_read : (options : CallOptions) (text read : List ℕ) (out : Rejection) → IsReadAs (preprocessing_of options) text read
-    → ExplainsRead (options_of_flags options) read out → Explains options text out
+    → ExplainsWithoutPreprocessing (options_of_flags options) read out → Explains options text out
 of_read options text read out is (inl h) = inl ((h.0.0, record { read = read; read_as = is; meaning = h.0.1 }), h.1)
 of_read options text read out is (inr h) =
     inr (record { fault = h.0; read = read; refused = inl (is, h.1); reported = h.2; error = h.3 })
@@ -38,17 +38,17 @@ of_read options text read out is (inr h) =
 pub long_of_read : (options : CallOptions) (text read : List ℕ) (e : PathError) → IsReadAs (preprocessing_of options) text read
     → IsUnexplained e (λ fault. IsRefusedIn (options_of_flags options) fault read) → e ≢ sizes.OutOfMemory → IsTooLong options text
 long_of_read options text read e is h reported =
-    let it = h reported in record { fault = it.0; read = read; refused = inl (is, it.1); long = it.2 }
+    let it = h reported in record { fault = it.0; read = read; refused = inl (is, it.1); too_long = it.2 }
 
 pub refused_first : (options : CallOptions) (fault : Error) (text : List ℕ) (out : Rejection) → IsPreprocessingFault (preprocessing_of options) fault text
-    → fault ≢ errors.OutOfMemory → IsError text fault out → Explains options text out
+    → fault ≢ errors.OutOfMemory → ExplainsError text fault out → Explains options text out
 refused_first options fault text out h reported is =
     inr (record { fault = fault; read = text; refused = inr (refl, h); reported = reported; error = is })
 
 pub long_first : (options : CallOptions) (fault : Error) (text : List ℕ) (e : PathError) → IsPreprocessingFault (preprocessing_of options) fault text
-    → (e ≢ sizes.OutOfMemory → IsLongPath fault) → e ≢ sizes.OutOfMemory → IsTooLong options text
-long_first options fault text e h long reported =
-    record { fault = fault; read = text; refused = inr (refl, h); long = long reported }
+    → (e ≢ sizes.OutOfMemory → HasTooLongPath fault) → e ≢ sizes.OutOfMemory → IsTooLong options text
+long_first options fault text e h too_long reported =
+    record { fault = fault; read = text; refused = inr (refl, h); too_long = too_long reported }
 
 -- ---- the code
 
@@ -78,12 +78,12 @@ of_rejected : (options : CallOptions) (text read : List ℕ) (fault : Error) →
 of_rejected options text read fault (inl h) reported none = of_text (options_of_flags options) fault read h.1 reported none
 of_rejected options text read fault (inr h) reported none = of_unread (preprocessing_of options) fault text h.1 reported none
 
-reason_code : (reason : Reason) (n : ℕ) → n ≡ status_for reason → n ≡ 0 → ⊥
+reason_code : (reason : Reason) (n : ℕ) → n ≡ status_of_reason reason → n ≡ 0 → ⊥
 reason_code (BadObjectId e) n is zero = absurd (omega (arith, is, zero))
 reason_code (WrongShape message) n is zero = absurd (omega (arith, is, zero))
 
 some_code : (text : List ℕ) (fault : Error) (it : Explanation) (n : ℕ) → IsExplanation text fault it → (IsOfNoText fault → ⊥)
-    → n ≡ code_in it → n ≡ 0 → ⊥
+    → n ≡ explanation_code it → n ≡ 0 → ⊥
 some_code text fault (explained.Syntax stop) n h reported is zero = absurd (omega (arith, is, zero))
 some_code text fault (explained.Value place reason) n h reported is zero = reason_code place.now.reason n is zero
 some_code text fault (explained.Difference column) n h reported is zero = absurd (omega (arith, is, zero))
@@ -92,8 +92,8 @@ some_code text fault explained.Other n h reported is zero = reported h
 -- a text that is refused has a code
 refuses_code : (options : CallOptions) (text : List ℕ) (out : Rejection) → ExplainsRejection options text out → out.code ≡ 0 → ⊥
 refuses_code options text out h zero =
-    some_code h.read h.fault h.error.explanation out.code h.error.lies
-    (of_rejected options text h.read h.fault h.refused h.reported) h.error.said.code zero
+    some_code h.read h.fault h.error.explanation out.code h.error.is_explanation
+    (of_rejected options text h.read h.fault h.refused h.reported) h.error.error_report.code zero
 
 pub accepted_from : (options : CallOptions) (text : List ℕ) (out : Rejection) → Explains options text out → out.code ≡ 0
     → (value : Value) × MeansUnder options text value

@@ -10,7 +10,7 @@ use Rattle.bson_bytes.specs.Writing.{type_of, FitsDocument, zero_in_key, zero_in
 use Rattle.bson_bytes.specs.declared.error.Error.{Error}
 use Rattle.bson_bytes.specs.declared.error.Error.TheVariants as errors
 use Rattle.bson_bytes.proofs.Offered.{told_err, document_fits}
-use Rattle.vbson.specs.Path.{path_pairs, segment_value, with_pairs}
+use Rattle.vbson.specs.Path.{path_pairs, segment_value, concat_pairs}
 
 then_then : (r : PutResult) (f g : List ℕ → PutResult) → then (then r f) g ≡ then r (λ a. then (f a) g)
 then_then (Ok out) f g = refl
@@ -21,13 +21,13 @@ same_then (Ok out) f g h = h out
 same_then (Err c) f g h = refl
 
 -- pairs that follow others are written after them
-pub put_with : (ps qs : Pairs) (out : List ℕ) → put_elements (with_pairs ps qs) out ≡ then (put_elements ps out) (put_elements qs)
+pub put_with : (ps qs : Pairs) (out : List ℕ) → put_elements (concat_pairs ps qs) out ≡ then (put_elements ps out) (put_elements qs)
 unfolding put_elements
 put_with no_pairs qs out = refl
 put_with (pair k v ps) qs out =
-    same_then (put_name (type_of v) k out) (λ a. then (put_value v a) (λ b. put_elements (with_pairs ps qs) b))
+    same_then (put_name (type_of v) k out) (λ a. then (put_value v a) (λ b. put_elements (concat_pairs ps qs) b))
     (λ a. then (then (put_value v a) (λ b. put_elements ps b)) (put_elements qs))
-    (λ a. same_then (put_value v a) (λ b. put_elements (with_pairs ps qs) b) (λ b. then (put_elements ps b) (put_elements qs))
+    (λ a. same_then (put_value v a) (λ b. put_elements (concat_pairs ps qs) b) (λ b. then (put_elements ps b) (put_elements qs))
     (λ b. put_with ps qs b) ∙ sym (then_then (put_value v a) (λ b. put_elements ps b) (put_elements qs)))
     ∙ sym (then_then (put_name (type_of v) k out) (λ a. then (put_value v a) (λ b. put_elements ps b)) (put_elements qs))
 

@@ -21,8 +21,8 @@ use Rattle.bson_run.specs.declared.order.Preprocessing.{Preprocessing}
 use Rattle.vbson.proofs.Causes.{causes, reason_status}
 use Rattle.vbson.specs.Convert.{IsTextError, options_of_flags, status_of}
 use Rattle.vbson.specs.Documents.{depth}
-use Rattle.vbson.specs.Reading.{HasRejectedKey, IsReadAs, IsRejectedWith, IsPreprocessingFault, IsWithoutValue, MeansUnder}
-use Rattle.vbson.specs.Reading.{IsWithoutDocument, duplicate_keys_of, preprocessing_of}
+use Rattle.vbson.specs.Reading.{HasRejectedKey, IsReadAs, IsReadFailure, IsPreprocessingFault, IsTextReadFailure, MeansUnder}
+use Rattle.vbson.specs.Reading.{IsDocumentReadFailure, duplicate_keys_of, preprocessing_of}
 use Rattle.vbson.specs.declared.options.CallOptions.{CallOptions}
 
 -- ---- one value
@@ -63,32 +63,32 @@ two_at_least o CannotWrite bytes h = absurd h
 
 pub rejected : (o : Options) (fault : Error) (bytes : List ℕ) → IsRefusedIn o fault bytes
     → ((tree : Data) (value : Value) → IsTextOf bytes tree → MeansIn o.doubles tree value → fault ≡ OutOfMemory)
-    → IsRejectedWith o (status_of fault) bytes
+    → IsReadFailure o (status_of fault) bytes
 rejected o fault bytes h accepts = record {
   cause = causes o fault bytes h;
   accepts = λ value means. ap status_of (accepts means.tree value means.text means.meaning.means);
-  listed = two_at_least o fault bytes h;
+  possible_statuses = two_at_least o fault bytes h;
 }
 
 -- of what is read in the place of a text
 pub without_value : (options : CallOptions) (status : ℕ) (text read : List ℕ) → IsReadAs (preprocessing_of options) text read
-    → IsRejectedWith (options_of_flags options) status read → IsWithoutValue options status text
+    → IsReadFailure (options_of_flags options) status read → IsTextReadFailure options status text
 without_value options status text read is h = record {
   not_json = λ two. record { read = read; read_as = is; rejected = h.cause.not_json two };
   bad_object_id = λ three. record { read = read; read_as = is; rejected = h.cause.bad_object_id three };
   not_extended_json = λ four. inr (record { read = read; read_as = is; rejected = h.cause.not_extended_json four });
   accepts = λ value means. h.accepts value (meant options text read value is means);
-  listed = h.listed;
+  possible_statuses = h.possible_statuses;
 }
 
 -- when memory runs out
-pub no_memory : (options : CallOptions) (text : List ℕ) → IsWithoutValue options 5 text
+pub no_memory : (options : CallOptions) (text : List ℕ) → IsTextReadFailure options 5 text
 no_memory options text = record {
   not_json = λ is. absurd (omega (arith, is));
   bad_object_id = λ is. absurd (omega (arith, is));
   not_extended_json = λ is. absurd (omega (arith, is));
   accepts = λ value means. refl;
-  listed = (omega arith, omega arith);
+  possible_statuses = (omega arith, omega arith);
 }
 
 -- a text that preprocessing rejects is not read
@@ -110,7 +110,7 @@ rejected_key (Some selected) CannotWrite text h some = absurd h
 
 pub turned_away : ((j : Json) (path : List PathSegment) → DuplicateAt j path → ¬ HasUniqueKeys j) → (options : CallOptions)
     (fault : Error) (text : List ℕ) → IsPreprocessingFault (preprocessing_of options) fault text → fault ≢ OutOfMemory
-    → IsWithoutValue options 4 text
+    → IsTextReadFailure options 4 text
 turned_away twice options fault text h some =
     let key = rejected_key (preprocessing_of options) fault text h some in
     record {
@@ -118,7 +118,7 @@ turned_away twice options fault text h some =
       bad_object_id = λ is. absurd (omega (arith, is));
       not_extended_json = λ is. inl key;
       accepts = λ value means. absurd (not_read twice (preprocessing_of options) text means.read key means.read_as);
-      listed = (omega arith, omega arith);
+      possible_statuses = (omega arith, omega arith);
     }
 
 -- an error that bytes have as a text is neither of a reader nor of a writer
@@ -134,9 +134,9 @@ of_refused o CannotWrite bytes h = h
 -- ---- documents
 
 pub no_document_under : (options : CallOptions) (bytes : List ℕ)
-    → ((ps : Pairs) → IsReadIn (duplicate_keys_of options) depth bytes ps → ⊥) → IsWithoutDocument options 10 bytes
+    → ((ps : Pairs) → IsReadIn (duplicate_keys_of options) depth bytes ps → ⊥) → IsDocumentReadFailure options 10 bytes
 no_document_under options bytes none = record {
   no_document = λ ten value is. none is.pairs is.read;
   accepts = λ value is. absurd (none is.pairs is.read);
-  listed = inr refl;
+  possible_statuses = inr refl;
 }

@@ -12,7 +12,7 @@ use Rattle.bson_bytes.specs.ReadElements.{BeginsWithElements}
 use Rattle.bson_bytes.specs.declared.raw_element.RawElement.{RawElement}
 use Rattle.bson_types.specs.ElementTags.{tag_of}
 use Rattle.bson_types.specs.declared.spec.ElementType.{ElementType}
-use Rattle.vbson.specs.Raw.{IsGot, IsNextElement, IsTypedResult, IsValueAt, IsValueOf, bit, subtype_and_bytes}
+use Rattle.vbson.specs.Raw.{IsLookupResult, IsNextElement, IsTypedResult, IsValueAt, IsValueOf, boolean_number, subtype_and_bytes}
 use Rattle.vbson.specs.declared.raw.RawValue.{RawValue}
 use Rattle.vbson.specs.declared.raw.Slice.{Slice}
 
@@ -28,13 +28,13 @@ at_value d e v out read is within = record {
   within = omega (arith, within, is.len, ap length is.bytes);
 }
 
-pub got_none : (d : ℕ) (o : Option Value) (out : RawValue) → o ≡ None → IsGot d o 14 out
-got_none d o out none = subst (λ (p : Option Value). IsGot d p 14 out) (sym none) refl
+pub got_none : (d : ℕ) (o : Option Value) (out : RawValue) → o ≡ None → IsLookupResult d o 14 out
+got_none d o out none = subst (λ (p : Option Value). IsLookupResult d p 14 out) (sym none) refl
 
 pub got_some : (d : ℕ) (o : Option Value) (e : RawElement) (out : RawValue) → IsValueOfElement d (Some e) o → IsValueOf e out
-    → length e.rest.now ≤ length e.value.now → IsGot d o 0 out
+    → length e.rest.now ≤ length e.value.now → IsLookupResult d o 0 out
 got_some d o e out found is within =
-    subst (λ (p : Option Value). IsGot d p 0 out) (sym found.1) (refl, at_value d e found.0 out found.2 is within)
+    subst (λ (p : Option Value). IsLookupResult d p 0 out) (sym found.1) (refl, at_value d e found.0 out found.2 is within)
 
 pub next_none : (d : ℕ) (ps : Pairs) (cursor key : Slice) (value : RawValue) → ps ≡ no_pairs → IsNextElement d ps 14 cursor key value
 next_none d ps cursor key value none = subst (λ (qs : Pairs). IsNextElement d qs 14 cursor key value) (sym none) refl
@@ -135,10 +135,10 @@ typed_some {A} f w v same x y is e = subst (λ (o : Option A). IsTypedResult o 0
 
 -- a boolean as a number, and the number of a subtype with the bytes
 abbrev pub boolean_bit : Value → Option ℕ
-boolean_bit v = option_map bit (boolean_value v)
+boolean_bit v = option_map boolean_number (boolean_value v)
 
 pub never_bit : IsNever boolean_bit
-never_bit v nested = ap (option_map bit) (never_boolean v nested)
+never_bit v nested = ap (option_map boolean_number) (never_boolean v nested)
 
 abbrev pub binary_bytes : Value → Option (ℕ × List ℕ)
 binary_bytes v = option_map subtype_and_bytes (binary_of v)

@@ -53,7 +53,7 @@ stopped o task block after had holds reported reports fault number held is h =
       counted = h.counted;
       accepted = record {
         output = h.output;
-        verdicts = h.verdicts;
+        all_diagnostics = h.all_diagnostics;
         refused = h.reaches.refused;
         outcomes = h.reaches.outcomes;
       };

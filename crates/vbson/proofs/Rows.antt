@@ -7,21 +7,21 @@ use Rattle.bson.specs.Options.{default_options, mongodb_options}
 use Rattle.bson_convert.specs.declared.mode.Mode.TheVariants as mode
 use Rattle.bson_convert.specs.declared.error.Error.TheVariants as error
 use Rattle.bson_convert.specs.declared.no_bytes.NoBytes.TheVariants as without
-use Rattle.vbson.specs.Convert.{mode_at, options_of_flags, order_of, status_for, status_of}
+use Rattle.vbson.specs.Convert.{mode_of_number, options_of_flags, order_of, status_of_reason, status_of}
 use Rattle.bson_bytes.specs.declared.duplicate_keys.DuplicateKeys.TheVariants.{Replace, Refuse}
 use Rattle.bson_run.specs.declared.order.Preprocessing.TheVariants.{Distinct, Legacy, DistinctLegacy}
 use Rattle.vbson.specs.Documents.{depth}
 use Rattle.vbson.specs.Reading.{duplicate_keys_of, preprocessing_of}
-use Rattle.vbson.specs.Values.{verdict}
+use Rattle.vbson.specs.Comparison.{comparison_status}
 use Rattle.vbson.specs.declared.options.CallOptions.{CallOptions}
 use Rattle.bson.specs.declared.extjson.key_order.KeyOrder.TheVariants.{Ascending, AsGiven}
 
 -- ---- modes
 
-modes_numbered : (mode_at 0 ≡ Some mode.Canonical)
-    × (mode_at 1 ≡ Some mode.Relaxed)
-    × (mode_at 2 ≡ Some mode.Show)
-    × (mode_at 3 ≡ None)
+modes_numbered : (mode_of_number 0 ≡ Some mode.Canonical)
+    × (mode_of_number 1 ≡ Some mode.Relaxed)
+    × (mode_of_number 2 ≡ Some mode.Show)
+    × (mode_of_number 3 ≡ None)
 modes_numbered = (refl, refl, refl, refl)
 
 -- ---- options
@@ -55,12 +55,12 @@ reading_numbered = (refl, refl, refl, refl, refl, refl)
 
 -- ---- statuses
 
-verdicts_numbered : (verdict true ≡ 0) × (verdict false ≡ 9)
+verdicts_numbered : (comparison_status true ≡ 0) × (comparison_status false ≡ 9)
 verdicts_numbered = (refl, refl)
 
 statuses_numbered : (status_of error.NotJson ≡ 2)
-    × ((e : _) → status_for (BadObjectId e) ≡ 3)
-    × ((message : _) → status_for (WrongShape message) ≡ 4)
+    × ((e : _) → status_of_reason (BadObjectId e) ≡ 3)
+    × ((message : _) → status_of_reason (WrongShape message) ≡ 4)
     × (status_of error.OutOfMemory ≡ 5)
     × (status_of (error.NoBytes without.NoDocument) ≡ 10)
     × (status_of (error.NoBytes without.ZeroInKey) ≡ 11)

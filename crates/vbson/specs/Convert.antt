@@ -23,8 +23,8 @@ use Rattle.bson.specs.declared.extjson.key_order.KeyOrder.{KeyOrder}
 use Rattle.bson.specs.declared.extjson.key_order.KeyOrder.TheVariants.{Ascending, AsGiven}
 use Rattle.vbson.specs.declared.text.Text.{Text}
 
-abbrev pub mode_at : ℕ → Option Mode
-mode_at n = if n == 0 then Some Canonical else (if n == 1 then Some Relaxed else (if n == 2 then Some Show else None))
+abbrev pub mode_of_number : ℕ → Option Mode
+mode_of_number n = if n == 0 then Some Canonical else (if n == 1 then Some Relaxed else (if n == 2 then Some Show else None))
 
 -- the order of keys
 abbrev pub order_of : CallOptions → KeyOrder
@@ -39,37 +39,37 @@ options_of_flags options = record {
 
 -- the output is the line that the input is converted to in the mode that was selected, with a NUL in place of its
 -- newline. It is UTF-8. In a form, a second conversion changes nothing
-pub record IsConvertedBy (o : Options) (number : ℕ) (input : List ℕ) (out : Text) : Type 0 where
+pub record IsConvertedBy (options : Options) (mode_number : ℕ) (input : List ℕ) (out : Text) : Type 0 where
   pub mode : Mode
-  pub named : mode_at number ≡ Some mode
+  pub mode_selected : mode_of_number mode_number ≡ Some mode
   pub text : List ℕ
-  pub converts : ConvertsBy o.key_order o mode input (text ++ newline)
+  pub converts : ConvertsBy options.key_order options mode input (text ++ newline)
   pub utf8 : IsUtf8 (text ++ newline)
-  pub again : IsKeptBy o.key_order o mode (text ++ newline)
+  pub unchanged_by_conversion : IsKeptBy options.key_order options mode (text ++ newline)
   pub is_text : IsOwnedText text out
 
 -- the fault is an invalid object id
-abbrev pub IsBadId : TreeFault → Type 0
-IsBadId it = (id : List ℕ) × (it ≡ wrong_id id)
+abbrev pub IsBadObjectId : TreeFault → Type 0
+IsBadObjectId fault = (id : List ℕ) × (fault ≡ wrong_id id)
 
 -- the fault is any other
-abbrev pub IsBad : TreeFault → Type 0
-IsBad it = it ≡ wrong_shape
+abbrev pub IsInvalidShape : TreeFault → Type 0
+IsInvalidShape fault = fault ≡ wrong_shape
 
 -- the bytes are JSON that is not valid Extended JSON, for a reason
-pub record HasNoMeaningIn (o : Options) (why : TreeFault → Type 0) (bytes : List ℕ) : Type 0 where
+pub record IsInvalidExtendedJson (options : Options) (why : TreeFault → Type 0) (bytes : List ℕ) : Type 0 where
   pub tree : Data
   pub text : IsTextOf bytes tree
-  pub refused : MeansNothingIn o.doubles tree
-  pub reason : why (fault_of_in o.doubles tree)
+  pub refused : MeansNothingIn options.doubles tree
+  pub reason : why (fault_of_in options.doubles tree)
 
 -- ---- for private clauses
 
 -- the cause of each status that rejects the bytes as text
-pub record IsCauseIn (o : Options) (status : ℕ) (bytes : List ℕ) : Type 0 where
+pub record IsCauseOfStatus (options : Options) (status : ℕ) (bytes : List ℕ) : Type 0 where
   pub not_json : status ≡ 2 → IsNotJsonText bytes
-  pub bad_object_id : status ≡ 3 → HasNoMeaningIn o IsBadId bytes
-  pub not_extended_json : status ≡ 4 → HasNoMeaningIn o IsBad bytes
+  pub bad_object_id : status ≡ 3 → IsInvalidExtendedJson options IsBadObjectId bytes
+  pub not_extended_json : status ≡ 4 → IsInvalidExtendedJson options IsInvalidShape bytes
 
 -- a text is neither read from a reader nor written to a writer
 abbrev pub IsTextError : Error → Type 0
@@ -77,19 +77,19 @@ IsTextError CannotRead = ⊥
 IsTextError CannotWrite = ⊥
 IsTextError _ = Unit {0}
 
-abbrev pub status_for : Reason → ℕ
-status_for (BadObjectId e) = 3
-status_for (WrongShape message) = 4
+abbrev pub status_of_reason : Reason → ℕ
+status_of_reason (BadObjectId e) = 3
+status_of_reason (WrongShape message) = 4
 
-abbrev pub status_without : without.NoBytes → ℕ
-status_without NoDocument = 10
-status_without ZeroInKey = 11
-status_without ZeroInRegex = 12
-status_without TooLong = 13
+abbrev pub status_of_no_bytes : without.NoBytes → ℕ
+status_of_no_bytes NoDocument = 10
+status_of_no_bytes ZeroInKey = 11
+status_of_no_bytes ZeroInRegex = 12
+status_of_no_bytes TooLong = 13
 
 abbrev pub status_of : Error → ℕ
 status_of NotJson = 2
-status_of (NotExtendedJson place) = status_for place.reason
-status_of (NoBytes why) = status_without why
+status_of (NotExtendedJson place) = status_of_reason place.reason
+status_of (NoBytes why) = status_of_no_bytes why
 status_of (NotCanonical column) = 16
 status_of _ = 5

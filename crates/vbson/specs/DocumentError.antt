@@ -18,7 +18,7 @@ use Rattle.vbson.specs.Reading.{duplicate_keys_of}
 use Rattle.vbson.specs.Text.{IsOwnedText}
 use Rattle.vbson.specs.declared.document_error.Finding.{Finding}
 use Rattle.vbson.specs.declared.document_error.Finding.TheVariants.{Nothing, Malformed, FiniteDouble}
-use Rattle.vbson.specs.declared.explain.Parts.{Parts}
+use Rattle.vbson.specs.declared.explain.RejectionFields.{RejectionFields}
 use Rattle.vbson.specs.declared.explain.Rejection.{Rejection}
 use Rattle.vbson.specs.declared.options.CallOptions.{CallOptions}
 
@@ -38,71 +38,71 @@ pub record HasNoDocumentText (options : CallOptions) (bytes : List ℕ) : Type 0
 
 abbrev pub IsFinding : CallOptions → List ℕ → Finding → Type 0
 IsFinding options bytes Nothing = HasDocumentText options bytes
-IsFinding options bytes (Malformed k n) = IsFaultAtOffset k n bytes (reads_bytes_in (duplicate_keys_of options) depth bytes)
+IsFinding options bytes (Malformed kind offset) = IsFaultAtOffset kind offset bytes (reads_bytes_in (duplicate_keys_of options) depth bytes)
 IsFinding options bytes FiniteDouble = HasNoDocumentText options bytes
 
 -- ---- the fields of the error struct for a finding
 
 -- the status, or 0 if nothing is wrong
-abbrev pub code_for : Finding → ℕ
-code_for Nothing = 0
-code_for (Malformed k n) = 10
-code_for FiniteDouble = 7
+abbrev pub finding_code : Finding → ℕ
+finding_code Nothing = 0
+finding_code (Malformed kind offset) = 10
+finding_code FiniteDouble = 7
 
 -- the offset of the first fault of bytes that are not a document; otherwise 0
-abbrev pub offset_for : Finding → ℕ
-offset_for Nothing = 0
-offset_for (Malformed k n) = n
-offset_for FiniteDouble = 0
+abbrev pub finding_offset : Finding → ℕ
+finding_offset Nothing = 0
+finding_offset (Malformed kind offset) = offset
+finding_offset FiniteDouble = 0
 
-abbrev pub reason_for : Finding → List ℕ
-reason_for Nothing = []
-reason_for (Malformed k n) = fault_kind_message k
-reason_for FiniteDouble = codes "a finite double"
+abbrev pub finding_reason : Finding → List ℕ
+finding_reason Nothing = []
+finding_reason (Malformed kind offset) = fault_kind_message kind
+finding_reason FiniteDouble = codes "a finite double"
 
 -- the message for a fault at an offset, with its reason
-abbrev pub document_error_message : ℕ → List ℕ → List ℕ
-document_error_message n words = codes "not a document at byte " ++ decimal n ++ codes " (" ++ words ++ codes ")"
+abbrev pub malformed_message : ℕ → List ℕ → List ℕ
+malformed_message offset description = codes "not a document at byte " ++ decimal offset ++ codes " (" ++ description ++ codes ")"
 
 -- the message for a document that has no text, with its reason
-abbrev pub unwritten : List ℕ → List ℕ
-unwritten words = codes "not representable (" ++ words ++ codes ")"
+abbrev pub not_representable_message : List ℕ → List ℕ
+not_representable_message description = codes "not representable (" ++ description ++ codes ")"
 
-abbrev pub message_for : Finding → List ℕ
-message_for Nothing = []
-message_for (Malformed k n) = document_error_message n (fault_kind_message k)
-message_for FiniteDouble = unwritten (codes "a finite double")
+abbrev pub finding_message : Finding → List ℕ
+finding_message Nothing = []
+finding_message (Malformed kind offset) = malformed_message offset (fault_kind_message kind)
+finding_message FiniteDouble = not_representable_message (codes "a finite double")
 
 -- the error struct has the fields of the finding; its path has no segment
-pub record SaysOf (it : Finding) (out : Rejection) : Type 0 where
-  pub code : out.code ≡ code_for it
+pub record ReportsFinding (finding : Finding) (out : Rejection) : Type 0 where
+  pub code : out.code ≡ finding_code finding
   pub line : out.line ≡ 0
   pub column : out.column ≡ 0
-  pub offset : out.offset ≡ offset_for it
+  pub offset : out.offset ≡ finding_offset finding
   pub path : IsOwnedText (document_bytes (path_pairs [])) out.path
-  pub reason : IsOwnedText (reason_for it) out.reason
-  pub message : IsOwnedText (message_for it) out.message
-  pub utf8 : IsUtf8 (message_for it)
-  pub reason_utf8 : IsUtf8 (reason_for it)
+  pub reason : IsOwnedText (finding_reason finding) out.reason
+  pub message : IsOwnedText (finding_message finding) out.message
+  pub utf8 : IsUtf8 (finding_message finding)
+  pub reason_utf8 : IsUtf8 (finding_reason finding)
 
 pub record ExplainsDocument (options : CallOptions) (bytes : List ℕ) (out : Rejection) : Type 0 where
   pub finding : Finding
   pub found : IsFinding options bytes finding
-  pub said : SaysOf finding out
+  pub error_report : ReportsFinding finding out
 
 -- ---- for private clauses
 
 -- the finding for bytes that are this document
-abbrev pub IsOfDocument : Options → Pairs → Finding → Type 0
-IsOfDocument o ps Nothing = writable_in o.doubles (document ps) ≡ true
-IsOfDocument o ps (Malformed k n) = ⊥
-IsOfDocument o ps FiniteDouble = writable_in o.doubles (document ps) ≡ false
+abbrev pub IsFindingOfDocument : Options → Pairs → Finding → Type 0
+IsFindingOfDocument options ps Nothing = writable_in options.doubles (document ps) ≡ true
+IsFindingOfDocument options ps (Malformed kind offset) = ⊥
+IsFindingOfDocument options ps FiniteDouble = writable_in options.doubles (document ps) ≡ false
 
-pub record ArePartsFor (it : Finding) (parts : Parts) : Type 0 where
-  pub code : parts.code ≡ code_for it
-  pub line : parts.line ≡ 0
-  pub column : parts.column ≡ 0
-  pub offset : parts.offset ≡ offset_for it
-  pub path : parts.path.items ≡ document_bytes (path_pairs []) ++ newline
-  pub reason : parts.reason.items ≡ reason_for it ++ newline
-  pub utf8 : IsUtf8 (reason_for it)
+pub record AreFieldsOfFinding (finding : Finding) (fields : RejectionFields) : Type 0 where
+  pub code : fields.code ≡ finding_code finding
+  pub line : fields.line ≡ 0
+  pub column : fields.column ≡ 0
+  pub offset : fields.offset ≡ finding_offset finding
+  pub path : fields.path.items ≡ document_bytes (path_pairs []) ++ newline
+  pub reason : fields.reason.items ≡ finding_reason finding ++ newline
+  pub utf8 : IsUtf8 (finding_reason finding)

@@ -16,72 +16,72 @@ use Rattle.bson_run.specs.Words.{words_broken}
 use Rattle.bson_run.specs.declared.explain.Explanation.{Explanation}
 use Rattle.bson_run.specs.declared.explain.Explanation.TheVariants.{Difference, Syntax, Other}
 use Rattle.bson_run.specs.declared.explain.Explanation.TheVariants as explained
-use Rattle.vbson.specs.Convert.{options_of_flags, status_for}
+use Rattle.vbson.specs.Convert.{options_of_flags, status_of_reason}
 use Rattle.vbson.specs.Path.{path_pairs}
 use Rattle.vbson.specs.Reading.{IsReadAs, IsPreprocessingFault, MeansUnder, preprocessing_of}
 use Rattle.vbson.specs.Text.{IsOwnedText}
-use Rattle.vbson.specs.declared.explain.Parts.{Parts}
+use Rattle.vbson.specs.declared.explain.RejectionFields.{RejectionFields}
 use Rattle.vbson.specs.declared.explain.Rejection.{Rejection}
 use Rattle.vbson.specs.declared.options.CallOptions.{CallOptions}
 
 -- ---- the fields of the error struct for an explanation
 
 -- the status of the error, or 0 if there is none
-abbrev pub code_in : Explanation → ℕ
-code_in (Syntax stop) = 2
-code_in (explained.Value place reason) = status_for place.now.reason
-code_in (Difference column) = 16
-code_in Other = 0
+abbrev pub explanation_code : Explanation → ℕ
+explanation_code (Syntax stop) = 2
+explanation_code (explained.Value place reason) = status_of_reason place.now.reason
+explanation_code (Difference column) = 16
+explanation_code Other = 0
 
 -- where a text stops to be JSON, or to be canonical: the line and the column, from 1, and the offset; otherwise 0
-abbrev pub line_in : List ℕ → Explanation → ℕ
-line_in text (Syntax stop) = line_at stop.offset text
-line_in text (explained.Value place reason) = 0
-line_in text (Difference column) = 1
-line_in text Other = 0
+abbrev pub explanation_line : List ℕ → Explanation → ℕ
+explanation_line text (Syntax stop) = line_at stop.offset text
+explanation_line text (explained.Value place reason) = 0
+explanation_line text (Difference column) = 1
+explanation_line text Other = 0
 
-abbrev pub column_in : List ℕ → Explanation → ℕ
-column_in text (Syntax stop) = column_at stop.offset text
-column_in text (explained.Value place reason) = 0
-column_in text (Difference column) = column
-column_in text Other = 0
+abbrev pub explanation_column : List ℕ → Explanation → ℕ
+explanation_column text (Syntax stop) = column_at stop.offset text
+explanation_column text (explained.Value place reason) = 0
+explanation_column text (Difference column) = column
+explanation_column text Other = 0
 
-abbrev pub offset_in : List ℕ → Explanation → ℕ
-offset_in text (Syntax stop) = min stop.offset (length text - 1)
-offset_in text (explained.Value place reason) = 0
-offset_in text (Difference column) = column - 1
-offset_in text Other = 0
+abbrev pub explanation_offset : List ℕ → Explanation → ℕ
+explanation_offset text (Syntax stop) = min stop.offset (length text - 1)
+explanation_offset text (explained.Value place reason) = 0
+explanation_offset text (Difference column) = column - 1
+explanation_offset text Other = 0
 
 -- the path from the invalid value outward
-abbrev pub path_in : Explanation → List PathSegment
-path_in (Syntax stop) = []
-path_in (explained.Value place reason) = path_of place.now
-path_in (Difference column) = []
-path_in Other = []
+abbrev pub explanation_path : Explanation → List PathSegment
+explanation_path (Syntax stop) = []
+explanation_path (explained.Value place reason) = path_of place.now
+explanation_path (Difference column) = []
+explanation_path Other = []
 
-abbrev pub reason_in : Explanation → List ℕ
-reason_in (Syntax stop) = words_broken stop.rule
-reason_in (explained.Value place reason) = string_bytes reason
-reason_in (Difference column) = []
-reason_in Other = []
+abbrev pub explanation_reason : Explanation → List ℕ
+explanation_reason (Syntax stop) = words_broken stop.rule
+explanation_reason (explained.Value place reason) = string_bytes reason
+explanation_reason (Difference column) = []
+explanation_reason Other = []
 
 -- the error struct has the fields of this explanation of an error of the text, and this message
-pub record Says (text : List ℕ) (it : Explanation) (words : List ℕ) (out : Rejection) : Type 0 where
-  pub code : out.code ≡ code_in it
-  pub line : out.line ≡ line_in text it
-  pub column : out.column ≡ column_in text it
-  pub offset : out.offset ≡ offset_in text it
-  pub path : IsOwnedText (document_bytes (path_pairs (path_in it))) out.path
-  pub reason : IsOwnedText (reason_in it) out.reason
-  pub message : IsOwnedText words out.message
+pub record ReportsExplanation (text : List ℕ) (explanation : Explanation) (description : List ℕ) (out : Rejection) : Type 0 where
+  pub code : out.code ≡ explanation_code explanation
+  pub line : out.line ≡ explanation_line text explanation
+  pub column : out.column ≡ explanation_column text explanation
+  pub offset : out.offset ≡ explanation_offset text explanation
+  pub path : IsOwnedText (document_bytes (path_pairs (explanation_path explanation))) out.path
+  pub reason : IsOwnedText (explanation_reason explanation) out.reason
+  pub message : IsOwnedText description out.message
 
 -- the error struct explains the error of the text; its message is that of the error, followed by its path
-pub record IsError (text : List ℕ) (fault : Error) (out : Rejection) : Type 0 where
+pub record ExplainsError (text : List ℕ) (fault : Error) (out : Rejection) : Type 0 where
   pub explanation : Explanation
-  pub lies : IsExplanation text fault explanation
-  pub said : Says text explanation (words_of fault ++ words_at text explanation) out
+  pub is_explanation : IsExplanation text fault explanation
+  pub error_report : ReportsExplanation text explanation (words_of fault ++ words_at text explanation) out
   pub utf8 : IsUtf8 (words_of fault ++ words_at text explanation)
-  pub reason_utf8 : IsUtf8 (reason_in explanation)
+  pub reason_utf8 : IsUtf8 (explanation_reason explanation)
 
 -- ---- which text
 
@@ -97,58 +97,58 @@ pub record ExplainsRejection (options : CallOptions) (text : List ℕ) (out : Re
   pub read : List ℕ
   pub refused : IsRejectedFor options text read fault
   pub reported : fault ≢ OutOfMemory
-  pub error : IsError read fault out
+  pub error : ExplainsError read fault out
 
 -- the text denotes a value, and the error struct has the code 0 and an empty message; or the text is rejected
 abbrev pub Explains : CallOptions → List ℕ → Rejection → Type 0
 Explains options text out =
-    (((value : Value) × MeansUnder options text value) × Says [] Other [] out) ⊎ ExplainsRejection options text out
+    (((value : Value) × MeansUnder options text value) × ReportsExplanation [] Other [] out) ⊎ ExplainsRejection options text out
 
 -- the path to the error exceeds the limits of BSON
-abbrev pub IsLongPath : Error → Type 0
-IsLongPath (NotExtendedJson place) = FitsDocument (path_pairs (path_of place)) → ⊥
-IsLongPath other = ⊥
+abbrev pub HasTooLongPath : Error → Type 0
+HasTooLongPath (NotExtendedJson place) = FitsDocument (path_pairs (path_of place)) → ⊥
+HasTooLongPath other = ⊥
 
 pub record IsTooLong (options : CallOptions) (text : List ℕ) : Type 0 where
   pub fault : Error
   pub read : List ℕ
   pub refused : IsRejectedFor options text read fault
-  pub long : IsLongPath fault
+  pub too_long : HasTooLongPath fault
 
 -- ---- for private clauses
 
 -- the error struct explains a text without preprocessing
-abbrev pub ExplainsRead : Options → List ℕ → Rejection → Type 0
-ExplainsRead o text out =
-    (((value : Value) × HasTextMeaningIn o.doubles text value) × Says [] Other [] out)
-    ⊎ ((fault : Error) × IsRefusedIn o fault text × (fault ≢ OutOfMemory) × IsError text fault out)
+abbrev pub ExplainsWithoutPreprocessing : Options → List ℕ → Rejection → Type 0
+ExplainsWithoutPreprocessing options text out =
+    (((value : Value) × HasTextMeaningIn options.doubles text value) × ReportsExplanation [] Other [] out)
+    ⊎ ((fault : Error) × IsRefusedIn options fault text × (fault ≢ OutOfMemory) × ExplainsError text fault out)
 
 -- memory ran out, or the path to an error that rejects the text exceeds the limits of BSON
 abbrev pub IsUnexplained : PathError → (Error → Type 0) → Type 0
-IsUnexplained e refused = e ≢ sizes.OutOfMemory → (fault : Error) × refused fault × IsLongPath fault
+IsUnexplained error refused = error ≢ sizes.OutOfMemory → (fault : Error) × refused fault × HasTooLongPath fault
 
 abbrev pub PathIsTooLong : Explanation → Type 0
-PathIsTooLong it = FitsDocument (path_pairs (path_in it)) → ⊥
+PathIsTooLong explanation = FitsDocument (path_pairs (explanation_path explanation)) → ⊥
 
 -- the fields are those of an explanation of an error of the text
-pub record ArePartsOf (text : List ℕ) (it : Explanation) (parts : Parts) : Type 0 where
-  pub code : parts.code ≡ code_in it
-  pub line : parts.line ≡ line_in text it
-  pub column : parts.column ≡ column_in text it
-  pub offset : parts.offset ≡ offset_in text it
-  pub path : parts.path.items ≡ document_bytes (path_pairs (path_in it)) ++ newline
-  pub reason : parts.reason.items ≡ reason_in it ++ newline
-  pub utf8 : IsUtf8 (reason_in it)
+pub record AreFieldsOfExplanation (text : List ℕ) (explanation : Explanation) (fields : RejectionFields) : Type 0 where
+  pub code : fields.code ≡ explanation_code explanation
+  pub line : fields.line ≡ explanation_line text explanation
+  pub column : fields.column ≡ explanation_column text explanation
+  pub offset : fields.offset ≡ explanation_offset text explanation
+  pub path : fields.path.items ≡ document_bytes (path_pairs (explanation_path explanation)) ++ newline
+  pub reason : fields.reason.items ≡ explanation_reason explanation ++ newline
+  pub utf8 : IsUtf8 (explanation_reason explanation)
 
 -- the line without its newline
-abbrev pub front : List ℕ → List ℕ
-front line = take (length line - 1) line
+abbrev pub line_without_end : List ℕ → List ℕ
+line_without_end line = take (length line - 1) line
 
-pub record IsMadeOf (parts : Parts) (words : List ℕ) (out : Rejection) : Type 0 where
-  pub code : out.code ≡ parts.code
-  pub line : out.line ≡ parts.line
-  pub column : out.column ≡ parts.column
-  pub offset : out.offset ≡ parts.offset
-  pub path : IsOwnedText (front parts.path.items) out.path
-  pub reason : IsOwnedText (front parts.reason.items) out.reason
-  pub message : IsOwnedText (front words) out.message
+pub record IsRejectionWithFields (fields : RejectionFields) (description : List ℕ) (out : Rejection) : Type 0 where
+  pub code : out.code ≡ fields.code
+  pub line : out.line ≡ fields.line
+  pub column : out.column ≡ fields.column
+  pub offset : out.offset ≡ fields.offset
+  pub path : IsOwnedText (line_without_end fields.path.items) out.path
+  pub reason : IsOwnedText (line_without_end fields.reason.items) out.reason
+  pub message : IsOwnedText (line_without_end description) out.message

@@ -11,4 +11,4 @@ pub mod Path
 pub mod Raw
 pub mod Reading
 pub mod Text
-pub mod Values
+pub mod Comparison

@@ -8,57 +8,57 @@ use Rattle.bson_convert.specs.declared.mode.Mode.{Mode}
 use Rattle.bson_run.specs.declared.order.OnRefusal.TheVariants.{KeepGoing, Stop}
 use Rattle.bson_run.specs.declared.order.Task.{Task}
 use Rattle.bson_run.specs.declared.order.Task.TheVariants.{Write, Encode}
-use Rattle.vbson.specs.Convert.{mode_at}
+use Rattle.vbson.specs.Convert.{mode_of_number}
 use Rattle.vbson.specs.Text.{IsOwnedText}
 use Rattle.vbson.specs.declared.lines.Lines.{Lines}
 
 -- the task writes this output and these diagnostics for the lines of the block; these are the numbers of lines and of
 -- rejected lines
-pub record GivesLines (o : Options) (task : Task) (block output verdicts : List ℕ) (count refused : ℕ) : Type 0 where
-  pub outcomes : GivesIn o task KeepGoing (lines_of block) output verdicts refused
+pub record IsOutputOfLines (options : Options) (task : Task) (block output all_diagnostics : List ℕ) (count refused : ℕ) : Type 0 where
+  pub outcomes : GivesIn options task KeepGoing (lines_of block) output all_diagnostics refused
   pub counted : count ≡ length (lines_of block)
 
 -- the struct has the output, the diagnostics and the counts of the task for the lines
-pub record AreReturned (o : Options) (task : Task) (block : List ℕ) (out : Lines) : Type 0 where
+pub record IsLinesResult (options : Options) (task : Task) (block : List ℕ) (out : Lines) : Type 0 where
   pub text : List ℕ
   pub diagnostics : List ℕ
-  pub gives : GivesLines o task block text diagnostics out.lines out.refused
+  pub gives : IsOutputOfLines options task block text diagnostics out.lines out.refused
   pub is_text : IsOwnedText text out.text
   pub are_diagnostics : IsOwnedText diagnostics out.diagnostics
 
 -- the struct has the result of converting each line in the mode that was selected
-pub record AreConverted (o : Options) (number : ℕ) (block : List ℕ) (out : Lines) : Type 0 where
+pub record AreConverted (options : Options) (number : ℕ) (block : List ℕ) (out : Lines) : Type 0 where
   pub mode : Mode
-  pub named : mode_at number ≡ Some mode
-  pub given : AreReturned o (Write mode) block out
+  pub mode_selected : mode_of_number number ≡ Some mode
+  pub given : IsLinesResult options (Write mode) block out
 
 -- the struct has the result of encoding each line as the bytes of its document
 abbrev pub AreEncoded : Options → (block : List ℕ) → Lines → Type 0
-AreEncoded o block out = AreReturned o Encode block out
+AreEncoded options block out = IsLinesResult options Encode block out
 
 -- ---- the first line that is rejected
 
 -- the task accepts each line that is not blank: a run that stops at a rejected line reads all lines
-pub record AreAccepted (o : Options) (task : Task) (all : List (List ℕ)) : Type 0 where
+pub record AreAccepted (options : Options) (task : Task) (all : List (List ℕ)) : Type 0 where
   pub output : List ℕ
-  pub verdicts : List ℕ
+  pub all_diagnostics : List ℕ
   pub refused : ℕ
-  pub outcomes : GivesIn o task Stop all output verdicts refused
+  pub outcomes : GivesIn options task Stop all output all_diagnostics refused
 
 -- the task accepts each line of the block
 abbrev pub EachLineIsAccepted : Options → Task → (block : List ℕ) → Type 0
-EachLineIsAccepted o task block = AreAccepted o task (lines_of block)
+EachLineIsAccepted options task block = AreAccepted options task (lines_of block)
 
 -- the task rejects the line with the number, from 1, and accepts the lines before it
-pub record IsFirstRejected (o : Options) (task : Task) (block : List ℕ) (number : ℕ) : Type 0 where
+pub record IsFirstRejected (options : Options) (task : Task) (block : List ℕ) (number : ℕ) : Type 0 where
   pub before : List (List ℕ)
   pub line : List ℕ
   pub others : List (List ℕ)
   pub fault : Error
   pub whole : lines_of block ≡ before ++ line ∷ others
   pub counted : number ≡ length before + 1
-  pub accepted : AreAccepted o task before
-  pub rejected : IsBadLineIn o task fault (line_text (length before) line)
+  pub accepted : AreAccepted options task before
+  pub rejected : IsBadLineIn options task fault (line_text (length before) line)
 
 -- for private clauses: the fault is that of a rejected line
 abbrev pub is_rejection : Error → Bool

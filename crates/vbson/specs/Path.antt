@@ -6,9 +6,9 @@ use Rattle.bson_model.specs.Value.{Value, scalar, Pairs, no_pairs, pair}
 use Rattle.bson_tree.specs.Place.{PathSegment, key, element}
 
 -- pairs, followed by others
-abbrev pub with_pairs : Pairs → Pairs → Pairs
-with_pairs no_pairs qs = qs
-with_pairs (pair k v ps) qs = pair k v (with_pairs ps qs)
+abbrev pub concat_pairs : Pairs → Pairs → Pairs
+concat_pairs no_pairs qs = qs
+concat_pairs (pair k v ps) qs = pair k v (concat_pairs ps qs)
 
 abbrev pub name_value : List ℕ → Value
 name_value k = scalar (text k)
@@ -26,4 +26,4 @@ segment_value (element n) = index_value n
 -- numbers from 0
 abbrev pub path_pairs : List PathSegment → Pairs
 path_pairs [] = no_pairs
-path_pairs (segment ∷ outer) = with_pairs (path_pairs outer) (pair (decimal (length outer)) (segment_value segment) no_pairs)
+path_pairs (segment ∷ outer) = concat_pairs (path_pairs outer) (pair (decimal (length outer)) (segment_value segment) no_pairs)

@@ -11,7 +11,7 @@ use Rattle.bson_convert.specs.declared.error.Error.{Error}
 use Rattle.bson_run.specs.Preprocessed.{IsPreprocessedAs, IsRejectedBefore, IsNotPreprocessed}
 use Rattle.bson_run.specs.declared.order.Preprocessing.{Preprocessing}
 use Rattle.bson_run.specs.declared.order.Preprocessing.TheVariants.{Distinct, Legacy, DistinctLegacy}
-use Rattle.vbson.specs.Convert.{HasNoMeaningIn, IsBad, IsBadId, IsCauseIn, options_of_flags}
+use Rattle.vbson.specs.Convert.{IsInvalidExtendedJson, IsInvalidShape, IsBadObjectId, IsCauseOfStatus, options_of_flags}
 use Rattle.vbson.specs.Documents.{depth}
 use Rattle.vbson.specs.declared.options.CallOptions.{CallOptions}
 
@@ -46,16 +46,16 @@ pub record IsReadAndRejected (options : CallOptions) (cause : List ℕ → Type 
   pub read_as : IsReadAs (preprocessing_of options) text read
   pub rejected : cause read
 
-abbrev pub IsNoTextUnder : CallOptions → List ℕ → Type 0
-IsNoTextUnder options = IsReadAndRejected options IsNotJsonText
+abbrev pub IsNotJsonUnder : CallOptions → List ℕ → Type 0
+IsNotJsonUnder options = IsReadAndRejected options IsNotJsonText
 
-abbrev pub HasBadIdUnder : CallOptions → List ℕ → Type 0
-HasBadIdUnder options = IsReadAndRejected options (HasNoMeaningIn (options_of_flags options) IsBadId)
+abbrev pub HasBadObjectIdUnder : CallOptions → List ℕ → Type 0
+HasBadObjectIdUnder options = IsReadAndRejected options (IsInvalidExtendedJson (options_of_flags options) IsBadObjectId)
 
-abbrev pub IsBadUnder : CallOptions → List ℕ → Type 0
-IsBadUnder options text =
+abbrev pub IsInvalidUnder : CallOptions → List ℕ → Type 0
+IsInvalidUnder options text =
     HasRejectedKey (preprocessing_of options) text
-    ⊎ IsReadAndRejected options (HasNoMeaningIn (options_of_flags options) IsBad) text
+    ⊎ IsReadAndRejected options (IsInvalidExtendedJson (options_of_flags options) IsInvalidShape) text
 
 -- ---- documents
 
@@ -69,8 +69,8 @@ pub record IsDocumentUnder (options : CallOptions) (bytes : List ℕ) (value : V
   pub read : IsReadIn (duplicate_keys_of options) depth bytes pairs
   pub is : value ≡ document pairs
 
-abbrev pub IsNoDocumentUnder : CallOptions → List ℕ → Type 0
-IsNoDocumentUnder options bytes = (value : Value) → IsDocumentUnder options bytes value → ⊥
+abbrev pub IsNotDocumentUnder : CallOptions → List ℕ → Type 0
+IsNotDocumentUnder options bytes = (value : Value) → IsDocumentUnder options bytes value → ⊥
 
 -- ---- for private clauses
 
@@ -80,21 +80,21 @@ IsPreprocessingFault None fault text = ⊥
 IsPreprocessingFault (Some preprocessing) fault text = IsNotPreprocessed preprocessing fault text
 
 -- the cause of each status that rejects bytes, without preprocessing
-pub record IsRejectedWith (o : Options) (status : ℕ) (bytes : List ℕ) : Type 0 where
-  pub cause : IsCauseIn o status bytes
-  pub accepts : (value : Value) → HasTextMeaningIn o.doubles bytes value → status ≡ 5
-  pub listed : (2 ≤ status) × (status ≤ 5)
+pub record IsReadFailure (options : Options) (status : ℕ) (bytes : List ℕ) : Type 0 where
+  pub cause : IsCauseOfStatus options status bytes
+  pub accepts : (value : Value) → HasTextMeaningIn options.doubles bytes value → status ≡ 5
+  pub possible_statuses : (2 ≤ status) × (status ≤ 5)
 
 -- the cause of each status that rejects a text under the options
-pub record IsWithoutValue (options : CallOptions) (status : ℕ) (text : List ℕ) : Type 0 where
-  pub not_json : status ≡ 2 → IsNoTextUnder options text
-  pub bad_object_id : status ≡ 3 → HasBadIdUnder options text
-  pub not_extended_json : status ≡ 4 → IsBadUnder options text
+pub record IsTextReadFailure (options : CallOptions) (status : ℕ) (text : List ℕ) : Type 0 where
+  pub not_json : status ≡ 2 → IsNotJsonUnder options text
+  pub bad_object_id : status ≡ 3 → HasBadObjectIdUnder options text
+  pub not_extended_json : status ≡ 4 → IsInvalidUnder options text
   pub accepts : (value : Value) → MeansUnder options text value → status ≡ 5
-  pub listed : (2 ≤ status) × (status ≤ 5)
+  pub possible_statuses : (2 ≤ status) × (status ≤ 5)
 
 -- the cause of each status that rejects bytes as a document under the options
-pub record IsWithoutDocument (options : CallOptions) (status : ℕ) (bytes : List ℕ) : Type 0 where
-  pub no_document : status ≡ 10 → IsNoDocumentUnder options bytes
+pub record IsDocumentReadFailure (options : CallOptions) (status : ℕ) (bytes : List ℕ) : Type 0 where
+  pub no_document : status ≡ 10 → IsNotDocumentUnder options bytes
   pub accepts : (value : Value) → IsDocumentUnder options bytes value → status ≡ 5
-  pub listed : (status ≡ 5) ⊎ (status ≡ 10)
+  pub possible_statuses : (status ≡ 5) ⊎ (status ≡ 10)

@@ -10,7 +10,7 @@ ghost use Rattle.bson_types.specs.ElementTags.{tag_of};
 ghost use Rattle.bson_types.specs.declared.spec.ElementType.{ElementType};
 ghost use Rattle.bson_types.specs.declared.spec.ElementType.TheVariants as tag;
 ghost use Rattle.vbson.specs.Documents.{IsOneDocument};
-ghost use Rattle.vbson.specs.Builder.{Appends, AppendsScalar, HasSameBytes, is_true, no_length};
+ghost use Rattle.vbson.specs.Builder.{Appends, AppendsScalar, HasSameBytes, is_true, length_placeholder};
 
 use crate::builder::{Builder, Element, append, is_text};
 use crate::documents::vbson_is_document;
@@ -25,11 +25,11 @@ pub extern "C" fn vbson_append_document_begin(
     key: &[u8],
     start: &mut usize,
 ) -> u32
-    ensures appended { Appends tag.EmbeddedDocument key.now no_length result builder.old builder.new }
+    ensures appended { Appends tag.EmbeddedDocument key.now length_placeholder result builder.old builder.new }
     ensures start { result ≡ 0 → start.new + 4 ≡ builder.new.len }
     ensures not_utf8 { result ≡ 6 → is_utf8 key.now ≡ false }
-    ensures listed { (result ≡ 0) ⊎ (result ≡ 6) ⊎ (result ≡ 8) ⊎ (result ≡ 11) }
-    ensures kept { 0 < result → start.new ≡ start.old }
+    ensures possible_statuses { (result ≡ 0) ⊎ (result ≡ 6) ⊎ (result ≡ 8) ⊎ (result ≡ 11) }
+    ensures unchanged { 0 < result → start.new ≡ start.old }
 {
     begin(builder, ElementType::EmbeddedDocument, key, start)
 }
@@ -41,11 +41,11 @@ pub extern "C" fn vbson_append_array_begin(
     key: &[u8],
     start: &mut usize,
 ) -> u32
-    ensures appended { Appends tag.Array key.now no_length result builder.old builder.new }
+    ensures appended { Appends tag.Array key.now length_placeholder result builder.old builder.new }
     ensures start { result ≡ 0 → start.new + 4 ≡ builder.new.len }
     ensures not_utf8 { result ≡ 6 → is_utf8 key.now ≡ false }
-    ensures listed { (result ≡ 0) ⊎ (result ≡ 6) ⊎ (result ≡ 8) ⊎ (result ≡ 11) }
-    ensures kept { 0 < result → start.new ≡ start.old }
+    ensures possible_statuses { (result ≡ 0) ⊎ (result ≡ 6) ⊎ (result ≡ 8) ⊎ (result ≡ 11) }
+    ensures unchanged { 0 < result → start.new ≡ start.old }
 {
     begin(builder, ElementType::Array, key, start)
 }
@@ -64,8 +64,8 @@ pub extern "C" fn vbson_append_value(
     ensures no_value { result ≡ 1
         → (length value.now.bytes.now < value.now.len) ⊎ ((type : ElementType) → tag_of type ≢ value.now.kind) }
     ensures not_utf8 { result ≡ 6 → is_utf8 key.now ≡ false }
-    ensures listed { (result ≤ 1) ⊎ (result ≡ 6) ⊎ (result ≡ 8) ⊎ (result ≡ 11) }
-    ensures kept { 0 < result → HasSameBytes builder.old builder.new }
+    ensures possible_statuses { (result ≤ 1) ⊎ (result ≡ 6) ⊎ (result ≡ 8) ⊎ (result ≡ 11) }
+    ensures unchanged { 0 < result → HasSameBytes builder.old builder.new }
 {
     let Some(kind) = ElementType::from(value.kind) else {
         return status::INVALID_ARGUMENT;
@@ -83,7 +83,7 @@ pub extern "C" fn vbson_append_document(builder: &mut Builder<'_>, key: &[u8], b
     ensures checked { result ≡ 0 → IsOneDocument bytes.now }
     ensures no_document { result ≡ 10 → IsOneDocument bytes.now → ⊥ }
     ensures not_utf8 { result ≡ 6 → is_utf8 key.now ≡ false }
-    ensures listed { (result ≡ 0) ⊎ (result ≡ 6) ⊎ (result ≡ 8) ⊎ (result ≡ 10) ⊎ (result ≡ 11) }
+    ensures possible_statuses { (result ≡ 0) ⊎ (result ≡ 6) ⊎ (result ≡ 8) ⊎ (result ≡ 10) ⊎ (result ≡ 11) }
 {
     append_checked(builder, ElementType::EmbeddedDocument, key, bytes)
 }
@@ -95,7 +95,7 @@ pub extern "C" fn vbson_append_array(builder: &mut Builder<'_>, key: &[u8], byte
     ensures checked { result ≡ 0 → IsOneDocument bytes.now }
     ensures no_document { result ≡ 10 → IsOneDocument bytes.now → ⊥ }
     ensures not_utf8 { result ≡ 6 → is_utf8 key.now ≡ false }
-    ensures listed { (result ≡ 0) ⊎ (result ≡ 6) ⊎ (result ≡ 8) ⊎ (result ≡ 10) ⊎ (result ≡ 11) }
+    ensures possible_statuses { (result ≡ 0) ⊎ (result ≡ 6) ⊎ (result ≡ 8) ⊎ (result ≡ 10) ⊎ (result ≡ 11) }
 {
     append_checked(builder, ElementType::Array, key, bytes)
 }
@@ -105,7 +105,7 @@ pub extern "C" fn vbson_append_array(builder: &mut Builder<'_>, key: &[u8], byte
 pub extern "C" fn vbson_append_int32(builder: &mut Builder<'_>, key: &[u8], value: i32) -> u32
     ensures appended { AppendsScalar key.now (scalar.int32 value) result builder.old builder.new }
     ensures not_utf8 { result ≡ 6 → is_utf8 key.now ≡ false }
-    ensures listed { (result ≡ 0) ⊎ (result ≡ 6) ⊎ (result ≡ 8) ⊎ (result ≡ 11) }
+    ensures possible_statuses { (result ≡ 0) ⊎ (result ≡ 6) ⊎ (result ≡ 8) ⊎ (result ≡ 11) }
 {
     append_bytes(
         builder,
@@ -120,7 +120,7 @@ pub extern "C" fn vbson_append_int32(builder: &mut Builder<'_>, key: &[u8], valu
 pub extern "C" fn vbson_append_int64(builder: &mut Builder<'_>, key: &[u8], value: i64) -> u32
     ensures appended { AppendsScalar key.now (scalar.int64 value) result builder.old builder.new }
     ensures not_utf8 { result ≡ 6 → is_utf8 key.now ≡ false }
-    ensures listed { (result ≡ 0) ⊎ (result ≡ 6) ⊎ (result ≡ 8) ⊎ (result ≡ 11) }
+    ensures possible_statuses { (result ≡ 0) ⊎ (result ≡ 6) ⊎ (result ≡ 8) ⊎ (result ≡ 11) }
 {
     append_bytes(
         builder,
@@ -135,7 +135,7 @@ pub extern "C" fn vbson_append_int64(builder: &mut Builder<'_>, key: &[u8], valu
 pub extern "C" fn vbson_append_double(builder: &mut Builder<'_>, key: &[u8], value: u64) -> u32
     ensures appended { AppendsScalar key.now (scalar.double value) result builder.old builder.new }
     ensures not_utf8 { result ≡ 6 → is_utf8 key.now ≡ false }
-    ensures listed { (result ≡ 0) ⊎ (result ≡ 6) ⊎ (result ≡ 8) ⊎ (result ≡ 11) }
+    ensures possible_statuses { (result ≡ 0) ⊎ (result ≡ 6) ⊎ (result ≡ 8) ⊎ (result ≡ 11) }
 {
     append_bytes(builder, ElementType::Double, key, &le_64(value))
 }
@@ -145,7 +145,7 @@ pub extern "C" fn vbson_append_double(builder: &mut Builder<'_>, key: &[u8], val
 pub extern "C" fn vbson_append_boolean(builder: &mut Builder<'_>, key: &[u8], value: u32) -> u32
     ensures appended { AppendsScalar key.now (scalar.boolean (is_true value)) result builder.old builder.new }
     ensures not_utf8 { result ≡ 6 → is_utf8 key.now ≡ false }
-    ensures listed { (result ≡ 0) ⊎ (result ≡ 6) ⊎ (result ≡ 8) ⊎ (result ≡ 11) }
+    ensures possible_statuses { (result ≡ 0) ⊎ (result ≡ 6) ⊎ (result ≡ 8) ⊎ (result ≡ 11) }
 {
     append_bytes(builder, ElementType::Boolean, key, &[u8::from(value != 0)])
 }
@@ -155,7 +155,7 @@ pub extern "C" fn vbson_append_boolean(builder: &mut Builder<'_>, key: &[u8], va
 pub extern "C" fn vbson_append_null(builder: &mut Builder<'_>, key: &[u8]) -> u32
     ensures appended { AppendsScalar key.now scalar.null result builder.old builder.new }
     ensures not_utf8 { result ≡ 6 → is_utf8 key.now ≡ false }
-    ensures listed { (result ≡ 0) ⊎ (result ≡ 6) ⊎ (result ≡ 8) ⊎ (result ≡ 11) }
+    ensures possible_statuses { (result ≡ 0) ⊎ (result ≡ 6) ⊎ (result ≡ 8) ⊎ (result ≡ 11) }
 {
     append_bytes(builder, ElementType::Null, key, &[])
 }
@@ -167,7 +167,7 @@ pub extern "C" fn vbson_append_string(builder: &mut Builder<'_>, key: &[u8], tex
     ensures typed { result ≡ 0 → IsText text.now }
     ensures not_utf8 { result ≡ 6 → (is_utf8 key.now ≡ false) ⊎ (is_utf8 text.now ≡ false) }
     ensures too_long { result ≡ 13 → 2 ^ 31 ≤ length text.now + 1 }
-    ensures listed { (result ≡ 0) ⊎ (result ≡ 6) ⊎ (result ≡ 8) ⊎ (result ≡ 11) ⊎ (result ≡ 13) }
+    ensures possible_statuses { (result ≡ 0) ⊎ (result ≡ 6) ⊎ (result ≡ 8) ⊎ (result ≡ 11) ⊎ (result ≡ 13) }
 {
     if text.len() >= 0x7fff_ffff {
         return status::TOO_LONG;
@@ -179,9 +179,9 @@ pub extern "C" fn vbson_append_string(builder: &mut Builder<'_>, key: &[u8], tex
     let element = Element {
         kind: ElementType::String,
         key,
-        head: &length,
-        body: text,
-        tail: &[0],
+        value_head: &length,
+        value_body: text,
+        value_tail: &[0],
     };
     append(builder, element)
 }
@@ -195,7 +195,7 @@ pub extern "C" fn vbson_append_object_id(
 ) -> u32
     ensures appended { AppendsScalar key.now (scalar.object_id id.now) result builder.old builder.new }
     ensures not_utf8 { result ≡ 6 → is_utf8 key.now ≡ false }
-    ensures listed { (result ≡ 0) ⊎ (result ≡ 6) ⊎ (result ≡ 8) ⊎ (result ≡ 11) }
+    ensures possible_statuses { (result ≡ 0) ⊎ (result ≡ 6) ⊎ (result ≡ 8) ⊎ (result ≡ 11) }
 {
     append_bytes(builder, ElementType::ObjectId, key, id)
 }
@@ -205,7 +205,7 @@ pub extern "C" fn vbson_append_object_id(
 pub extern "C" fn vbson_append_date_time(builder: &mut Builder<'_>, key: &[u8], millis: i64) -> u32
     ensures appended { AppendsScalar key.now (scalar.date millis) result builder.old builder.new }
     ensures not_utf8 { result ≡ 6 → is_utf8 key.now ≡ false }
-    ensures listed { (result ≡ 0) ⊎ (result ≡ 6) ⊎ (result ≡ 8) ⊎ (result ≡ 11) }
+    ensures possible_statuses { (result ≡ 0) ⊎ (result ≡ 6) ⊎ (result ≡ 8) ⊎ (result ≡ 11) }
 {
     append_bytes(
         builder,
@@ -228,7 +228,7 @@ pub extern "C" fn vbson_append_binary(
     ensures no_subtype { result ≡ 1 → 256 ≤ subtype }
     ensures not_utf8 { result ≡ 6 → is_utf8 key.now ≡ false }
     ensures too_long { result ≡ 13 → 2 ^ 31 ≤ subtyped_size subtype bytes.now }
-    ensures listed { (result ≤ 1) ⊎ (result ≡ 6) ⊎ (result ≡ 8) ⊎ (result ≡ 11) ⊎ (result ≡ 13) }
+    ensures possible_statuses { (result ≤ 1) ⊎ (result ≡ 6) ⊎ (result ≡ 8) ⊎ (result ≡ 11) ⊎ (result ≡ 13) }
 {
     if subtype >= 256 {
         return status::INVALID_ARGUMENT;
@@ -249,7 +249,7 @@ pub extern "C" fn vbson_append_decimal128(
 ) -> u32
     ensures appended { AppendsScalar key.now (scalar.decimal bytes.now) result builder.old builder.new }
     ensures not_utf8 { result ≡ 6 → is_utf8 key.now ≡ false }
-    ensures listed { (result ≡ 0) ⊎ (result ≡ 6) ⊎ (result ≡ 8) ⊎ (result ≡ 11) }
+    ensures possible_statuses { (result ≡ 0) ⊎ (result ≡ 6) ⊎ (result ≡ 8) ⊎ (result ≡ 11) }
 {
     append_bytes(builder, ElementType::Decimal128, key, bytes)
 }
@@ -260,7 +260,7 @@ fn append_plain_binary(builder: &mut Builder<'_>, key: &[u8], subtype: u8, bytes
     ensures typed { result ≡ 0 → IsLength (length bytes.now) }
     ensures not_utf8 { result ≡ 6 → is_utf8 key.now ≡ false }
     ensures too_long { result ≡ 13 → 2 ^ 31 ≤ length bytes.now }
-    ensures listed { (result ≡ 0) ⊎ (result ≡ 6) ⊎ (result ≡ 8) ⊎ (result ≡ 11) ⊎ (result ≡ 13) }
+    ensures possible_statuses { (result ≡ 0) ⊎ (result ≡ 6) ⊎ (result ≡ 8) ⊎ (result ≡ 11) ⊎ (result ≡ 13) }
 {
     if bytes.len() >= 0x8000_0000 {
         return status::TOO_LONG;
@@ -269,9 +269,9 @@ fn append_plain_binary(builder: &mut Builder<'_>, key: &[u8], subtype: u8, bytes
     let element = Element {
         kind: ElementType::Binary,
         key,
-        head: &length,
-        body: &[subtype],
-        tail: bytes,
+        value_head: &length,
+        value_body: &[subtype],
+        value_tail: bytes,
     };
     append(builder, element)
 }
@@ -283,7 +283,7 @@ fn append_old_binary(builder: &mut Builder<'_>, key: &[u8], bytes: &[u8]) -> u32
     ensures typed { result ≡ 0 → IsLength (length bytes.now + 4) }
     ensures not_utf8 { result ≡ 6 → is_utf8 key.now ≡ false }
     ensures too_long { result ≡ 13 → 2 ^ 31 ≤ length bytes.now + 4 }
-    ensures listed { (result ≡ 0) ⊎ (result ≡ 6) ⊎ (result ≡ 8) ⊎ (result ≡ 11) ⊎ (result ≡ 13) }
+    ensures possible_statuses { (result ≡ 0) ⊎ (result ≡ 6) ⊎ (result ≡ 8) ⊎ (result ≡ 11) ⊎ (result ≡ 13) }
 {
     if bytes.len() >= 0x7fff_fffc {
         return status::TOO_LONG;
@@ -293,20 +293,20 @@ fn append_old_binary(builder: &mut Builder<'_>, key: &[u8], bytes: &[u8]) -> u32
     let element = Element {
         kind: ElementType::Binary,
         key,
-        head: &outer,
-        body: &[2, inner[0], inner[1], inner[2], inner[3]],
-        tail: bytes,
+        value_head: &outer,
+        value_body: &[2, inner[0], inner[1], inner[2], inner[3]],
+        value_tail: bytes,
     };
     append(builder, element)
 }
 
 // Begins a document or an array as the value of the key.
 fn begin(builder: &mut Builder<'_>, kind: ElementType, key: &[u8], start: &mut usize) -> u32
-    ensures appended { Appends kind key.now no_length result builder.old builder.new }
+    ensures appended { Appends kind key.now length_placeholder result builder.old builder.new }
     ensures start { result ≡ 0 → start.new + 4 ≡ builder.new.len }
     ensures not_utf8 { result ≡ 6 → is_utf8 key.now ≡ false }
-    ensures listed { (result ≡ 0) ⊎ (result ≡ 6) ⊎ (result ≡ 8) ⊎ (result ≡ 11) }
-    ensures kept { 0 < result → start.new ≡ start.old }
+    ensures possible_statuses { (result ≡ 0) ⊎ (result ≡ 6) ⊎ (result ≡ 8) ⊎ (result ≡ 11) }
+    ensures unchanged { 0 < result → start.new ≡ start.old }
 {
     let status = append_bytes(builder, kind, key, &[0, 0, 0, 0]);
     if status == status::OK {
@@ -321,7 +321,7 @@ fn append_checked(builder: &mut Builder<'_>, kind: ElementType, key: &[u8], byte
     ensures checked { result ≡ 0 → IsOneDocument bytes.now }
     ensures no_document { result ≡ 10 → IsOneDocument bytes.now → ⊥ }
     ensures not_utf8 { result ≡ 6 → is_utf8 key.now ≡ false }
-    ensures listed { (result ≡ 0) ⊎ (result ≡ 6) ⊎ (result ≡ 8) ⊎ (result ≡ 10) ⊎ (result ≡ 11) }
+    ensures possible_statuses { (result ≡ 0) ⊎ (result ≡ 6) ⊎ (result ≡ 8) ⊎ (result ≡ 10) ⊎ (result ≡ 11) }
 {
     let status = vbson_is_document(bytes);
     if status != status::OK {
@@ -334,14 +334,14 @@ fn append_checked(builder: &mut Builder<'_>, kind: ElementType, key: &[u8], byte
 fn append_bytes(builder: &mut Builder<'_>, kind: ElementType, key: &[u8], bytes: &[u8]) -> u32
     ensures appended { Appends kind key.now bytes.now result builder.old builder.new }
     ensures not_utf8 { result ≡ 6 → is_utf8 key.now ≡ false }
-    ensures listed { (result ≡ 0) ⊎ (result ≡ 6) ⊎ (result ≡ 8) ⊎ (result ≡ 11) }
+    ensures possible_statuses { (result ≡ 0) ⊎ (result ≡ 6) ⊎ (result ≡ 8) ⊎ (result ≡ 11) }
 {
     let element = Element {
         kind,
         key,
-        head: bytes,
-        body: &[],
-        tail: &[],
+        value_head: bytes,
+        value_body: &[],
+        value_tail: &[],
     };
     append(builder, element)
 }

@@ -7,8 +7,8 @@ ghost use Rattle.bson_bytes.specs.Grammar.{IsLength, little_endian};
 ghost use Rattle.bson_bytes.specs.Writing.{document_bytes, elements_bytes, name_bytes, type_of, value_bytes};
 ghost use Rattle.bson_model.specs.HashInput.{items_count};
 ghost use Rattle.bson_model.specs.Value.{Pairs, Value, Values, array, no_pairs, no_values};
-ghost use Rattle.vbson.specs.Builder.{Appends, IsAppended, IsBuilt, IsFramed, HasSameBytes, IsOpenDocument, IsOpenArray, IsTooSmall};
-ghost use Rattle.vbson.specs.Builder.{and_pair, and_value, built, no_length, value_in};
+ghost use Rattle.vbson.specs.Builder.{Appends, IsAppended, AppendsBytes, IsFramed, HasSameBytes, IsOpenDocument, IsOpenArray, IsTooSmall};
+ghost use Rattle.vbson.specs.Builder.{append_pair, append_value, written_bytes, length_placeholder, element_value};
 
 use crate::status;
 use bson_bytes::read_parts::has_no_nul;
@@ -29,18 +29,18 @@ pub struct Builder<'a> {
 pub struct Element<'a> {
     pub kind: ElementType,
     pub key: &'a [u8],
-    pub head: &'a [u8],
-    pub body: &'a [u8],
-    pub tail: &'a [u8],
+    pub value_head: &'a [u8],
+    pub value_body: &'a [u8],
+    pub value_tail: &'a [u8],
 }
 
 /// Begins a document, and sets the position of its beginning.
 #[unsafe(no_mangle)]
 pub extern "C" fn vbson_document_begin(builder: &mut Builder<'_>, start: &mut usize) -> u32
-    ensures done { result ≡ 0 → IsAppended no_length builder.old builder.new × (start.new ≡ builder.old.len) }
+    ensures success { result ≡ 0 → IsAppended length_placeholder builder.old builder.new × (start.new ≡ builder.old.len) }
     ensures too_small { result ≡ 8 → IsTooSmall 4 builder.old builder.new }
-    ensures listed { (result ≡ 0) ⊎ (result ≡ 8) }
-    ensures kept { 0 < result → HasSameBytes builder.old builder.new × (start.new ≡ start.old) }
+    ensures possible_statuses { (result ≡ 0) ⊎ (result ≡ 8) }
+    ensures unchanged { 0 < result → HasSameBytes builder.old builder.new × (start.new ≡ start.old) }
     ensures needed { result ≢ 8 → builder.new.needed ≡ builder.old.needed }
     ensures memory { builder.new.bytes.ghost_name ≡ builder.old.bytes.ghost_name }
 {
@@ -48,7 +48,7 @@ pub extern "C" fn vbson_document_begin(builder: &mut Builder<'_>, start: &mut us
         return status::BUFFER_TOO_SMALL;
     }
     *start = builder.len;
-    put(builder, &[0, 0, 0, 0]);
+    push_bytes(builder, &[0, 0, 0, 0]);
     status::OK
 }
 
@@ -56,19 +56,19 @@ pub extern "C" fn vbson_document_begin(builder: &mut Builder<'_>, start: &mut us
 /// last byte.
 #[unsafe(no_mangle)]
 pub extern "C" fn vbson_document_end(builder: &mut Builder<'_>, start: usize) -> u32
-    ensures done { result ≡ 0 → IsFramed start builder.old builder.new }
+    ensures success { result ≡ 0 → IsFramed start builder.old builder.new }
     // The elements become the canonical bytes of the document of their pairs, or of the array of their values.
-    ensures document { (front : List ℕ) (ps : Pairs) → result ≡ 0 → start ≡ length front → IsOpenDocument front ps builder.old
-        → (built builder.new ≡ front ++ document_bytes ps) × IsLength (length (elements_bytes ps) + 5) }
-    ensures array { (front : List ℕ) (vs : Values) → result ≡ 0 → start ≡ length front
-        → IsOpenArray front vs builder.old → built builder.new ≡ front ++ value_bytes (array vs) }
+    ensures document { (prefix : List ℕ) (ps : Pairs) → result ≡ 0 → start ≡ length prefix → IsOpenDocument prefix ps builder.old
+        → (written_bytes builder.new ≡ prefix ++ document_bytes ps) × IsLength (length (elements_bytes ps) + 5) }
+    ensures array { (prefix : List ℕ) (vs : Values) → result ≡ 0 → start ≡ length prefix
+        → IsOpenArray prefix vs builder.old → written_bytes builder.new ≡ prefix ++ value_bytes (array vs) }
 
     // When each other status comes, and that nothing is changed then.
     ensures no_start { result ≡ 1 → builder.old.len < start + 4 }
     ensures too_small { result ≡ 8 → IsTooSmall 1 builder.old builder.new }
     ensures too_long { result ≡ 13 → 2 ^ 31 ≤ builder.old.len - start + 1 }
-    ensures listed { (result ≡ 0) ⊎ (result ≡ 1) ⊎ (result ≡ 8) ⊎ (result ≡ 13) }
-    ensures kept { 0 < result → HasSameBytes builder.old builder.new }
+    ensures possible_statuses { (result ≡ 0) ⊎ (result ≡ 1) ⊎ (result ≡ 8) ⊎ (result ≡ 13) }
+    ensures unchanged { 0 < result → HasSameBytes builder.old builder.new }
     ensures needed { result ≢ 8 → builder.new.needed ≡ builder.old.needed }
     ensures memory { builder.new.bytes.ghost_name ≡ builder.old.bytes.ghost_name }
 {
@@ -84,16 +84,16 @@ pub extern "C" fn vbson_document_end(builder: &mut Builder<'_>, start: usize) ->
     if !has_room(builder, 1) {
         return status::BUFFER_TOO_SMALL;
     }
-    put(builder, &[0]);
-    put_length(builder, start);
+    push_bytes(builder, &[0]);
+    set_length(builder, start);
     status::OK
 }
 
 /// Appends an element.
 pub fn append(builder: &mut Builder<'_>, element: Element<'_>) -> u32
-    ensures appended { Appends element.entry.kind element.entry.key.now (value_in element.entry) result builder.old builder.new }
+    ensures appended { Appends element.entry.kind element.entry.key.now (element_value element.entry) result builder.old builder.new }
     ensures not_utf8 { result ≡ 6 → is_utf8 element.entry.key.now ≡ false }
-    ensures listed { (result ≡ 0) ⊎ (result ≡ 6) ⊎ (result ≡ 8) ⊎ (result ≡ 11) }
+    ensures possible_statuses { (result ≡ 0) ⊎ (result ≡ 6) ⊎ (result ≡ 8) ⊎ (result ≡ 11) }
 {
     if !has_no_nul(element.key) {
         return status::ZERO_IN_KEY;
@@ -104,8 +104,8 @@ pub fn append(builder: &mut Builder<'_>, element: Element<'_>) -> u32
     if !has_room(builder, size_of(element)) {
         return status::BUFFER_TOO_SMALL;
     }
-    put_name(builder, element);
-    put_value(builder, element);
+    push_name(builder, element);
+    push_value(builder, element);
     status::OK
 }
 
@@ -124,7 +124,7 @@ pub fn has_room(builder: &mut Builder<'_>, more: usize) -> bool
     ensures fits { IsTrue result → builder.old.len + more ≤ length builder.old.bytes.now }
     ensures same { IsTrue result → builder.new ≡ builder.old }
     ensures too_small { result ≡ false → IsTooSmall more builder.old builder.new }
-    ensures kept { HasSameBytes builder.old builder.new }
+    ensures unchanged { HasSameBytes builder.old builder.new }
     ensures memory { builder.new.bytes.ghost_name ≡ builder.old.bytes.ghost_name }
 {
     let size = builder.len.saturating_add(more);
@@ -137,40 +137,40 @@ pub fn has_room(builder: &mut Builder<'_>, more: usize) -> bool
 
 // Returns the number of bytes of the element.
 fn size_of(element: Element<'_>) -> usize
-    ensures { result ≡ min (length (name_bytes element.entry.kind element.entry.key.now ++ value_in element.entry)) (2 ^ 64 - 1) }
+    ensures { result ≡ min (length (name_bytes element.entry.kind element.entry.key.now ++ element_value element.entry)) (2 ^ 64 - 1) }
 {
     let name = element.key.len() + 2;
-    let value = element.head.len().saturating_add(element.body.len());
+    let value = element.value_head.len().saturating_add(element.value_body.len());
     name.saturating_add(value)
-        .saturating_add(element.tail.len())
+        .saturating_add(element.value_tail.len())
 }
 
-fn put_name(builder: &mut Builder<'_>, element: Element<'_>)
+fn push_name(builder: &mut Builder<'_>, element: Element<'_>)
     requires { builder.old.len + length (name_bytes element.kind element.key.now) ≤ length builder.old.bytes.now }
-    ensures put { IsAppended (name_bytes element.entry.kind element.entry.key.now) builder.old builder.new }
+    ensures push_bytes { IsAppended (name_bytes element.entry.kind element.entry.key.now) builder.old builder.new }
     ensures needed { builder.new.needed ≡ builder.old.needed }
     ensures memory { builder.new.bytes.ghost_name ≡ builder.old.bytes.ghost_name }
 {
-    put(builder, &[element.kind.tag()]);
-    put(builder, element.key);
-    put(builder, &[0]);
+    push_bytes(builder, &[element.kind.tag()]);
+    push_bytes(builder, element.key);
+    push_bytes(builder, &[0]);
 }
 
-fn put_value(builder: &mut Builder<'_>, element: Element<'_>)
-    requires { builder.old.len + length (value_in element) ≤ length builder.old.bytes.now }
-    ensures put { IsAppended (value_in element.entry) builder.old builder.new }
+fn push_value(builder: &mut Builder<'_>, element: Element<'_>)
+    requires { builder.old.len + length (element_value element) ≤ length builder.old.bytes.now }
+    ensures push_bytes { IsAppended (element_value element.entry) builder.old builder.new }
     ensures needed { builder.new.needed ≡ builder.old.needed }
     ensures memory { builder.new.bytes.ghost_name ≡ builder.old.bytes.ghost_name }
 {
-    put(builder, element.head);
-    put(builder, element.body);
-    put(builder, element.tail);
+    push_bytes(builder, element.value_head);
+    push_bytes(builder, element.value_body);
+    push_bytes(builder, element.value_tail);
 }
 
 /// Appends bytes, for which there is room.
-pub fn put(builder: &mut Builder<'_>, bytes: &[u8])
+pub fn push_bytes(builder: &mut Builder<'_>, bytes: &[u8])
     requires { builder.old.len + length bytes.now ≤ length builder.old.bytes.now }
-    ensures put { IsAppended bytes.now builder.old builder.new }
+    ensures push_bytes { IsAppended bytes.now builder.old builder.new }
     ensures needed { builder.new.needed ≡ builder.old.needed }
     ensures memory { builder.new.bytes.ghost_name ≡ builder.old.bytes.ghost_name }
 {
@@ -181,12 +181,12 @@ pub fn put(builder: &mut Builder<'_>, bytes: &[u8])
 
 // Sets the length of the bytes from the start on.
 #[tactic(auto, unfolding(bson_bytes::specs::Grammar::little_endian))]
-fn put_length(builder: &mut Builder<'_>, start: usize)
+fn set_length(builder: &mut Builder<'_>, start: usize)
     requires starts { start + 4 ≤ builder.old.len }
-    requires built { builder.old.len ≤ length builder.old.bytes.now }
+    requires written_bytes { builder.old.len ≤ length builder.old.bytes.now }
     requires counts { builder.old.len - start < 2 ^ 31 }
-    ensures built { built builder.new
-        ≡ take start (built builder.old) ++ (little_endian w32 (builder.old.len - start) ++ drop (start + 4) (built builder.old)) }
+    ensures written_bytes { written_bytes builder.new
+        ≡ take start (written_bytes builder.old) ++ (little_endian w32 (builder.old.len - start) ++ drop (start + 4) (written_bytes builder.old)) }
     ensures rest { drop builder.old.len builder.new.bytes.now ≡ drop builder.old.len builder.old.bytes.now }
     ensures size { length builder.new.bytes.now ≡ length builder.old.bytes.now }
     ensures len { builder.new.len ≡ builder.old.len }
@@ -200,11 +200,11 @@ fn put_length(builder: &mut Builder<'_>, start: usize)
 
 /// Proves that what is appended after the beginning of a document or an array are its elements.
 pub fn appended_elements_are_values()
-    ensures begun { (front name : List ℕ) (a b : Builder) → built a ≡ front → IsBuilt (name ++ no_length) a b
-        → IsOpenDocument (front ++ name) no_pairs b × IsOpenArray (front ++ name) no_values b }
-    ensures appended { (front : List ℕ) (ps : Pairs) (k : List ℕ) (v : Value) (a b : Builder) → IsOpenDocument front ps a
-        → IsBuilt (name_bytes (type_of v) k ++ value_bytes v) a b → IsOpenDocument front (and_pair ps k v) b }
-    ensures in_array { (front : List ℕ) (vs : Values) (v : Value) (a b : Builder) → IsOpenArray front vs a
-        → IsBuilt (name_bytes (type_of v) (decimal (items_count vs)) ++ value_bytes v) a b
-        → IsOpenArray front (and_value vs v) b }
+    ensures begun { (prefix name : List ℕ) (a b : Builder) → written_bytes a ≡ prefix → AppendsBytes (name ++ length_placeholder) a b
+        → IsOpenDocument (prefix ++ name) no_pairs b × IsOpenArray (prefix ++ name) no_values b }
+    ensures appended { (prefix : List ℕ) (ps : Pairs) (k : List ℕ) (v : Value) (a b : Builder) → IsOpenDocument prefix ps a
+        → AppendsBytes (name_bytes (type_of v) k ++ value_bytes v) a b → IsOpenDocument prefix (append_pair ps k v) b }
+    ensures in_array { (prefix : List ℕ) (vs : Values) (v : Value) (a b : Builder) → IsOpenArray prefix vs a
+        → AppendsBytes (name_bytes (type_of v) (decimal (items_count vs)) ++ value_bytes v) a b
+        → IsOpenArray prefix (append_value vs v) b }
 {}

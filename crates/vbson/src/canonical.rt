@@ -18,10 +18,10 @@ pub extern "C" fn vbson_is_canonical_text_nonnull(
     options: &CallOptions,
     text: &[u8],
 ) -> u32
-    ensures done { result ≡ 0 → IsCanonicalText (options_of_flags options.now) text.now }
+    ensures success { result ≡ 0 → IsCanonicalText (options_of_flags options.now) text.now }
     ensures not_canonical { result ≡ 16 → IsCanonicalText (options_of_flags options.now) text.now → ⊥ }
-    ensures no_mode { result ≡ 1 ↔ AreNotForConversion options.now ⊎ AreNotForReading options.now }
-    ensures listed { (result ≡ 0) ⊎ (result ≡ 1) ⊎ (result ≡ 5) ⊎ (result ≡ 16) }
+    ensures invalid_argument { result ≡ 1 ↔ AreNotForConversion options.now ⊎ AreNotForReading options.now }
+    ensures possible_statuses { (result ≡ 0) ⊎ (result ≡ 1) ⊎ (result ≡ 5) ⊎ (result ≡ 16) }
 {
     if are_not_for_conversion(*options) || are_not_for_reading(*options) {
         return status::INVALID_ARGUMENT;

@@ -7,10 +7,10 @@ ghost use Rattle.bson_model.specs.Value as model;
 ghost use Rattle.bson_convert.specs.Convert.{IsRefusedIn, newline};
 ghost use Rattle.bson.specs.TextMeaning.{IsNotJsonText, IsTextOf};
 ghost use Rattle.bson_convert.specs.declared.mode.Mode.{Mode};
-ghost use Rattle.vbson.specs.Convert.{HasNoMeaningIn, IsBad, IsBadId, IsCauseIn};
+ghost use Rattle.vbson.specs.Convert.{IsInvalidExtendedJson, IsInvalidShape, IsBadObjectId, IsCauseOfStatus};
 ghost use Rattle.bson_run.specs.InOrder.{ConvertsBy};
 ghost use Rattle.vbson.specs.Convert.{IsConvertedBy, IsTextError};
-ghost use Rattle.vbson.specs.Convert.{mode_at, options_of_flags, status_of};
+ghost use Rattle.vbson.specs.Convert.{mode_of_number, options_of_flags, status_of};
 ghost use Rattle.vbson.specs.Options.{AreNotForConversion};
 ghost use Rattle.vbson.specs.Text.{nul};
 
@@ -37,20 +37,20 @@ pub extern "C" fn vbson_convert_nonnull(
     text: &[u8],
     out: &mut Text<'static>,
 ) -> u32
-    ensures done { result ≡ 0 → IsConvertedBy (options_of_flags options.now) mode text.now out.new }
-    ensures one { result ≡ 0 → (m : Mode) (other : List ℕ) → mode_at mode ≡ Some m
-        → ConvertsBy (options_of_flags options.now).key_order (options_of_flags options.now) m text.now (other ++ newline)
+    ensures success { result ≡ 0 → IsConvertedBy (options_of_flags options.now) mode text.now out.new }
+    ensures one { result ≡ 0 → (selected : Mode) (other : List ℕ) → mode_of_number mode ≡ Some selected
+        → ConvertsBy (options_of_flags options.now).key_order (options_of_flags options.now) selected text.now (other ++ newline)
         → out.new.bytes.now ≡ other ++ nul }
     ensures accepts { (tree : Data) (value : model.Value) → IsTextOf text.now tree
         → MeansIn (options_of_flags options.now).doubles tree value → 1 < result → result ≡ 5 }
 
     // When each other status comes, and that nothing is left then.
-    ensures no_mode { result ≡ 1 ↔ (2 < mode) ⊎ AreNotForConversion options.now }
+    ensures invalid_argument { result ≡ 1 ↔ (2 < mode) ⊎ AreNotForConversion options.now }
     ensures not_json { result ≡ 2 → IsNotJsonText text.now }
-    ensures bad_object_id { result ≡ 3 → HasNoMeaningIn (options_of_flags options.now) IsBadId text.now }
-    ensures not_extended_json { result ≡ 4 → HasNoMeaningIn (options_of_flags options.now) IsBad text.now }
-    ensures listed { result ≤ 5 }
-    ensures kept { 0 < result → out.new ≡ out.old }
+    ensures bad_object_id { result ≡ 3 → IsInvalidExtendedJson (options_of_flags options.now) IsBadObjectId text.now }
+    ensures not_extended_json { result ≡ 4 → IsInvalidExtendedJson (options_of_flags options.now) IsInvalidShape text.now }
+    ensures possible_statuses { result ≤ 5 }
+    ensures unchanged { 0 < result → out.new ≡ out.old }
 {
     if are_not_for_conversion(*options) {
         return status::INVALID_ARGUMENT;
@@ -67,7 +67,7 @@ pub extern "C" fn vbson_convert_nonnull(
 
 /// Returns the mode that a number selects.
 pub(crate) fn mode_of(number: u32) -> Option<Mode>
-    ensures { result ≡ mode_at number }
+    ensures { result ≡ mode_of_number number }
 {
     match number {
         0 => Some(Mode::Canonical),
@@ -81,8 +81,8 @@ pub(crate) fn mode_of(number: u32) -> Option<Mode>
 pub fn status_of(fault: Error) -> u32
     requires { IsTextError fault }
     ensures number { result ≡ status_of fault }
-    ensures cause { (o : Options) (bytes : List ℕ) → IsRefusedIn o fault bytes → IsCauseIn o result bytes }
-    ensures listed { (o : Options) (bytes : List ℕ) → IsRefusedIn o fault bytes → result ≤ 5 }
+    ensures cause { (options : Options) (bytes : List ℕ) → IsRefusedIn options fault bytes → IsCauseOfStatus options result bytes }
+    ensures possible_statuses { (options : Options) (bytes : List ℕ) → IsRefusedIn options fault bytes → result ≤ 5 }
 {
     match fault {
         Error::NotJson => status::NOT_JSON,

@@ -8,12 +8,12 @@ ghost use Rattle.bson_model.specs.Value as model;
 ghost use Rattle.bson_model.specs.Value.{Pairs};
 ghost use Rattle.bson_convert.specs.Convert.{newline};
 ghost use Rattle.vbson.specs.Convert.{options_of_flags};
-ghost use Rattle.vbson.specs.Documents.{Decodes, HasNoText, IsDecoded, IsOneDocument, IsTextOfDocument, IsUndecoded};
+ghost use Rattle.vbson.specs.Documents.{Decodes, HasNoText, IsDecoded, IsOneDocument, IsTextOfDocument, IsDecodeFailure};
 ghost use Rattle.vbson.specs.Documents.{HasNoTextIn, depth};
 ghost use Rattle.vbson.specs.Options.{AreNotForConversion};
 
 use crate::convert::mode_of;
-use crate::direct::{decode_directly, direct_form};
+use crate::streaming::{decode_streaming, streaming_form};
 use crate::options::{CallOptions, are_not_for_conversion, options_of};
 use crate::status;
 use crate::text::{Text, as_line, text_of_line};
@@ -33,16 +33,16 @@ pub extern "C" fn vbson_decode_nonnull(
     bytes: &[u8],
     out: &mut Text<'static>,
 ) -> u32
-    ensures done { result ≡ 0 → IsDecoded (options_of_flags options.now) mode bytes.now out.new }
+    ensures success { result ≡ 0 → IsDecoded (options_of_flags options.now) mode bytes.now out.new }
     ensures accepts { (ps : Pairs) → IsRead depth bytes.now ps
         → writable_in (options_of_flags options.now).doubles (model.document ps) ≡ true → 1 < result → result ≡ 5 }
 
     // When each other status comes, and that nothing is left then.
-    ensures no_mode { result ≡ 1 ↔ (2 < mode) ⊎ AreNotForConversion options.now }
+    ensures invalid_argument { result ≡ 1 ↔ (2 < mode) ⊎ AreNotForConversion options.now }
     ensures no_document { result ≡ 10 → IsOneDocument bytes.now → ⊥ }
     ensures no_text { result ≡ 7 → HasNoText (options_of_flags options.now) mode bytes.now }
-    ensures listed { (result ≡ 0) ⊎ (result ≡ 1) ⊎ (result ≡ 5) ⊎ (result ≡ 7) ⊎ (result ≡ 10) }
-    ensures kept { 0 < result → out.new ≡ out.old }
+    ensures possible_statuses { (result ≡ 0) ⊎ (result ≡ 1) ⊎ (result ≡ 5) ⊎ (result ≡ 7) ⊎ (result ≡ 10) }
+    ensures unchanged { 0 < result → out.new ≡ out.old }
 {
     if are_not_for_conversion(*options) {
         return status::INVALID_ARGUMENT;
@@ -66,10 +66,10 @@ fn decode_document(
 ) -> Result<Vec<u8>, u32>
     ensures ok { IfOk result (λ line. (text : List ℕ) × Decodes options mode bytes.now text × IsUtf8 text
         × (line.items ≡ text ++ newline)) }
-    ensures refused { IfErr result (λ status. IsUndecoded options mode status bytes.now) }
+    ensures error_status { IfErr result (λ status. IsDecodeFailure options mode status bytes.now) }
 {
-    match direct_form(options, mode) {
-        Some(form) => decode_directly(alloc, form, bytes),
+    match streaming_form(options, mode) {
+        Some(form) => decode_streaming(alloc, form, bytes),
         None => decode_by_value(alloc, options, mode, bytes),
     }
 }
@@ -83,7 +83,7 @@ fn decode_by_value(
 ) -> Result<Vec<u8>, u32>
     ensures ok { IfOk result (λ line. (text : List ℕ) × Decodes options mode bytes.now text × IsUtf8 text
         × (line.items ≡ text ++ newline)) }
-    ensures refused { IfErr result (λ status. IsUndecoded options mode status bytes.now) }
+    ensures error_status { IfErr result (λ status. IsDecodeFailure options mode status bytes.now) }
 {
     match from_slice(alloc, bytes, DEPTH) {
         Ok(document) => write_document(alloc, options, mode, document),
@@ -102,7 +102,7 @@ fn write_document(
     ensures ok { IfOk result (λ line. (text : List ℕ)
         × IsTextOfDocument options mode (document_view document) text × IsUtf8 text
         × (line.items ≡ text ++ newline)) }
-    ensures refused { IfErr result
+    ensures error_status { IfErr result
         (λ status. (status ≡ 5) ⊎ ((status ≡ 7) × HasNoTextIn options mode (document_view document))) }
 {
     let form = match mode {
@@ -124,7 +124,7 @@ fn write_document(
 /// - `OUT_OF_MEMORY`: an allocation failed.
 pub fn end_line(text: String) -> Result<Vec<u8>, u32>
     ensures ok { IfOk result (λ line. IsUtf8 (string_bytes text) × (line.items ≡ string_bytes text ++ newline)) }
-    ensures refused { IfErr result (λ status. status ≡ 5) }
+    ensures error_status { IfErr result (λ status. status ≡ 5) }
 {
     as_line(text.into_bytes())
 }
@@ -133,7 +133,7 @@ pub fn end_line(text: String) -> Result<Vec<u8>, u32>
 fn show_document(alloc: Global, document: &Document) -> Result<Vec<u8>, u32>
     ensures ok { IfOk result (λ line. IsUtf8 (display_text (model.document (document_view document.now)))
         × (line.items ≡ display_text (model.document (document_view document.now)) ++ newline)) }
-    ensures refused { IfErr result (λ status. status ≡ 5) }
+    ensures error_status { IfErr result (λ status. status ≡ 5) }
 {
     match format!(in alloc; "{document}\n") {
         Ok(line) => Ok(line.into_bytes()),

@@ -2,12 +2,12 @@
 ghost use Rattle.std.specs.Prelude.{◌≡◌, ◌⊎◌, ◌↔◌, ◌<◌, ◌++◌, IfOk, IsUtf8};
 ghost use Rattle.bson.specs.View.{document_view};
 ghost use Rattle.bson_convert.specs.Convert.{newline};
-ghost use Rattle.vbson.specs.DocumentError.{ArePartsFor, ExplainsDocument, HasDocumentText, IsFinding, IsOfDocument};
-ghost use Rattle.vbson.specs.DocumentError.{SaysOf, code_for, message_for, offset_for, reason_for, unwritten, document_error_message};
+ghost use Rattle.vbson.specs.DocumentError.{AreFieldsOfFinding, ExplainsDocument, HasDocumentText, IsFinding, IsFindingOfDocument};
+ghost use Rattle.vbson.specs.DocumentError.{ReportsFinding, finding_code, finding_message, finding_offset, finding_reason, not_representable_message, malformed_message};
 ghost use Rattle.vbson.specs.Options.{AreInvalid};
 ghost use Rattle.vbson.specs.declared.document_error.Finding.TheVariants.{Nothing};
 
-use crate::explain::{Parts, Rejection, filled, line_of};
+use crate::explain::{RejectionFields, Rejection, rejection_with_fields, line_of};
 use crate::options::{CallOptions, are_invalid, duplicate_keys_of, options_of};
 use crate::path::path_line;
 use crate::status;
@@ -44,15 +44,15 @@ pub extern "C" fn vbson_explain_document_nonnull(
     bytes: &[u8],
     out: &mut Rejection<'static>,
 ) -> u32
-    ensures done { result ≡ 0 → ExplainsDocument options.now bytes.now out.new }
+    ensures success { result ≡ 0 → ExplainsDocument options.now bytes.now out.new }
     // The code is 0 if and only if the bytes are a document that has a text.
     ensures accepted { result ≡ 0 → out.new.code ≡ 0 → HasDocumentText options.now bytes.now }
     ensures accepts { HasDocumentText options.now bytes.now → result ≡ 0 → out.new.code ≡ 0 }
 
     // When each other status comes, and that nothing is left then.
-    ensures no_mode { result ≡ 1 ↔ AreInvalid options.now }
-    ensures listed { (result ≡ 0) ⊎ (result ≡ 1) ⊎ (result ≡ 5) }
-    ensures kept { 0 < result → out.new ≡ out.old }
+    ensures invalid_argument { result ≡ 1 ↔ AreInvalid options.now }
+    ensures possible_statuses { (result ≡ 0) ⊎ (result ≡ 1) ⊎ (result ≡ 5) }
+    ensures unchanged { 0 < result → out.new ≡ out.old }
 {
     if are_invalid(*options) {
         return status::INVALID_ARGUMENT;
@@ -71,7 +71,7 @@ fn explained(
     options: CallOptions,
     bytes: &[u8],
 ) -> Result<Rejection<'static>, PathError>
-    ensures said { IfOk result (λ out. ExplainsDocument options bytes.now out) }
+    ensures error_report { IfOk result (λ out. ExplainsDocument options bytes.now out) }
     ensures accepts { HasDocumentText options bytes.now → IfOk result (λ out. out.code ≡ 0) }
 {
     let finding = find(alloc, options, bytes)?;
@@ -80,8 +80,8 @@ fn explained(
 
 // Finds what is wrong with the bytes, under the options.
 fn find(alloc: Global, options: CallOptions, bytes: &[u8]) -> Result<Finding, AllocError>
-    ensures found { IfOk result (λ it. IsFinding options bytes.now it) }
-    ensures accepts { HasDocumentText options bytes.now → IfOk result (λ it. it ≡ Nothing) }
+    ensures found { IfOk result (λ finding. IsFinding options bytes.now finding) }
+    ensures accepts { HasDocumentText options bytes.now → IfOk result (λ finding. finding ≡ Nothing) }
 {
     let reading = ReadOptions {
         depth: DEPTH,
@@ -96,7 +96,7 @@ fn find(alloc: Global, options: CallOptions, bytes: &[u8]) -> Result<Finding, Al
 
 // Finds whether the document has a text.
 fn find_double(alloc: Global, options: Options, document: Document) -> Result<Finding, AllocError>
-    ensures found { IfOk result (λ it. IsOfDocument options (document_view document) it) }
+    ensures found { IfOk result (λ finding. IsFindingOfDocument options (document_view document) finding) }
 {
     match Bson::Document(document).into_text(alloc, options, Form::Canonical) {
         Ok(_) => Ok(Finding::Nothing),
@@ -107,20 +107,20 @@ fn find_double(alloc: Global, options: Options, document: Document) -> Result<Fi
 
 // Returns the error struct for the finding.
 fn rejection_of(alloc: Global, finding: Finding) -> Result<Rejection<'static>, PathError>
-    ensures said { IfOk result (λ out. SaysOf finding out) }
+    ensures error_report { IfOk result (λ out. ReportsFinding finding out) }
 {
     let message = message_of(alloc, finding)?;
-    let parts = parts_of(alloc, finding)?;
-    Ok(filled(parts, message))
+    let fields = fields_of(alloc, finding)?;
+    Ok(rejection_with_fields(fields, message))
 }
 
 // Returns the fields of the error struct for the finding.
-fn parts_of(alloc: Global, finding: Finding) -> Result<Parts, PathError>
-    ensures said { IfOk result (λ parts. ArePartsFor finding parts) }
+fn fields_of(alloc: Global, finding: Finding) -> Result<RejectionFields, PathError>
+    ensures error_report { IfOk result (λ fields. AreFieldsOfFinding finding fields) }
 {
     let path = path_line(alloc, &[])?;
     let reason = line_of(alloc, reason_of(finding))?;
-    Ok(Parts {
+    Ok(RejectionFields {
         code: code_of(finding),
         line: 0,
         column: 0,
@@ -132,7 +132,7 @@ fn parts_of(alloc: Global, finding: Finding) -> Result<Parts, PathError>
 
 // Returns the status of the finding.
 fn code_of(finding: Finding) -> u32
-    ensures { result ≡ code_for finding }
+    ensures { result ≡ finding_code finding }
 {
     match finding {
         Finding::Nothing => status::OK,
@@ -143,7 +143,7 @@ fn code_of(finding: Finding) -> u32
 
 // Returns the offset of the fault, or 0.
 fn offset_of(finding: Finding) -> usize
-    ensures { result ≡ offset_for finding }
+    ensures { result ≡ finding_offset finding }
 {
     match finding {
         Finding::Malformed { offset, .. } => offset,
@@ -153,7 +153,7 @@ fn offset_of(finding: Finding) -> usize
 
 // Returns what is wrong, as a message for people.
 fn reason_of(finding: Finding) -> &'static str
-    ensures { result.now ≡ reason_for finding }
+    ensures { result.now ≡ finding_reason finding }
 {
     match finding {
         Finding::Nothing => "",
@@ -164,29 +164,29 @@ fn reason_of(finding: Finding) -> &'static str
 
 // Returns the message of the finding, and a newline.
 fn message_of(alloc: Global, finding: Finding) -> Result<Vec<u8>, AllocError>
-    ensures { IfOk result (λ line. IsUtf8 (message_for finding) × (line.items ≡ message_for finding ++ newline)) }
+    ensures { IfOk result (λ line. IsUtf8 (finding_message finding) × (line.items ≡ finding_message finding ++ newline)) }
 {
-    let words = reason_of(finding);
+    let description = reason_of(finding);
     match finding {
         Finding::Nothing => Vec::from_slice(alloc, b"\n"),
-        Finding::Malformed { offset, .. } => line_at(alloc, offset, words),
-        Finding::FiniteDouble => unwritten_line(alloc, words),
+        Finding::Malformed { offset, .. } => line_at(alloc, offset, description),
+        Finding::FiniteDouble => not_representable_line(alloc, description),
     }
 }
 
 // Returns the message for a fault at the offset, and a newline.
-fn line_at(alloc: Global, offset: usize, words: &str) -> Result<Vec<u8>, AllocError>
-    ensures { IfOk result (λ line. IsUtf8 (document_error_message offset words.now)
-        × (line.items ≡ document_error_message offset words.now ++ newline)) }
+fn line_at(alloc: Global, offset: usize, description: &str) -> Result<Vec<u8>, AllocError>
+    ensures { IfOk result (λ line. IsUtf8 (malformed_message offset description.now)
+        × (line.items ≡ malformed_message offset description.now ++ newline)) }
 {
-    let line = format!(in alloc; "not a document at byte {offset} ({words})\n")?;
+    let line = format!(in alloc; "not a document at byte {offset} ({description})\n")?;
     Ok(line.into_bytes())
 }
 
 // Returns the message for a document that has no text, and a newline.
-fn unwritten_line(alloc: Global, words: &str) -> Result<Vec<u8>, AllocError>
-    ensures { IfOk result (λ line. IsUtf8 (unwritten words.now) × (line.items ≡ unwritten words.now ++ newline)) }
+fn not_representable_line(alloc: Global, description: &str) -> Result<Vec<u8>, AllocError>
+    ensures { IfOk result (λ line. IsUtf8 (not_representable_message description.now) × (line.items ≡ not_representable_message description.now ++ newline)) }
 {
-    let line = format!(in alloc; "not representable ({words})\n")?;
+    let line = format!(in alloc; "not representable ({description})\n")?;
     Ok(line.into_bytes())
 }

@@ -9,8 +9,8 @@ use bson_codec::de::{DEPTH, is_document};
 /// 100 deep. It allocates no memory.
 #[unsafe(no_mangle)]
 pub extern "C" fn vbson_is_document(bytes: &[u8]) -> u32
-    ensures done { result ≡ 0 ↔ IsOneDocument bytes.now }
-    ensures listed { (result ≡ 0) ⊎ (result ≡ 10) }
+    ensures success { result ≡ 0 ↔ IsOneDocument bytes.now }
+    ensures possible_statuses { (result ≡ 0) ⊎ (result ≡ 10) }
 {
     match is_document(bytes, DEPTH) {
         Ok(()) => status::OK,

@@ -4,7 +4,7 @@ ghost use Rattle.bson_codec.specs.DumpRuns.{Dump};
 ghost use Rattle.bson_codec.specs.declared.documents.Run.{Run};
 ghost use Rattle.bson_convert.specs.Convert.{newline};
 ghost use Rattle.vbson.specs.Convert.{options_of_flags};
-ghost use Rattle.vbson.specs.Dumps.{AreDecoded, EndsAs, GivesDocuments, dump_line, run_of};
+ghost use Rattle.vbson.specs.Dumps.{AreDecoded, AddsLastDiagnostic, IsOutputOfDocuments, dump_line_kind, run_of};
 ghost use Rattle.vbson.specs.Options.{AreNotForConversion};
 
 use crate::convert::mode_of;
@@ -42,12 +42,12 @@ pub extern "C" fn vbson_decode_documents_nonnull(
     block: &[u8],
     out: &mut Documents<'static>,
 ) -> u32
-    ensures done { result ≡ 0 → AreDecoded (options_of_flags options.now) mode block.now out.new }
+    ensures success { result ≡ 0 → AreDecoded (options_of_flags options.now) mode block.now out.new }
 
     // When each other status comes, and that nothing is left then.
-    ensures no_mode { result ≡ 1 ↔ (2 < mode) ⊎ AreNotForConversion options.now }
-    ensures listed { (result ≡ 0) ⊎ (result ≡ 1) ⊎ (result ≡ 5) }
-    ensures kept { 0 < result → out.new ≡ out.old }
+    ensures invalid_argument { result ≡ 1 ↔ (2 < mode) ⊎ AreNotForConversion options.now }
+    ensures possible_statuses { (result ≡ 0) ⊎ (result ≡ 1) ⊎ (result ≡ 5) }
+    ensures unchanged { 0 < result → out.new ≡ out.old }
 {
     if are_not_for_conversion(*options) {
         return status::INVALID_ARGUMENT;
@@ -56,14 +56,14 @@ pub extern "C" fn vbson_decode_documents_nonnull(
         return status::INVALID_ARGUMENT;
     };
     let run = run_of(options_of(*options), mode);
-    let Some(given) = decode_block(alloc, run, block) else {
+    let Some(output) = decode_block(alloc, run, block) else {
         return status::OUT_OF_MEMORY;
     };
     *out = Documents {
-        text: text_of_line(given.text),
-        diagnostics: text_of_line(given.diagnostics),
-        documents: given.documents,
-        consumed: given.consumed,
+        text: text_of_line(output.text),
+        diagnostics: text_of_line(output.diagnostics),
+        documents: output.documents,
+        consumed: output.consumed,
     };
     status::OK
 }
@@ -82,7 +82,7 @@ fn run_of(options: Options, mode: Mode) -> Run
 
 // Returns the kind of line that is written for each document.
 fn line_of(mode: Mode) -> Line
-    ensures { result ≡ dump_line mode }
+    ensures { result ≡ dump_line_kind mode }
 {
     match mode {
         Mode::Canonical => Line::Text(Form::Canonical),
@@ -93,7 +93,7 @@ fn line_of(mode: Mode) -> Line
 
 // The result for a block of documents, with one more newline at the end of each text.
 #[derive(Drop)]
-struct Given {
+struct BlockOutput {
     text: Vec<u8>,
     diagnostics: Vec<u8>,
     documents: u64,
@@ -101,10 +101,10 @@ struct Given {
 }
 
 // Decodes the documents of the block. Returns `None` if memory runs out.
-fn decode_block(alloc: Global, run: Run, block: &[u8]) -> Option<Given>
-    ensures { IfSome result (λ given. (text : List ℕ) × (diagnostics : List ℕ)
-        × GivesDocuments run block.now text diagnostics given.documents given.consumed
-        × (given.text.items ≡ text ++ newline) × (given.diagnostics.items ≡ diagnostics ++ newline)) }
+fn decode_block(alloc: Global, run: Run, block: &[u8]) -> Option<BlockOutput>
+    ensures { IfSome result (λ output. (text : List ℕ) × (diagnostics : List ℕ)
+        × IsOutputOfDocuments run block.now text diagnostics output.documents output.consumed
+        × (output.text.items ≡ text ++ newline) × (output.diagnostics.items ≡ diagnostics ++ newline)) }
 {
     let mut reader = block;
     let (mut text, mut diagnostics) = (Vec::new(alloc), Vec::new(alloc));
@@ -125,14 +125,14 @@ fn with_newlines(
     diagnostics: Vec<u8>,
     documents: u64,
     consumed: u64,
-) -> Option<Given>
-    ensures { IfSome result (λ given. (given.text.items ≡ text.items ++ newline)
-        × (given.diagnostics.items ≡ diagnostics.items ++ newline) × (given.documents ≡ documents) × (given.consumed ≡ consumed)) }
+) -> Option<BlockOutput>
+    ensures { IfSome result (λ output. (output.text.items ≡ text.items ++ newline)
+        × (output.diagnostics.items ≡ diagnostics.items ++ newline) × (output.documents ≡ documents) × (output.consumed ≡ consumed)) }
 {
     let (Ok(text), Ok(diagnostics)) = (as_line(text), as_line(diagnostics)) else {
         return None;
     };
-    Some(Given {
+    Some(BlockOutput {
         text,
         diagnostics,
         documents,
@@ -143,14 +143,14 @@ fn with_newlines(
 // Appends the diagnostic of the document at which the run ended. Returns `None` if memory, a reader
 // or a writer failed.
 fn add_line(alloc: Global, end: RunEnd, mut diagnostics: Vec<u8>) -> Option<Vec<u8>>
-    ensures { IfSome result (λ all. EndsAs end diagnostics.items all.items) }
+    ensures { IfSome result (λ all. AddsLastDiagnostic end diagnostics.items all.items) }
 {
     match end.fault {
         RunFault::Malformed { .. } | RunFault::FiniteDouble => {
-            let Ok(said) = end.to_line(alloc) else {
+            let Ok(last_diagnostic) = end.to_line(alloc) else {
                 return None;
             };
-            let Ok(()) = diagnostics.extend_from_slice(said.as_bytes()) else {
+            let Ok(()) = diagnostics.extend_from_slice(last_diagnostic.as_bytes()) else {
                 return None;
             };
             Some(diagnostics)

@@ -4,9 +4,9 @@ ghost use Rattle.bson.specs.TextMeaning.{IsNotJsonText, TextMeansBy};
 ghost use Rattle.bson_codec.specs.Canonical.{FitsDocument, too_long, zero_in_key, zero_in_regex};
 ghost use Rattle.bson_model.specs.Value.{Pairs, document};
 ghost use Rattle.bson_convert.specs.Convert.{newline};
-ghost use Rattle.vbson.specs.Convert.{HasNoMeaningIn, IsBad, IsBadId, options_of_flags};
+ghost use Rattle.vbson.specs.Convert.{IsInvalidExtendedJson, IsInvalidShape, IsBadObjectId, options_of_flags};
 ghost use Rattle.bson_run.specs.Encode.{Encodes};
-ghost use Rattle.vbson.specs.Documents.{HasNoBytes, IsEncoded, IsUnencoded};
+ghost use Rattle.vbson.specs.Documents.{HasNoBytes, IsEncoded, IsEncodeFailure};
 ghost use Rattle.vbson.specs.Documents.{TextIsNotDocumentBy};
 ghost use Rattle.vbson.specs.Options.{AreNotForConversion};
 
@@ -28,21 +28,21 @@ pub extern "C" fn vbson_encode_nonnull(
     text: &[u8],
     out: &mut Text<'static>,
 ) -> u32
-    ensures done { result ≡ 0 → IsEncoded (options_of_flags options.now) text.now out.new }
+    ensures success { result ≡ 0 → IsEncoded (options_of_flags options.now) text.now out.new }
     ensures accepts { (ps : Pairs) → TextMeansBy (options_of_flags options.now).key_order (options_of_flags options.now).doubles text.now (document ps)
         → FitsDocument ps → 1 < result → result ≡ 5 }
 
     // When each other status comes, and that nothing is left then.
-    ensures no_mode { result ≡ 1 ↔ AreNotForConversion options.now }
+    ensures invalid_argument { result ≡ 1 ↔ AreNotForConversion options.now }
     ensures not_json { result ≡ 2 → IsNotJsonText text.now }
-    ensures bad_object_id { result ≡ 3 → HasNoMeaningIn (options_of_flags options.now) IsBadId text.now }
-    ensures not_extended_json { result ≡ 4 → HasNoMeaningIn (options_of_flags options.now) IsBad text.now }
+    ensures bad_object_id { result ≡ 3 → IsInvalidExtendedJson (options_of_flags options.now) IsBadObjectId text.now }
+    ensures not_extended_json { result ≡ 4 → IsInvalidExtendedJson (options_of_flags options.now) IsInvalidShape text.now }
     ensures no_document { result ≡ 10 → TextIsNotDocumentBy (options_of_flags options.now) text.now }
-    ensures zero_key { result ≡ 11 → HasNoBytes (options_of_flags options.now) zero_in_key text.now }
-    ensures zero_regex { result ≡ 12 → HasNoBytes (options_of_flags options.now) zero_in_regex text.now }
-    ensures long { result ≡ 13 → HasNoBytes (options_of_flags options.now) too_long text.now }
-    ensures listed { (result ≤ 5) ⊎ ((10 ≤ result) × (result ≤ 13)) }
-    ensures kept { 0 < result → out.new ≡ out.old }
+    ensures key_has_zero { result ≡ 11 → HasNoBytes (options_of_flags options.now) zero_in_key text.now }
+    ensures regex_has_zero { result ≡ 12 → HasNoBytes (options_of_flags options.now) zero_in_regex text.now }
+    ensures too_long { result ≡ 13 → HasNoBytes (options_of_flags options.now) too_long text.now }
+    ensures possible_statuses { (result ≤ 5) ⊎ ((10 ≤ result) × (result ≤ 13)) }
+    ensures unchanged { 0 < result → out.new ≡ out.old }
 {
     if are_not_for_conversion(*options) {
         return status::INVALID_ARGUMENT;
@@ -60,7 +60,7 @@ fn encode_text(alloc: Global, options: Options, text: &[u8]) -> Result<Vec<u8>, 
         × (line.items ≡ bytes ++ newline)) }
     ensures accepts { (ps : Pairs) → TextMeansBy options.key_order options.doubles text.now (document ps) → FitsDocument ps
         → IfErr result (λ status. status ≡ 5) }
-    ensures refused { IfErr result (λ status. IsUnencoded options status text.now) }
+    ensures error_status { IfErr result (λ status. IsEncodeFailure options status text.now) }
 {
     match encode(alloc, options, text) {
         Ok(bytes) => as_line(bytes),

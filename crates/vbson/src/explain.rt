@@ -4,8 +4,8 @@ ghost use Rattle.bson.specs.Value.{Value};
 ghost use Rattle.bson_convert.specs.Convert.{IsRefusedIn, newline};
 ghost use Rattle.bson_convert.specs.Words.{words_of};
 ghost use Rattle.bson_tree.specs.Place.{segment_of};
-ghost use Rattle.vbson.specs.Explain.{ArePartsOf, Explains, ExplainsRead, IsError, PathIsTooLong, IsLongPath, IsMadeOf, IsTooLong, IsUnexplained, Says};
-ghost use Rattle.vbson.specs.Explain.{code_in, column_in, line_in, offset_in, path_in, reason_in};
+ghost use Rattle.vbson.specs.Explain.{AreFieldsOfExplanation, Explains, ExplainsWithoutPreprocessing, ExplainsError, PathIsTooLong, HasTooLongPath, IsRejectionWithFields, IsTooLong, IsUnexplained, ReportsExplanation};
+ghost use Rattle.vbson.specs.Explain.{explanation_code, explanation_column, explanation_line, explanation_offset, explanation_path, explanation_reason};
 ghost use Rattle.vbson.specs.Options.{AreInvalid};
 ghost use Rattle.vbson.specs.Reading.{MeansUnder};
 ghost use Rattle.bson_bytes.specs.declared.error.Error.TheVariants as sizes;
@@ -58,16 +58,16 @@ pub extern "C" fn vbson_explain_nonnull(
     text: &[u8],
     out: &mut Rejection<'static>,
 ) -> u32
-    ensures done { result ≡ 0 → Explains options.now text.now out.new }
+    ensures success { result ≡ 0 → Explains options.now text.now out.new }
     // The code is 0 if and only if the text means a value.
     ensures accepted { result ≡ 0 → out.new.code ≡ 0 → (value : Value) × MeansUnder options.now text.now value }
     ensures accepts { (value : Value) → MeansUnder options.now text.now value → result ≡ 0 → out.new.code ≡ 0 }
 
     // When each other status comes, and that nothing is left then.
-    ensures no_mode { result ≡ 1 ↔ AreInvalid options.now }
-    ensures long { result ≡ 13 → IsTooLong options.now text.now }
-    ensures listed { (result ≡ 0) ⊎ (result ≡ 1) ⊎ (result ≡ 5) ⊎ (result ≡ 13) }
-    ensures kept { 0 < result → out.new ≡ out.old }
+    ensures invalid_argument { result ≡ 1 ↔ AreInvalid options.now }
+    ensures too_long { result ≡ 13 → IsTooLong options.now text.now }
+    ensures possible_statuses { (result ≡ 0) ⊎ (result ≡ 1) ⊎ (result ≡ 5) ⊎ (result ≡ 13) }
+    ensures unchanged { 0 < result → out.new ≡ out.old }
 {
     if are_invalid(*options) {
         return status::INVALID_ARGUMENT;
@@ -90,25 +90,25 @@ fn explained(
     options: CallOptions,
     text: &[u8],
 ) -> Result<Rejection<'static>, PathError>
-    ensures said { IfOk result (λ out. Explains options text.now out) }
-    ensures long { IfErr result (λ e. e ≢ sizes.OutOfMemory → IsTooLong options text.now) }
+    ensures error_report { IfOk result (λ out. Explains options text.now out) }
+    ensures too_long { IfErr result (λ error. error ≢ sizes.OutOfMemory → IsTooLong options text.now) }
 {
     match preprocess(alloc, preprocessing_of(options), text) {
-        Ok(Some(newer)) => explained_read(alloc, options_of(options), newer.as_bytes()),
-        Ok(None) => explained_read(alloc, options_of(options), text),
+        Ok(Some(new_text)) => explain_without_preprocessing(alloc, options_of(options), new_text.as_bytes()),
+        Ok(None) => explain_without_preprocessing(alloc, options_of(options), text),
         Err(fault) if fault.is_memory() => Err(PathError::OutOfMemory),
         Err(fault) => rejected(alloc, &fault, text),
     }
 }
 
 // Explains the text that is read.
-fn explained_read(
+fn explain_without_preprocessing(
     alloc: Global,
     options: Options,
     text: &[u8],
 ) -> Result<Rejection<'static>, PathError>
-    ensures said { IfOk result (λ out. ExplainsRead options text.now out) }
-    ensures long { IfErr result (λ e. IsUnexplained e (λ fault. IsRefusedIn options fault text.now)) }
+    ensures error_report { IfOk result (λ out. ExplainsWithoutPreprocessing options text.now out) }
+    ensures too_long { IfErr result (λ error. IsUnexplained error (λ fault. IsRefusedIn options fault text.now)) }
 {
     match convert_sorted(alloc, options, Mode::Canonical, text) {
         Ok(_) => accepted(alloc),
@@ -119,24 +119,24 @@ fn explained_read(
 
 // Returns the error struct of an accepted text.
 fn accepted(alloc: Global) -> Result<Rejection<'static>, PathError>
-    ensures said { IfOk result (λ out. Says [] explained.Other [] out) }
-    ensures memory { IfErr result (λ e. e ≡ sizes.OutOfMemory) }
+    ensures error_report { IfOk result (λ out. ReportsExplanation [] explained.Other [] out) }
+    ensures memory { IfErr result (λ error. error ≡ sizes.OutOfMemory) }
 {
-    let parts = parts_of(alloc, &Explanation::Other, b"")?;
+    let fields = fields_of(alloc, &Explanation::Other, b"")?;
     let message = Vec::from_slice(alloc, b"\n")?;
-    Ok(filled(parts, message))
+    Ok(rejection_with_fields(fields, message))
 }
 
 // Returns the error struct for an error of the text.
 fn rejected(alloc: Global, fault: &Error, text: &[u8]) -> Result<Rejection<'static>, PathError>
-    ensures said { IfOk result (λ out. IsError text.now fault.now out) }
-    ensures long { IfErr result (λ e. e ≢ sizes.OutOfMemory → IsLongPath fault.now) }
+    ensures error_report { IfOk result (λ out. ExplainsError text.now fault.now out) }
+    ensures too_long { IfErr result (λ error. error ≢ sizes.OutOfMemory → HasTooLongPath fault.now) }
 {
-    let found = Explanation::of(alloc, fault, text)?;
-    let place = found.message(alloc, text)?;
+    let explanation = Explanation::of(alloc, fault, text)?;
+    let place = explanation.message(alloc, text)?;
     let message = line_at(alloc, fault, &place)?;
-    let parts = parts_of(alloc, &found, text)?;
-    Ok(filled(parts, message))
+    let fields = fields_of(alloc, &explanation, text)?;
+    Ok(rejection_with_fields(fields, message))
 }
 
 // Returns the message of a fault and its path, and a newline.
@@ -144,14 +144,14 @@ fn line_at(alloc: Global, fault: &Error, place: &str) -> Result<Vec<u8>, AllocEr
     ensures { IfOk result (λ line. IsUtf8 (words_of fault.now ++ place.now)
         × (line.items ≡ (words_of fault.now ++ place.now) ++ newline)) }
 {
-    let words = fault.message();
-    let line = format!(in alloc; "{words}{place}\n")?;
+    let description = fault.message();
+    let line = format!(in alloc; "{description}{place}\n")?;
     Ok(line.into_bytes())
 }
 
 // The fields of the error struct, without its message. The bytes end in a newline.
 #[derive(Drop)]
-pub(crate) struct Parts {
+pub(crate) struct RejectionFields {
     pub(crate) code: u32,
     pub(crate) line: usize,
     pub(crate) column: usize,
@@ -161,51 +161,51 @@ pub(crate) struct Parts {
 }
 
 // Returns the error struct of these fields.
-pub(crate) fn filled(parts: Parts, message: Vec<u8>) -> Rejection<'static>
-    requires { (0 < length parts.path.items) × (0 < length parts.reason.items) × (0 < length message.items) }
-    ensures { IsMadeOf parts message.items result }
+pub(crate) fn rejection_with_fields(fields: RejectionFields, message: Vec<u8>) -> Rejection<'static>
+    requires { (0 < length fields.path.items) × (0 < length fields.reason.items) × (0 < length message.items) }
+    ensures { IsRejectionWithFields fields message.items result }
 {
     Rejection {
-        code: parts.code,
-        line: parts.line,
-        column: parts.column,
-        offset: parts.offset,
-        path: text_of_line(parts.path),
-        reason: text_of_line(parts.reason),
+        code: fields.code,
+        line: fields.line,
+        column: fields.column,
+        offset: fields.offset,
+        path: text_of_line(fields.path),
+        reason: text_of_line(fields.reason),
         message: text_of_line(message),
     }
 }
 
 // Returns the fields of the error struct for an explanation of an error of the text.
-fn parts_of(alloc: Global, found: &Explanation<'_>, text: &[u8]) -> Result<Parts, PathError>
-    ensures said { IfOk result (λ parts. ArePartsOf text.now found.now parts) }
-    ensures long { IfErr result (λ e. e ≢ sizes.OutOfMemory → PathIsTooLong found.now) }
+fn fields_of(alloc: Global, explanation: &Explanation<'_>, text: &[u8]) -> Result<RejectionFields, PathError>
+    ensures error_report { IfOk result (λ fields. AreFieldsOfExplanation text.now explanation.now fields) }
+    ensures too_long { IfErr result (λ error. error ≢ sizes.OutOfMemory → PathIsTooLong explanation.now) }
 {
-    let path = path_line(alloc, segments_of(found))?;
-    let reason = line_of(alloc, reason_of(found))?;
-    Ok(Parts {
-        code: code_of(found),
-        line: line_in(found, text),
-        column: column_in(found, text),
-        offset: offset_in(found, text),
+    let path = path_line(alloc, segments_of(explanation))?;
+    let reason = line_of(alloc, reason_of(explanation))?;
+    Ok(RejectionFields {
+        code: code_of(explanation),
+        line: explanation_line(explanation, text),
+        column: explanation_column(explanation, text),
+        offset: explanation_offset(explanation, text),
         path,
         reason,
     })
 }
 
 // Returns the string, and a newline.
-pub(crate) fn line_of(alloc: Global, words: &str) -> Result<Vec<u8>, AllocError>
-    ensures { IfOk result (λ line. IsUtf8 words.now × (line.items ≡ words.now ++ newline)) }
+pub(crate) fn line_of(alloc: Global, description: &str) -> Result<Vec<u8>, AllocError>
+    ensures { IfOk result (λ line. IsUtf8 description.now × (line.items ≡ description.now ++ newline)) }
 {
-    let line = format!(in alloc; "{words}\n")?;
+    let line = format!(in alloc; "{description}\n")?;
     Ok(line.into_bytes())
 }
 
 // Returns the status of an explained error, or 0 if there is no error.
-fn code_of(found: &Explanation<'_>) -> u32
-    ensures { result ≡ code_in found.now }
+fn code_of(explanation: &Explanation<'_>) -> u32
+    ensures { result ≡ explanation_code explanation.now }
 {
-    match found {
+    match explanation {
         Explanation::Syntax(_) => status::NOT_JSON,
         Explanation::Value(place, _) => match &place.reason {
             Reason::BadObjectId(_) => status::BAD_OBJECT_ID,
@@ -217,10 +217,10 @@ fn code_of(found: &Explanation<'_>) -> u32
 }
 
 // Returns the line on which the text stops to be JSON, or 0.
-fn line_in(found: &Explanation<'_>, text: &[u8]) -> usize
-    ensures { result ≡ line_in text.now found.now }
+fn explanation_line(explanation: &Explanation<'_>, text: &[u8]) -> usize
+    ensures { result ≡ explanation_line text.now explanation.now }
 {
-    match found {
+    match explanation {
         Explanation::Syntax(stop) => stop.line(text),
         Explanation::Difference(_) => 1,
         _ => 0,
@@ -228,10 +228,10 @@ fn line_in(found: &Explanation<'_>, text: &[u8]) -> usize
 }
 
 // Returns the column at which the text stops to be JSON, or 0.
-fn column_in(found: &Explanation<'_>, text: &[u8]) -> usize
-    ensures { result ≡ column_in text.now found.now }
+fn explanation_column(explanation: &Explanation<'_>, text: &[u8]) -> usize
+    ensures { result ≡ explanation_column text.now explanation.now }
 {
-    match found {
+    match explanation {
         Explanation::Syntax(stop) => stop.column(text),
         Explanation::Difference(column) => *column,
         _ => 0,
@@ -239,10 +239,10 @@ fn column_in(found: &Explanation<'_>, text: &[u8]) -> usize
 }
 
 // Returns the offset at which the text stops to be JSON, or 0.
-fn offset_in(found: &Explanation<'_>, text: &[u8]) -> usize
-    ensures { result ≡ offset_in text.now found.now }
+fn explanation_offset(explanation: &Explanation<'_>, text: &[u8]) -> usize
+    ensures { result ≡ explanation_offset text.now explanation.now }
 {
-    match found {
+    match explanation {
         Explanation::Syntax(stop) => stop.offset.min(text.len().saturating_sub(1)),
         Explanation::Difference(column) => column.saturating_sub(1),
         _ => 0,
@@ -250,20 +250,20 @@ fn offset_in(found: &Explanation<'_>, text: &[u8]) -> usize
 }
 
 // Returns the path segments that lead to the invalid value, from the value outward.
-fn segments_of<'a>(found: &'a Explanation<'_>) -> &'a [Segment]
-    ensures { map segment_of result.now ≡ path_in found.now }
+fn segments_of<'a>(explanation: &'a Explanation<'_>) -> &'a [Segment]
+    ensures { map segment_of result.now ≡ explanation_path explanation.now }
 {
-    match found {
+    match explanation {
         Explanation::Value(place, _) => place.segments.as_slice(),
         _ => &[],
     }
 }
 
 // Returns what is wrong.
-fn reason_of<'a>(found: &'a Explanation<'_>) -> &'a str
-    ensures { result.now ≡ reason_in found.now }
+fn reason_of<'a>(explanation: &'a Explanation<'_>) -> &'a str
+    ensures { result.now ≡ explanation_reason explanation.now }
 {
-    match found {
+    match explanation {
         Explanation::Syntax(stop) => stop.rule.message(),
         Explanation::Value(_, reason) => reason.as_str(),
         Explanation::Difference(_) | Explanation::Other => "",

@@ -6,9 +6,9 @@
 //! out parameter is unchanged, unless the call says more. In reading order: `status`, `options`,
 //! `text` (a text that the caller owns and frees) with `convert` (one text to another), `canonical`
 //! (whether a text is canonical), `explain` (why a text is rejected, and where) with `path` (the bytes
-//! of a path) and `lines` (a block of lines), `values` (comparing and hashing the values of texts),
+//! of a path) and `lines` (a block of lines), `comparison` (comparing and hashing the values of texts),
 //! `documents` (whether bytes are a BSON document) with `document_error` (why not), `decode` (their
-//! text) with `direct` (decoding without a document in memory), `encode` (the bytes of a text) and
+//! text) with `streaming` (decoding without a document in memory), `encode` (the bytes of a text) and
 //! `dump` (a block of documents), `raw` (values of documents that remain bytes), `builder` (documents
 //! in the caller's memory) with `append` (their elements), and `buffer` (a buffer of the caller's)
 //! with `scalars` (decimals, object ids, date-times).
@@ -20,7 +20,7 @@ mod builder;
 mod canonical;
 mod convert;
 mod decode;
-mod direct;
+mod streaming;
 mod document_error;
 mod documents;
 mod dump;
@@ -34,5 +34,5 @@ mod reading;
 mod scalars;
 mod status;
 mod text;
-mod values;
+mod comparison;
 mod version;

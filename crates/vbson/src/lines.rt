@@ -3,8 +3,8 @@ ghost use Rattle.std.specs.Prelude.{◌≡◌, ◌⊎◌, ◌↔◌, ◌<◌, �
 ghost use Rattle.bson_convert.specs.Convert.{newline};
 ghost use Rattle.bson_convert.specs.declared.mode.Mode.{Mode};
 ghost use Rattle.bson_run.specs.declared.order.Task.TheVariants.{Write, Encode};
-ghost use Rattle.vbson.specs.Convert.{mode_at, options_of_flags};
-ghost use Rattle.vbson.specs.Lines.{AreConverted, AreEncoded, AreReturned, GivesLines};
+ghost use Rattle.vbson.specs.Convert.{mode_of_number, options_of_flags};
+ghost use Rattle.vbson.specs.Lines.{AreConverted, AreEncoded, IsLinesResult, IsOutputOfLines};
 ghost use Rattle.vbson.specs.Lines.{EachLineIsAccepted, IsFirstRejected, is_rejection};
 ghost use Rattle.vbson.specs.Options.{AreNotForConversion};
 
@@ -41,12 +41,12 @@ pub extern "C" fn vbson_convert_lines_nonnull(
     block: &[u8],
     out: &mut Lines<'static>,
 ) -> u32
-    ensures done { result ≡ 0 → AreConverted (options_of_flags options.now) mode block.now out.new }
+    ensures success { result ≡ 0 → AreConverted (options_of_flags options.now) mode block.now out.new }
 
     // When each other status comes, and that nothing is left then.
-    ensures no_mode { result ≡ 1 ↔ (2 < mode) ⊎ AreNotForConversion options.now }
-    ensures listed { (result ≡ 0) ⊎ (result ≡ 1) ⊎ (result ≡ 5) }
-    ensures kept { 0 < result → out.new ≡ out.old }
+    ensures invalid_argument { result ≡ 1 ↔ (2 < mode) ⊎ AreNotForConversion options.now }
+    ensures possible_statuses { (result ≡ 0) ⊎ (result ≡ 1) ⊎ (result ≡ 5) }
+    ensures unchanged { 0 < result → out.new ≡ out.old }
 {
     if are_not_for_conversion(*options) {
         return status::INVALID_ARGUMENT;
@@ -72,12 +72,12 @@ pub extern "C" fn vbson_encode_lines_nonnull(
     block: &[u8],
     out: &mut Lines<'static>,
 ) -> u32
-    ensures done { result ≡ 0 → AreEncoded (options_of_flags options.now) block.now out.new }
+    ensures success { result ≡ 0 → AreEncoded (options_of_flags options.now) block.now out.new }
 
     // When each other status comes, and that nothing is left then.
-    ensures no_mode { result ≡ 1 ↔ AreNotForConversion options.now }
-    ensures listed { (result ≡ 0) ⊎ (result ≡ 1) ⊎ (result ≡ 5) }
-    ensures kept { 0 < result → out.new ≡ out.old }
+    ensures invalid_argument { result ≡ 1 ↔ AreNotForConversion options.now }
+    ensures possible_statuses { (result ≡ 0) ⊎ (result ≡ 1) ⊎ (result ≡ 5) }
+    ensures unchanged { 0 < result → out.new ≡ out.old }
 {
     if are_not_for_conversion(*options) {
         return status::INVALID_ARGUMENT;
@@ -99,15 +99,15 @@ pub extern "C" fn vbson_first_rejected_line_nonnull(
     block: &[u8],
     number: &mut u64,
 ) -> u32
-    ensures rejected { result ≡ 0 → (m : Mode) → mode_at mode ≡ Some m
-        → IsFirstRejected (options_of_flags options.now) (Write m) block.now number.new }
-    ensures accepted { result ≡ 14 → (m : Mode) → mode_at mode ≡ Some m
-        → EachLineIsAccepted (options_of_flags options.now) (Write m) block.now }
+    ensures rejected { result ≡ 0 → (selected : Mode) → mode_of_number mode ≡ Some selected
+        → IsFirstRejected (options_of_flags options.now) (Write selected) block.now number.new }
+    ensures accepted { result ≡ 14 → (selected : Mode) → mode_of_number mode ≡ Some selected
+        → EachLineIsAccepted (options_of_flags options.now) (Write selected) block.now }
 
     // When each other status comes, and that nothing is left then.
-    ensures no_mode { result ≡ 1 ↔ (2 < mode) ⊎ AreNotForConversion options.now }
-    ensures listed { (result ≡ 0) ⊎ (result ≡ 1) ⊎ (result ≡ 5) ⊎ (result ≡ 14) }
-    ensures kept { 0 < result → number.new ≡ number.old }
+    ensures invalid_argument { result ≡ 1 ↔ (2 < mode) ⊎ AreNotForConversion options.now }
+    ensures possible_statuses { (result ≡ 0) ⊎ (result ≡ 1) ⊎ (result ≡ 5) ⊎ (result ≡ 14) }
+    ensures unchanged { 0 < result → number.new ≡ number.old }
 {
     if are_not_for_conversion(*options) {
         return status::INVALID_ARGUMENT;
@@ -137,9 +137,9 @@ pub extern "C" fn vbson_first_unencoded_line_nonnull(
     ensures accepted { result ≡ 14 → EachLineIsAccepted (options_of_flags options.now) Encode block.now }
 
     // When each other status comes, and that nothing is left then.
-    ensures no_mode { result ≡ 1 ↔ AreNotForConversion options.now }
-    ensures listed { (result ≡ 0) ⊎ (result ≡ 1) ⊎ (result ≡ 5) ⊎ (result ≡ 14) }
-    ensures kept { 0 < result → number.new ≡ number.old }
+    ensures invalid_argument { result ≡ 1 ↔ AreNotForConversion options.now }
+    ensures possible_statuses { (result ≡ 0) ⊎ (result ≡ 1) ⊎ (result ≡ 5) ⊎ (result ≡ 14) }
+    ensures unchanged { 0 < result → number.new ≡ number.old }
 {
     if are_not_for_conversion(*options) {
         return status::INVALID_ARGUMENT;
@@ -149,20 +149,20 @@ pub extern "C" fn vbson_first_unencoded_line_nonnull(
 
 // Returns the result for the lines of the block, or `None` if memory runs out.
 fn lines_of(alloc: Global, options: Options, task: Task, block: &[u8]) -> Option<Lines<'static>>
-    ensures { IfSome result (λ lines. AreReturned options task block.now lines) }
+    ensures { IfSome result (λ lines. IsLinesResult options task block.now lines) }
 {
-    let given = run_block(alloc, options, task, block)?;
+    let output = run_block(alloc, options, task, block)?;
     Some(Lines {
-        text: text_of_line(given.text),
-        diagnostics: text_of_line(given.diagnostics),
-        lines: given.lines,
-        refused: given.refused,
+        text: text_of_line(output.text),
+        diagnostics: text_of_line(output.diagnostics),
+        lines: output.lines,
+        refused: output.refused,
     })
 }
 
 // The result for a block of lines, with one more newline at the end of each text.
 #[derive(Drop)]
-struct Given {
+struct BlockOutput {
     text: Vec<u8>,
     diagnostics: Vec<u8>,
     lines: u64,
@@ -170,10 +170,10 @@ struct Given {
 }
 
 // Returns the result for the lines, with one more newline at the end of each text.
-fn run_block(alloc: Global, options: Options, task: Task, block: &[u8]) -> Option<Given>
-    ensures { IfSome result (λ given. (text : List ℕ) × (diagnostics : List ℕ)
-        × GivesLines options task block.now text diagnostics given.lines given.refused
-        × (given.text.items ≡ text ++ newline) × (given.diagnostics.items ≡ diagnostics ++ newline)) }
+fn run_block(alloc: Global, options: Options, task: Task, block: &[u8]) -> Option<BlockOutput>
+    ensures { IfSome result (λ output. (text : List ℕ) × (diagnostics : List ℕ)
+        × IsOutputOfLines options task block.now text diagnostics output.lines output.refused
+        × (output.text.items ≡ text ++ newline) × (output.diagnostics.items ≡ diagnostics ++ newline)) }
 {
     let mut reader = block;
     let (mut text, mut diagnostics) = (Vec::new(alloc), Vec::new(alloc));
@@ -185,7 +185,7 @@ fn run_block(alloc: Global, options: Options, task: Task, block: &[u8]) -> Optio
     let (Ok(text), Ok(diagnostics)) = (as_line(text), as_line(diagnostics)) else {
         return None;
     };
-    Some(Given {
+    Some(BlockOutput {
         text,
         diagnostics,
         lines: counts.lines,
@@ -203,8 +203,8 @@ fn first_rejected(
 ) -> u32
     ensures rejected { result ≡ 0 → IsFirstRejected options task block.now number.new }
     ensures accepted { result ≡ 14 → EachLineIsAccepted options task block.now }
-    ensures listed { (result ≡ 0) ⊎ (result ≡ 5) ⊎ (result ≡ 14) }
-    ensures kept { 0 < result → number.new ≡ number.old }
+    ensures possible_statuses { (result ≡ 0) ⊎ (result ≡ 5) ⊎ (result ≡ 14) }
+    ensures unchanged { 0 < result → number.new ≡ number.old }
 {
     let mut rest = block;
     let mut run = LineRun::new(alloc, task, OnRefusal::Stop);

@@ -24,7 +24,7 @@ pub fn path_line(alloc: Global, segments: &[Segment]) -> Result<Vec<u8>, Error>
     ensures ok { IfOk result (λ out. out.items
         ≡ document_bytes (path_pairs (map segment_of segments.now)) ++ newline) }
     ensures only { FitsDocument (path_pairs (map segment_of segments.now))
-        → IfErr result (λ e. e ≡ errors.OutOfMemory) }
+        → IfErr result (λ error. error ≡ errors.OutOfMemory) }
 {
     let mut line = path_bytes(alloc, segments)?;
     line.push(b'\n')?;
@@ -35,7 +35,7 @@ pub fn path_line(alloc: Global, segments: &[Segment]) -> Result<Vec<u8>, Error>
 fn path_bytes(alloc: Global, segments: &[Segment]) -> Result<Vec<u8>, Error>
     ensures ok { IfOk result (λ out. out.items ≡ document_bytes (path_pairs (map segment_of segments.now))) }
     ensures only { FitsDocument (path_pairs (map segment_of segments.now))
-        → IfErr result (λ e. e ≡ errors.OutOfMemory) }
+        → IfErr result (λ error. error ≡ errors.OutOfMemory) }
 {
     let mut out = Vec::new(alloc);
     put_length_placeholder(&mut out)?;

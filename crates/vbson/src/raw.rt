@@ -6,7 +6,7 @@ ghost use Rattle.bson_bytes.specs.TypedGetters.{binary_of, boolean_value, date_v
 ghost use Rattle.bson_bytes.specs.NestedValues.{IsNested};
 ghost use Rattle.bson_bytes.specs.ReadElements.{BeginsWithDocument, BeginsWithElements};
 ghost use Rattle.bson_bytes.specs.RawView.{raw_view};
-ghost use Rattle.vbson.specs.Raw.{IsGot, IsNextElement, IsTypedResult, IsValueAt, IsValueOf, bit, subtype_and_bytes};
+ghost use Rattle.vbson.specs.Raw.{IsLookupResult, IsNextElement, IsTypedResult, IsValueAt, IsValueOf, boolean_number, subtype_and_bytes};
 
 use crate::status;
 use bson_bytes::RawBsonRef;
@@ -36,10 +36,10 @@ pub struct RawValue<'a> {
 /// value wins.
 #[unsafe(no_mangle)]
 pub extern "C" fn vbson_raw_get<'a>(bytes: &'a [u8], key: &[u8], out: &mut RawValue<'a>) -> u32
-    ensures found { (d : ℕ) (ps : Pairs) → BeginsWithDocument d bytes.now ps
-        → IsGot (d - 1) (value_at_key key.now (deduplicated ps)) result out.new }
-    ensures listed { (result ≡ 0) ⊎ (result ≡ 14) }
-    ensures kept { 0 < result → out.new ≡ out.old }
+    ensures found { (depth : ℕ) (ps : Pairs) → BeginsWithDocument depth bytes.now ps
+        → IsLookupResult (depth - 1) (value_at_key key.now (deduplicated ps)) result out.new }
+    ensures possible_statuses { (result ≡ 0) ⊎ (result ≡ 14) }
+    ensures unchanged { 0 < result → out.new ≡ out.old }
 {
     match find(bytes, key) {
         Some(element) => {
@@ -53,10 +53,10 @@ pub extern "C" fn vbson_raw_get<'a>(bytes: &'a [u8], key: &[u8], out: &mut RawVa
 /// Begins an iteration over the elements of a document, in bytes that begin with it.
 #[unsafe(no_mangle)]
 pub extern "C" fn vbson_raw_elements<'a>(bytes: &'a [u8], cursor: &mut Slice<'a>) -> u32
-    ensures begun { (d : ℕ) (ps : Pairs) → BeginsWithDocument d bytes.now ps
-        → (result ≡ 0) × BeginsWithElements (d - 1) cursor.new.bytes.now ps }
-    ensures listed { (result ≡ 0) ⊎ (result ≡ 10) }
-    ensures kept { 0 < result → cursor.new ≡ cursor.old }
+    ensures begun { (depth : ℕ) (ps : Pairs) → BeginsWithDocument depth bytes.now ps
+        → (result ≡ 0) × BeginsWithElements (depth - 1) cursor.new.bytes.now ps }
+    ensures possible_statuses { (result ≡ 0) ⊎ (result ≡ 10) }
+    ensures unchanged { 0 < result → cursor.new ≡ cursor.old }
 {
     match elements_after_length(bytes) {
         Some(bytes) => {
@@ -74,10 +74,10 @@ pub extern "C" fn vbson_raw_next<'a>(
     key: &mut Slice<'a>,
     value: &mut RawValue<'a>,
 ) -> u32
-    ensures next { (d : ℕ) (ps : Pairs) → BeginsWithElements d cursor.old.bytes.now ps
-        → IsNextElement d ps result cursor.new key.new value.new }
-    ensures listed { (result ≡ 0) ⊎ (result ≡ 14) }
-    ensures kept { 0 < result → (cursor.new ≡ cursor.old) × (key.new ≡ key.old) × (value.new ≡ value.old) }
+    ensures next { (depth : ℕ) (ps : Pairs) → BeginsWithElements depth cursor.old.bytes.now ps
+        → IsNextElement depth ps result cursor.new key.new value.new }
+    ensures possible_statuses { (result ≡ 0) ⊎ (result ≡ 14) }
+    ensures unchanged { 0 < result → (cursor.new ≡ cursor.old) × (key.new ≡ key.old) × (value.new ≡ value.old) }
 {
     match first_element(cursor.bytes) {
         Some(element) => {
@@ -95,9 +95,9 @@ pub extern "C" fn vbson_raw_next<'a>(
 /// Reads the integer of an Int32.
 #[unsafe(no_mangle)]
 pub extern "C" fn vbson_raw_int32(value: &RawValue<'_>, out: &mut i32) -> u32
-    ensures typed { (d : ℕ) (v : Value) → IsValueAt d v value.now → IsTypedResult (int32_value v) result out.new }
-    ensures listed { (result ≡ 0) ⊎ (result ≡ 15) }
-    ensures kept { 0 < result → out.new ≡ out.old }
+    ensures typed { (depth : ℕ) (v : Value) → IsValueAt depth v value.now → IsTypedResult (int32_value v) result out.new }
+    ensures possible_statuses { (result ≡ 0) ⊎ (result ≡ 15) }
+    ensures unchanged { 0 < result → out.new ≡ out.old }
 {
     let Some(scalar) = scalar_of(value) else {
         return status::UNEXPECTED_TYPE;
@@ -114,9 +114,9 @@ pub extern "C" fn vbson_raw_int32(value: &RawValue<'_>, out: &mut i32) -> u32
 /// Reads the integer of an Int64.
 #[unsafe(no_mangle)]
 pub extern "C" fn vbson_raw_int64(value: &RawValue<'_>, out: &mut i64) -> u32
-    ensures typed { (d : ℕ) (v : Value) → IsValueAt d v value.now → IsTypedResult (int64_value v) result out.new }
-    ensures listed { (result ≡ 0) ⊎ (result ≡ 15) }
-    ensures kept { 0 < result → out.new ≡ out.old }
+    ensures typed { (depth : ℕ) (v : Value) → IsValueAt depth v value.now → IsTypedResult (int64_value v) result out.new }
+    ensures possible_statuses { (result ≡ 0) ⊎ (result ≡ 15) }
+    ensures unchanged { 0 < result → out.new ≡ out.old }
 {
     let Some(scalar) = scalar_of(value) else {
         return status::UNEXPECTED_TYPE;
@@ -133,9 +133,9 @@ pub extern "C" fn vbson_raw_int64(value: &RawValue<'_>, out: &mut i64) -> u32
 /// Reads the 64 bits of a double.
 #[unsafe(no_mangle)]
 pub extern "C" fn vbson_raw_double(value: &RawValue<'_>, out: &mut u64) -> u32
-    ensures typed { (d : ℕ) (v : Value) → IsValueAt d v value.now → IsTypedResult (double_value v) result out.new }
-    ensures listed { (result ≡ 0) ⊎ (result ≡ 15) }
-    ensures kept { 0 < result → out.new ≡ out.old }
+    ensures typed { (depth : ℕ) (v : Value) → IsValueAt depth v value.now → IsTypedResult (double_value v) result out.new }
+    ensures possible_statuses { (result ≡ 0) ⊎ (result ≡ 15) }
+    ensures unchanged { 0 < result → out.new ≡ out.old }
 {
     let Some(scalar) = scalar_of(value) else {
         return status::UNEXPECTED_TYPE;
@@ -152,16 +152,16 @@ pub extern "C" fn vbson_raw_double(value: &RawValue<'_>, out: &mut u64) -> u32
 /// Reads a boolean, as 0 or 1.
 #[unsafe(no_mangle)]
 pub extern "C" fn vbson_raw_boolean(value: &RawValue<'_>, out: &mut u32) -> u32
-    ensures typed { (d : ℕ) (v : Value) → IsValueAt d v value.now → IsTypedResult (option_map bit (boolean_value v)) result out.new }
-    ensures listed { (result ≡ 0) ⊎ (result ≡ 15) }
-    ensures kept { 0 < result → out.new ≡ out.old }
+    ensures typed { (depth : ℕ) (v : Value) → IsValueAt depth v value.now → IsTypedResult (option_map boolean_number (boolean_value v)) result out.new }
+    ensures possible_statuses { (result ≡ 0) ⊎ (result ≡ 15) }
+    ensures unchanged { 0 < result → out.new ≡ out.old }
 {
     let Some(scalar) = scalar_of(value) else {
         return status::UNEXPECTED_TYPE;
     };
     match scalar.as_bool() {
         Some(boolean) => {
-            *out = bit_of(boolean);
+            *out = boolean_to_u32(boolean);
             status::OK
         }
         None => status::UNEXPECTED_TYPE,
@@ -171,9 +171,9 @@ pub extern "C" fn vbson_raw_boolean(value: &RawValue<'_>, out: &mut u32) -> u32
 /// Reads the bytes of a string.
 #[unsafe(no_mangle)]
 pub extern "C" fn vbson_raw_string<'a>(value: &RawValue<'a>, out: &mut Slice<'a>) -> u32
-    ensures typed { (d : ℕ) (v : Value) → IsValueAt d v value.now → IsTypedResult (string_value v) result out.new.bytes.now }
-    ensures listed { (result ≡ 0) ⊎ (result ≡ 15) }
-    ensures kept { 0 < result → out.new ≡ out.old }
+    ensures typed { (depth : ℕ) (v : Value) → IsValueAt depth v value.now → IsTypedResult (string_value v) result out.new.bytes.now }
+    ensures possible_statuses { (result ≡ 0) ⊎ (result ≡ 15) }
+    ensures unchanged { 0 < result → out.new ≡ out.old }
 {
     let Some(scalar) = scalar_of(value) else {
         return status::UNEXPECTED_TYPE;
@@ -192,9 +192,9 @@ pub extern "C" fn vbson_raw_string<'a>(value: &RawValue<'a>, out: &mut Slice<'a>
 /// Reads the 12 bytes of an object id.
 #[unsafe(no_mangle)]
 pub extern "C" fn vbson_raw_object_id(value: &RawValue<'_>, out: &mut [u8; 12]) -> u32
-    ensures typed { (d : ℕ) (v : Value) → IsValueAt d v value.now → IsTypedResult (object_id_value v) result out.new }
-    ensures listed { (result ≡ 0) ⊎ (result ≡ 15) }
-    ensures kept { 0 < result → out.new ≡ out.old }
+    ensures typed { (depth : ℕ) (v : Value) → IsValueAt depth v value.now → IsTypedResult (object_id_value v) result out.new }
+    ensures possible_statuses { (result ≡ 0) ⊎ (result ≡ 15) }
+    ensures unchanged { 0 < result → out.new ≡ out.old }
 {
     let Some(scalar) = scalar_of(value) else {
         return status::UNEXPECTED_TYPE;
@@ -211,9 +211,9 @@ pub extern "C" fn vbson_raw_object_id(value: &RawValue<'_>, out: &mut [u8; 12]) 
 /// Reads a date-time, in milliseconds since 1970-01-01T00:00:00Z.
 #[unsafe(no_mangle)]
 pub extern "C" fn vbson_raw_date_time(value: &RawValue<'_>, out: &mut i64) -> u32
-    ensures typed { (d : ℕ) (v : Value) → IsValueAt d v value.now → IsTypedResult (date_value v) result out.new }
-    ensures listed { (result ≡ 0) ⊎ (result ≡ 15) }
-    ensures kept { 0 < result → out.new ≡ out.old }
+    ensures typed { (depth : ℕ) (v : Value) → IsValueAt depth v value.now → IsTypedResult (date_value v) result out.new }
+    ensures possible_statuses { (result ≡ 0) ⊎ (result ≡ 15) }
+    ensures unchanged { 0 < result → out.new ≡ out.old }
 {
     let Some(scalar) = scalar_of(value) else {
         return status::UNEXPECTED_TYPE;
@@ -234,10 +234,10 @@ pub extern "C" fn vbson_raw_binary<'a>(
     subtype: &mut u32,
     out: &mut Slice<'a>,
 ) -> u32
-    ensures typed { (d : ℕ) (v : Value) → IsValueAt d v value.now
+    ensures typed { (depth : ℕ) (v : Value) → IsValueAt depth v value.now
         → IsTypedResult (option_map subtype_and_bytes (binary_of v)) result (subtype.new, out.new.bytes.now) }
-    ensures listed { (result ≡ 0) ⊎ (result ≡ 15) }
-    ensures kept { 0 < result → (subtype.new ≡ subtype.old) × (out.new ≡ out.old) }
+    ensures possible_statuses { (result ≡ 0) ⊎ (result ≡ 15) }
+    ensures unchanged { 0 < result → (subtype.new ≡ subtype.old) × (out.new ≡ out.old) }
 {
     let Some(scalar) = scalar_of(value) else {
         return status::UNEXPECTED_TYPE;
@@ -270,7 +270,7 @@ fn value_of<'a>(element: RawElement<'a>) -> RawValue<'a>
 
 // Returns the value in its bytes, unless it contains a document.
 fn scalar_of<'a>(value: &RawValue<'a>) -> Option<RawBsonRef<'a>>
-    ensures { (d : ℕ) (v : Value) → IsValueAt d v value.now
+    ensures { (depth : ℕ) (v : Value) → IsValueAt depth v value.now
         → MatchOption result (IsNested v) (λ r. raw_view r ≡ v) }
 {
     let Some(kind) = ElementType::from(value.kind) else {
@@ -280,8 +280,8 @@ fn scalar_of<'a>(value: &RawValue<'a>) -> Option<RawBsonRef<'a>>
 }
 
 // Returns 1 for true and 0 for false.
-fn bit_of(boolean: bool) -> u32
-    ensures { result ≡ bit boolean }
+fn boolean_to_u32(boolean: bool) -> u32
+    ensures { result ≡ boolean_number boolean }
 {
     if boolean { 1 } else { 0 }
 }

@@ -4,8 +4,8 @@ ghost use Rattle.bson.specs.TextMeaning.{HasTextMeaningIn};
 ghost use Rattle.bson.specs.View.{bson_view};
 ghost use Rattle.bson_model.specs.Value.{Value};
 ghost use Rattle.bson_run.specs.Preprocessed.{preprocessed_of};
-ghost use Rattle.vbson.specs.Reading.{IsDocumentUnder, IsReadAs, IsPreprocessingFault, IsWithoutValue, IsRejectedWith};
-ghost use Rattle.vbson.specs.Reading.{IsWithoutDocument, MeansUnder};
+ghost use Rattle.vbson.specs.Reading.{IsDocumentUnder, IsReadAs, IsPreprocessingFault, IsTextReadFailure, IsReadFailure};
+ghost use Rattle.vbson.specs.Reading.{IsDocumentReadFailure, MeansUnder};
 
 use crate::convert::status_of;
 use crate::options::{CallOptions, duplicate_keys_of, options_of, preprocessing_of};
@@ -34,12 +34,12 @@ use std::alloc::Global;
 pub fn value_of_text(alloc: Global, options: CallOptions, text: &[u8]) -> Result<Bson, u32>
     ensures ok { IfOk result (λ value. MeansUnder options text.now (bson_view value)) }
     ensures one { (value : Value) → MeansUnder options text.now value → IfOk result (λ v. value ≡ bson_view v) }
-    ensures rejected { IfErr result (λ status. IsWithoutValue options status text.now) }
+    ensures rejected { IfErr result (λ status. IsTextReadFailure options status text.now) }
 {
     // A law: no text with a duplicate key has unique keys.
     one_double();
     match preprocess(alloc, preprocessing_of(options), text) {
-        Ok(Some(newer)) => meaning_of(alloc, options_of(options), newer.as_bytes()),
+        Ok(Some(new_text)) => meaning_of(alloc, options_of(options), new_text.as_bytes()),
         Ok(None) => meaning_of(alloc, options_of(options), text),
         Err(fault) if fault.is_memory() => Err(status::OUT_OF_MEMORY),
         Err(_) => Err(status::NOT_EXTENDED_JSON),
@@ -57,7 +57,7 @@ pub fn preprocess(
     preprocessing: Option<Preprocessing>,
     text: &[u8],
 ) -> Result<Option<String>, Error>
-    ensures ok { IfOk result (λ newer. IsReadAs preprocessing text.now (preprocessed_of text.now newer)) }
+    ensures ok { IfOk result (λ new_text. IsReadAs preprocessing text.now (preprocessed_of text.now new_text)) }
     ensures rejected { IfErr result (λ fault. IsPreprocessingFault preprocessing fault text.now) }
 {
     match preprocessing {
@@ -71,7 +71,7 @@ fn meaning_of(alloc: Global, options: Options, bytes: &[u8]) -> Result<Bson, u32
     ensures ok { IfOk result (λ value. HasTextMeaningIn options.doubles bytes.now (bson_view value)) }
     ensures one { (value : Value) → HasTextMeaningIn options.doubles bytes.now value
         → IfOk result (λ v. value ≡ bson_view v) }
-    ensures rejected { IfErr result (λ status. IsRejectedWith options status bytes.now) }
+    ensures rejected { IfErr result (λ status. IsReadFailure options status bytes.now) }
 {
     let sorted = Options {
         key_order: KeyOrder::Ascending,
@@ -93,7 +93,7 @@ pub fn value_of_document(alloc: Global, options: CallOptions, bytes: &[u8]) -> R
     ensures ok { IfOk result (λ value. IsDocumentUnder options bytes.now (bson_view value)) }
     ensures one { (value : Value) → IsDocumentUnder options bytes.now value
         → IfOk result (λ v. value ≡ bson_view v) }
-    ensures rejected { IfErr result (λ status. IsWithoutDocument options status bytes.now) }
+    ensures rejected { IfErr result (λ status. IsDocumentReadFailure options status bytes.now) }
 {
     let reading = ReadOptions {
         depth: DEPTH,

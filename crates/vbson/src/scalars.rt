@@ -6,9 +6,9 @@ ghost use Rattle.bson_types.specs.ObjectIds.{IsOidText, encode_lower};
 ghost use Rattle.bson_datetime.specs.Rfc3339Grammar.{DenotesDateTime};
 ghost use Rattle.bson_datetime.specs.CivilTime.{IsRfc3339Millis};
 ghost use Rattle.bson_datetime.specs.DateTimeText.{rfc3339_text};
-ghost use Rattle.vbson.specs.Buffer.{DoesNotFit, IsPut};
+ghost use Rattle.vbson.specs.Buffer.{IsLargerThanBuffer, IsWrittenToBuffer};
 
-use crate::buffer::put;
+use crate::buffer::write_string;
 use crate::status;
 use bson_datetime::{DateTime, Error as DateTimeError};
 use bson_decimal::Decimal128;
@@ -20,10 +20,10 @@ use std::str::FromStr;
 /// DenotesDecimal a decimal to its 16 bytes, the lowest first. No value is rounded.
 #[unsafe(no_mangle)]
 pub extern "C" fn vbson_decimal128_parse(text: &[u8], out: &mut [u8; 16]) -> u32
-    ensures done { result ≡ 0 → DenotesDecimal text.now out.new }
+    ensures success { result ≡ 0 → DenotesDecimal text.now out.new }
     ensures no_such_text { result ≡ 6 → IsUtf8 text.now → (b : List ℕ) → ¬ (DenotesDecimal text.now b) }
-    ensures listed { (result ≡ 0) ⊎ (result ≡ 6) }
-    ensures kept { 0 < result → out.new ≡ out.old }
+    ensures possible_statuses { (result ≡ 0) ⊎ (result ≡ 6) }
+    ensures unchanged { 0 < result → out.new ≡ out.old }
 {
     let Ok(text) = str::from_utf8(text) else {
         return status::INVALID_STRING;
@@ -45,14 +45,14 @@ pub extern "C" fn vbson_decimal128_print(
     buffer: &mut [u8],
     len: &mut usize,
 ) -> u32
-    ensures done { result ≡ 0 → IsPut (decimal_text bytes.now) buffer.old buffer.new len.new }
-    ensures too_small { result ≡ 8 → DoesNotFit (decimal_text bytes.now) buffer.old buffer.new len.new }
+    ensures success { result ≡ 0 → IsWrittenToBuffer (decimal_text bytes.now) buffer.old buffer.new len.new }
+    ensures too_small { result ≡ 8 → IsLargerThanBuffer (decimal_text bytes.now) buffer.old buffer.new len.new }
     ensures fits { 42 ≤ length buffer.old → result ≢ 8 }
-    ensures listed { (result ≡ 0) ⊎ (result ≡ 5) ⊎ (result ≡ 8) }
-    ensures kept { result ≡ 5 → (buffer.new ≡ buffer.old) × (len.new ≡ len.old) }
+    ensures possible_statuses { (result ≡ 0) ⊎ (result ≡ 5) ⊎ (result ≡ 8) }
+    ensures unchanged { result ≡ 5 → (buffer.new ≡ buffer.old) × (len.new ≡ len.old) }
 {
     match format!(in alloc; "{}", Decimal128::from_bytes(*bytes)) {
-        Ok(text) => put(text.as_bytes(), buffer, len),
+        Ok(text) => write_string(text.as_bytes(), buffer, len),
         Err(_) => status::OUT_OF_MEMORY,
     }
 }
@@ -60,10 +60,10 @@ pub extern "C" fn vbson_decimal128_print(
 /// DenotesDecimal an object id from 24 hexadecimal digits of either case to its 12 bytes.
 #[unsafe(no_mangle)]
 pub extern "C" fn vbson_object_id_parse(text: &[u8], out: &mut [u8; 12]) -> u32
-    ensures done { result ≡ 0 → IsOidText text.now out.new }
+    ensures success { result ≡ 0 → IsOidText text.now out.new }
     ensures no_such_text { result ≡ 6 → (id : List ℕ) → ¬ (IsOidText text.now id) }
-    ensures listed { (result ≡ 0) ⊎ (result ≡ 6) }
-    ensures kept { 0 < result → out.new ≡ out.old }
+    ensures possible_statuses { (result ≡ 0) ⊎ (result ≡ 6) }
+    ensures unchanged { 0 < result → out.new ≡ out.old }
 {
     match <[u8; 12] as FromHex>::from_hex(text) {
         Ok(id) => {
@@ -77,14 +77,14 @@ pub extern "C" fn vbson_object_id_parse(text: &[u8], out: &mut [u8; 12]) -> u32
 /// Prints the 12 bytes of an object id as 24 lower-case hexadecimal digits.
 #[unsafe(no_mangle)]
 pub extern "C" fn vbson_object_id_print(bytes: &[u8; 12], buffer: &mut [u8], len: &mut usize) -> u32
-    ensures done { result ≡ 0 → IsPut (encode_lower bytes.now) buffer.old buffer.new len.new }
-    ensures too_small { result ≡ 8 → DoesNotFit (encode_lower bytes.now) buffer.old buffer.new len.new }
+    ensures success { result ≡ 0 → IsWrittenToBuffer (encode_lower bytes.now) buffer.old buffer.new len.new }
+    ensures too_small { result ≡ 8 → IsLargerThanBuffer (encode_lower bytes.now) buffer.old buffer.new len.new }
     ensures fits { 24 ≤ length buffer.old → result ≢ 8 }
-    ensures listed { (result ≡ 0) ⊎ (result ≡ 8) }
+    ensures possible_statuses { (result ≡ 0) ⊎ (result ≡ 8) }
 {
     let mut digits = [0u8; 24];
     match hex::encode_to_slice(bytes.as_slice(), &mut digits) {
-        Ok(()) => put(&digits, buffer, len),
+        Ok(()) => write_string(&digits, buffer, len),
         Err(_) => unreachable!(),
     }
 }
@@ -92,10 +92,10 @@ pub extern "C" fn vbson_object_id_print(bytes: &[u8; 12], buffer: &mut [u8], len
 /// DenotesDecimal a date-time of RFC 3339 (section 5.6) to milliseconds since 1970-01-01T00:00:00Z.
 #[unsafe(no_mangle)]
 pub extern "C" fn vbson_date_time_parse(text: &[u8], out: &mut i64) -> u32
-    ensures done { result ≡ 0 → DenotesDateTime text.now out.new }
+    ensures success { result ≡ 0 → DenotesDateTime text.now out.new }
     ensures no_such_text { result ≡ 6 → IsUtf8 text.now → (ms : ℤ) → ¬ (DenotesDateTime text.now ms) }
-    ensures listed { (result ≡ 0) ⊎ (result ≡ 6) }
-    ensures kept { 0 < result → out.new ≡ out.old }
+    ensures possible_statuses { (result ≡ 0) ⊎ (result ≡ 6) }
+    ensures unchanged { 0 < result → out.new ≡ out.old }
 {
     let Ok(text) = str::from_utf8(text) else {
         return status::INVALID_STRING;
@@ -118,16 +118,16 @@ pub extern "C" fn vbson_date_time_print(
     buffer: &mut [u8],
     len: &mut usize,
 ) -> u32
-    ensures done { result ≡ 0 → IsPut (rfc3339_text millis) buffer.old buffer.new len.new }
-    ensures too_small { result ≡ 8 → DoesNotFit (rfc3339_text millis) buffer.old buffer.new len.new }
+    ensures success { result ≡ 0 → IsWrittenToBuffer (rfc3339_text millis) buffer.old buffer.new len.new }
+    ensures too_small { result ≡ 8 → IsLargerThanBuffer (rfc3339_text millis) buffer.old buffer.new len.new }
     ensures fits { 24 ≤ length buffer.old → result ≢ 8 }
     ensures no_text { result ≡ 7 → ¬ (IsRfc3339Millis millis) }
     ensures in_years { (result ≡ 0) ⊎ (result ≡ 8) → IsRfc3339Millis millis }
-    ensures listed { (result ≡ 0) ⊎ (result ≡ 5) ⊎ (result ≡ 7) ⊎ (result ≡ 8) }
-    ensures kept { (result ≡ 5) ⊎ (result ≡ 7) → (buffer.new ≡ buffer.old) × (len.new ≡ len.old) }
+    ensures possible_statuses { (result ≡ 0) ⊎ (result ≡ 5) ⊎ (result ≡ 7) ⊎ (result ≡ 8) }
+    ensures unchanged { (result ≡ 5) ⊎ (result ≡ 7) → (buffer.new ≡ buffer.old) × (len.new ≡ len.old) }
 {
     match DateTime::from_millis(millis).try_to_rfc3339_string(alloc) {
-        Ok(text) => put(text.as_bytes(), buffer, len),
+        Ok(text) => write_string(text.as_bytes(), buffer, len),
         Err(DateTimeError::CannotFormat { .. }) => status::NOT_REPRESENTABLE,
         Err(_) => status::OUT_OF_MEMORY,
     }

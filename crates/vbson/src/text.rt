@@ -34,7 +34,7 @@ pub fn text_of_line(mut line: Vec<u8>) -> Text<'static>
 /// - `OUT_OF_MEMORY`: an allocation failed.
 pub fn as_line(mut bytes: Vec<u8>) -> Result<Vec<u8>, u32>
     ensures ok { IfOk result (λ line. line.items ≡ bytes.items ++ newline) }
-    ensures refused { IfErr result (λ status. status ≡ 5) }
+    ensures error_status { IfErr result (λ status. status ≡ 5) }
 {
     match bytes.push(b'\n') {
         Ok(()) => Ok(bytes),

@@ -3,7 +3,7 @@ use Rattle.std.proofs.lemmas.Result.{IfErr-weaker, IfOk-weaker}
 use Rattle.bson_codec.specs.DocumentText.{IsDocumentTextOf}
 use Rattle.bson_convert.specs.Convert.{newline}
 use Rattle.vbson.proofs.Decoding.{directly, unread}
-use Rattle.vbson.specs.Documents.{Decodes, IsOneDocument, IsUndecoded, depth, direct_form}
+use Rattle.vbson.specs.Documents.{Decodes, IsOneDocument, IsDecodeFailure, depth, streaming_form}
 use Rattle.vbson.proofs.decode.decode_document.Goals as goal
 
 pub returns-in-Some-clause-ok : goal.returns-in-Some-clause-ok
@@ -12,19 +12,19 @@ returns-in-Some-clause-ok c =
     let mode = c.args.mode in
     let f = c.in-Some.form in
     let bytes = c.args.bytes.now in
-    let given : direct_form o mode ≡ Some f = cc in
-    IfOk-weaker c.decode_directly.result
+    let given : streaming_form o mode ≡ Some f = cc in
+    IfOk-weaker c.decode_streaming.result
     (λ line. (text : List ℕ) × IsDocumentTextOf f depth bytes text × IsUtf8 text × (line.items ≡ text ++ newline))
     (λ line. (text : List ℕ) × Decodes o mode bytes text × IsUtf8 text × (line.items ≡ text ++ newline))
     (λ line is. (is.0, directly o mode f bytes is.0 given is.1, is.2, is.3))
-    c.decode_directly.ensures.ok
+    c.decode_streaming.ensures.ok
 
-pub returns-in-Some-clause-refused : goal.returns-in-Some-clause-refused
-returns-in-Some-clause-refused c =
+pub returns-in-Some-clause-error_status : goal.returns-in-Some-clause-error_status
+returns-in-Some-clause-error_status c =
     let o = c.args.options in
     let mode = c.args.mode in
     let bytes = c.args.bytes.now in
-    IfErr-weaker c.decode_directly.result (λ status. (status ≡ 5) ⊎ ((status ≡ 10) × (IsOneDocument bytes → ⊥)))
-    (λ status. IsUndecoded o mode status bytes)
+    IfErr-weaker c.decode_streaming.result (λ status. (status ≡ 5) ⊎ ((status ≡ 10) × (IsOneDocument bytes → ⊥)))
+    (λ status. IsDecodeFailure o mode status bytes)
     (λ status h. unread o mode status bytes h)
-    c.decode_directly.ensures.refused
+    c.decode_streaming.ensures.error_status

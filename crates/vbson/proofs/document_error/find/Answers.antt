@@ -5,7 +5,7 @@ use Rattle.bson_bytes.specs.ReadDocuments.{IsReadIn}
 use Rattle.bson_model.specs.Normal.{writable_in}
 use Rattle.bson_model.specs.Value.{document}
 use Rattle.vbson.proofs.DocumentErrors.{nothing_found, of_document}
-use Rattle.vbson.specs.DocumentError.{IsFinding, IsOfDocument}
+use Rattle.vbson.specs.DocumentError.{IsFinding, IsFindingOfDocument}
 use Rattle.vbson.specs.Documents.{depth}
 use Rattle.vbson.specs.declared.document_error.Finding.{Finding}
 use Rattle.vbson.specs.declared.document_error.Finding.TheVariants.{Nothing}
@@ -17,9 +17,9 @@ returns-in-Ok-clause-found c =
     let bytes = c.args.bytes.now in
     let ps = document_view c.in-Ok.document in
     let read = subst (λ k. IsReadIn k depth bytes ps) c.duplicate_keys_of.ensures c.in-Ok.ensures.ok in
-    IfOk-weaker c.find_double.result (λ (it : Finding). IsOfDocument c.options_of.result ps it)
+    IfOk-weaker c.find_double.result (λ (it : Finding). IsFindingOfDocument c.options_of.result ps it)
     (λ (it : Finding). IsFinding options bytes it)
-    (λ it is. of_document options bytes ps it read (subst (λ o. IsOfDocument o ps it) c.options_of.ensures is))
+    (λ it is. of_document options bytes ps it read (subst (λ o. IsFindingOfDocument o ps it) c.options_of.ensures is))
     c.find_double.ensures.found
 
 pub returns-in-Ok-clause-accepts : goal.returns-in-Ok-clause-accepts
@@ -29,7 +29,7 @@ returns-in-Ok-clause-accepts c = λ h.
     let ps = document_view c.in-Ok.document in
     let read = subst (λ k. IsReadIn k depth bytes h.pairs) (sym c.duplicate_keys_of.ensures) h.read in
     let same = (c.in-Ok.ensures.only h.pairs read).0 in
-    IfOk-weaker c.find_double.result (λ (it : Finding). IsOfDocument c.options_of.result ps it)
+    IfOk-weaker c.find_double.result (λ (it : Finding). IsFindingOfDocument c.options_of.result ps it)
     (λ (it : Finding). it ≡ Nothing)
     (λ it is. nothing_found c.options_of.result ps h.pairs it same
     (subst (λ o. writable_in o.doubles (document h.pairs) ≡ true) (sym c.options_of.ensures) h.writable) is)

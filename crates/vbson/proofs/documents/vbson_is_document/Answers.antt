@@ -1,5 +1,5 @@
 use Rattle.std.proofs.Common.{arith}
 use Rattle.vbson.proofs.documents.vbson_is_document.Goals as goal
 
-pub returns-in-Err-clause-done : goal.returns-in-Err-clause-done
-returns-in-Err-clause-done c = (λ is. absurd (omega (arith, is)), λ h. absurd (c.in-Err.ensures.only h.0 h.1))
+pub returns-in-Err-clause-success : goal.returns-in-Err-clause-success
+returns-in-Err-clause-success c = (λ is. absurd (omega (arith, is)), λ h. absurd (c.in-Err.ensures.only h.0 h.1))

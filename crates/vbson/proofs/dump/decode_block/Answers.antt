@@ -1,7 +1,7 @@
 use Rattle.std.proofs.Common.{sym, subst}
 use Rattle.std.proofs.lemmas.Option.{IfSome_then}
 use Rattle.vbson.proofs.Dumps.{cut_block}
-use Rattle.vbson.specs.Dumps.{GivesDocuments}
+use Rattle.vbson.specs.Dumps.{IsOutputOfDocuments}
 use Rattle.vbson.proofs.dump.decode_block.Goals as goal
 
 -- the run ended at a document
@@ -15,11 +15,11 @@ returns-in_ok-add_line-in-Err c =
     let gives = cut_block run block _ text _ _ all _ end.fault end.number end.refused end.start c.in-Err.ensures.fails
     c.new-text.ensures.items c.new-diagnostics.ensures.items c.in_ok-add_line-in-Err.ensures.0 c.in_ok-add_line-in-Err.ensures.1 in
     IfSome_then c.with_newlines-in-Err.result c.with_newlines-in-Err.ensures
-    (λ given is. (
+    (λ output is. (
       text,
       all,
-      subst (λ n. GivesDocuments run block text all n given.consumed) (sym is.2)
-          (subst (λ n. GivesDocuments run block text all end.number n) (sym is.3) gives),
+      subst (λ n. IsOutputOfDocuments run block text all n output.consumed) (sym is.2)
+          (subst (λ n. IsOutputOfDocuments run block text all end.number n) (sym is.3) gives),
       is.0,
       is.1,
     ))

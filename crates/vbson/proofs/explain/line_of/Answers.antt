@@ -6,8 +6,8 @@ use Rattle.vbson.proofs.explain.line_of.Goals as goal
 
 pub returns : goal.returns
 returns c =
-    let words = c.args.words.now in
-    let line : string_bytes c.in_ok-line.line ≡ words ++ newline = search rules in (
-      before_newline words (subst IsUtf8 line (IsUtf8-string_bytes c.in_ok-line.line)),
+    let description = c.args.description.now in
+    let line : string_bytes c.in_ok-line.line ≡ description ++ newline = search rules in (
+      before_newline description (subst IsUtf8 line (IsUtf8-string_bytes c.in_ok-line.line)),
       ap (λ v. v.items) c.into_bytes.ensures.value ∙ line,
     )

@@ -3,7 +3,7 @@ use Rattle.std.proofs.lemmas.Result.{IfErr-weaker}
 use Rattle.std.specs.Prelude.{string_bytes}
 use Rattle.bson_run.specs.Preprocessed.{preprocessed_of}
 use Rattle.vbson.proofs.Preprocessed.{turned_away, without_value}
-use Rattle.vbson.specs.Reading.{IsReadAs, IsRejectedWith, IsPreprocessingFault, IsWithoutValue, preprocessing_of}
+use Rattle.vbson.specs.Reading.{IsReadAs, IsReadFailure, IsPreprocessingFault, IsTextReadFailure, preprocessing_of}
 use Rattle.vbson.proofs.reading.value_of_text.Goals as goal
 
 pub returns-in-Ok-Some-clause-rejected : goal.returns-in-Ok-Some-clause-rejected
@@ -13,16 +13,16 @@ returns-in-Ok-Some-clause-rejected c =
     let read = c.as_bytes.result.now in
     let p = c.preprocessing_of.result in
     let field = c.in-Ok-Some.field-0-is in
-    let is : c.in-Ok-Some.field-0 ≡ Some c.in-Ok-Some.newer = cc in
+    let is : c.in-Ok-Some.field-0 ≡ Some c.in-Ok-Some.new_text = cc in
     let given : IsReadAs p text (preprocessed_of text c.in-Ok-Some.field-0) =
-    subst (λ r. IfOk r (λ newer. IsReadAs p text (preprocessed_of text newer))) c.in-Ok-Some.is c.preprocess.ensures.ok in
-    let newer : IsReadAs p text (string_bytes c.in-Ok-Some.newer) =
+    subst (λ r. IfOk r (λ new_text. IsReadAs p text (preprocessed_of text new_text))) c.in-Ok-Some.is c.preprocess.ensures.ok in
+    let new_text : IsReadAs p text (string_bytes c.in-Ok-Some.new_text) =
     subst (λ n. IsReadAs p text (preprocessed_of text n)) is given in
     let stands : IsReadAs (preprocessing_of options) text read =
-    subst (λ q. IsReadAs q text read) c.preprocessing_of.ensures (subst (IsReadAs p text) (sym c.as_bytes.ensures.value) newer) in
-    IfErr-weaker c.meaning_of.result (λ status. IsRejectedWith c.options_of.result status read)
-    (λ status. IsWithoutValue options status text)
-    (λ status h. without_value options status text read stands (subst (λ o. IsRejectedWith o status read) c.options_of.ensures h))
+    subst (λ q. IsReadAs q text read) c.preprocessing_of.ensures (subst (IsReadAs p text) (sym c.as_bytes.ensures.value) new_text) in
+    IfErr-weaker c.meaning_of.result (λ status. IsReadFailure c.options_of.result status read)
+    (λ status. IsTextReadFailure options status text)
+    (λ status h. without_value options status text read stands (subst (λ o. IsReadFailure o status read) c.options_of.ensures h))
     c.meaning_of.ensures.rejected
 
 pub returns-in-Ok-None-clause-rejected : goal.returns-in-Ok-None-clause-rejected
@@ -33,14 +33,14 @@ returns-in-Ok-None-clause-rejected c =
     let field = c.in-Ok-None.field-0-is in
     let is : c.in-Ok-None.field-0 ≡ None = cc in
     let given : IsReadAs p text (preprocessed_of text c.in-Ok-None.field-0) =
-    subst (λ r. IfOk r (λ newer. IsReadAs p text (preprocessed_of text newer))) c.in-Ok-None.is c.preprocess.ensures.ok in
+    subst (λ r. IfOk r (λ new_text. IsReadAs p text (preprocessed_of text new_text))) c.in-Ok-None.is c.preprocess.ensures.ok in
     let itself : IsReadAs p text text = subst (λ n. IsReadAs p text (preprocessed_of text n)) is given in
     let stands : IsReadAs (preprocessing_of options) text text =
     subst (λ q. IsReadAs q text text) c.preprocessing_of.ensures itself in
     IfErr-weaker c.meaning_of-in-Ok-None.result
-    (λ status. IsRejectedWith c.options_of-in-Ok-None.result status text) (λ status. IsWithoutValue options status text)
+    (λ status. IsReadFailure c.options_of-in-Ok-None.result status text) (λ status. IsTextReadFailure options status text)
     (λ status h. without_value options status text text stands
-    (subst (λ o. IsRejectedWith o status text) c.options_of-in-Ok-None.ensures h))
+    (subst (λ o. IsReadFailure o status text) c.options_of-in-Ok-None.ensures h))
     c.meaning_of-in-Ok-None.ensures.rejected
 
 -- the arm before this one is that of running out of memory

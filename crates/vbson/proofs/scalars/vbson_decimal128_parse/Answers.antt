@@ -2,8 +2,8 @@ use Rattle.std.proofs.Common.{sym, subst}
 use Rattle.bson_decimal.specs.DecimalStrings.{DenotesDecimal}
 use Rattle.vbson.proofs.scalars.vbson_decimal128_parse.Goals as goal
 
-pub returns-in-Ok-from_str-clause-done : goal.returns-in-Ok-from_str-clause-done
-returns-in-Ok-from_str-clause-done c z =
+pub returns-in-Ok-from_str-clause-success : goal.returns-in-Ok-from_str-clause-success
+returns-in-Ok-from_str-clause-success c z =
     subst (λ b. DenotesDecimal c.args.text.now b) (sym c.bytes.ensures.same)
     (subst (λ t. DenotesDecimal t c.in-Ok-from_str.decimal) c.in-Ok.ensures.cases.0 c.in-Ok-from_str.ensures.answer.0)
 

@@ -3,9 +3,9 @@ use Rattle.std.proofs.lemmas.Str.{IsUtf8-string_bytes}
 use Rattle.bson_decimal.proofs.Offered.{display_text-length}
 use Rattle.vbson.proofs.scalars.vbson_decimal128_print.Goals as goal
 
-pub put-requires : goal.put-requires
-put-requires c = subst IsUtf8 (sym c.as_bytes.ensures.value) (IsUtf8-string_bytes c.in-Ok.text)
+pub write_string-requires : goal.write_string-requires
+write_string-requires c = subst IsUtf8 (sym c.as_bytes.ensures.value) (IsUtf8-string_bytes c.in-Ok.text)
 
 pub returns-in-Ok-clause-fits : goal.returns-in-Ok-clause-fits
 returns-in-Ok-clause-fits c enough is =
-    omega (arith, (c.put.ensures.too_small is).short, display_text-length c.from_bytes.result, ap length c.in-Ok.ensures.ok)
+    omega (arith, (c.write_string.ensures.too_small is).too_short, display_text-length c.from_bytes.result, ap length c.in-Ok.ensures.ok)

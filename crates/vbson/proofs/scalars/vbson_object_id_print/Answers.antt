@@ -3,7 +3,7 @@ use Rattle.bson_types.specs.ObjectIds.{encode_lower}
 use Rattle.vbson.proofs.Utf8.{digits_utf8}
 use Rattle.vbson.proofs.scalars.vbson_object_id_print.Goals as goal
 
-pub put-requires : goal.put-requires
-put-requires c =
+pub write_string-requires : goal.write_string-requires
+write_string-requires c =
     let written : c.encode_to_slice.new.output ≡ encode_lower c.args.bytes.now = search rules in
     subst IsUtf8 (sym written) (digits_utf8 c.args.bytes.now)

@@ -1,0 +1,69 @@
+//! Keys that collide under the hasher of std's maps, and the order in which an index iterates over
+//! its keys.
+//!
+//! tests/rows/many_keys.py makes the same keys, and inserts 100,000 of them into a document.
+use bson::Bson;
+use bson::store::{PairStore, SmallPairs};
+use std::hash::{FoldHasher, Hash, Hasher};
+use std::test::Fail;
+
+/// Keys of one hash under the hasher that std's maps have, which starts from a fixed, public state.
+/// The first 16 bytes lead it to a state that the next 8 undo, so that what comes after them is
+/// multiplied by zero; the last 16 go in by themselves, and are alike.
+const COLLIDING: [&str; 4] = [
+    "k000000000002398]rCpp7mg00000000TTTTTTTTTTTTTTTT",
+    "k000000000002398]rCpp7mg00000001TTTTTTTTTTTTTTTT",
+    "k000000000002398]rCpp7mg00001000TTTTTTTTTTTTTTTT",
+    "k000000000002398]rCpp7mg0001869fTTTTTTTTTTTTTTTT",
+];
+
+/// Keys like these, whose hashes differ.
+const ORDINARY: [&str; 4] = [
+    "k000000000002398]rCpp7mh00000000TTTTTTTTTTTTTTTT",
+    "k000000000002398]rCpp7mh00000001TTTTTTTTTTTTTTTT",
+    "k000000000002398]rCpp7mh00001000TTTTTTTTTTTTTTTT",
+    "k000000000002398]rCpp7mh0001869fTTTTTTTTTTTTTTTT",
+];
+
+fn hash_in_a_map(key: &str) -> u64 {
+    let mut state = FoldHasher::default();
+    key.hash(&mut state);
+    state.finish()
+}
+
+#[test]
+fn chosen_keys_have_one_hash(rt: HostRuntime) -> Result<(), Fail> {
+    for at in 1..4 {
+        assert_eq!(rt; hash_in_a_map(COLLIDING[at]), hash_in_a_map(COLLIDING[0]));
+        assert_ne!(rt; hash_in_a_map(ORDINARY[at]), hash_in_a_map(ORDINARY[0]));
+    }
+    Ok(())
+}
+
+const TWELVE: [&str; 12] = ["l", "k", "j", "i", "h", "g", "f", "e", "d", "c", "b", "a"];
+
+#[test]
+fn an_index_gives_the_keys_in_ascending_order(rt: HostRuntime) -> Result<(), Fail> {
+    let alloc = rt.alloc();
+    let mut store: SmallPairs<Bson> = SmallPairs::new(alloc);
+    for key in TWELVE {
+        let key = String::from_str(alloc, key)?;
+        if store.find(key.as_str()).is_none() {
+            drop(store.push(key, Bson::Null));
+        }
+    }
+    assert_eq!(rt; store.len(), 12);
+    assert!(rt;
+        store
+            .iter()
+            .next()
+            .is_some_and(|pair| pair.0.as_str() == "l")
+    );
+    let mut left = store.by_key();
+    for back in 0..12 {
+        let key = TWELVE[11 - back];
+        assert!(rt; left.next().is_some_and(|pair| pair.0.as_str() == key));
+    }
+    assert!(rt; left.next().is_none());
+    Ok(())
+}

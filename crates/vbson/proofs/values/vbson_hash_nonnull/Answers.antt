@@ -1,5 +1,0 @@
-use Rattle.std.proofs.Common.{inr}
-use Rattle.vbson.proofs.values.vbson_hash_nonnull.Goals as goal
-
-pub returns-in-Err-clause-accepts : goal.returns-in-Err-clause-accepts
-returns-in-Err-clause-accepts c v x = inr (inr (c.in-Err.ensures.rejected.accepts v x))
