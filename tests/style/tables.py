@@ -36,8 +36,8 @@ def messages():
     yield "the lines of docs/PROGRAMS.md", {it for it in codes(rows, 1) if it.startswith("bson_cli: ")}, \
         strings("crates/bson_convert/src/fault.rt", r'=> "(bson_cli: [^"]+)"')
     yield "the messages of docs/PROGRAMS.md", codes(table("docs/PROGRAMS.md", "Message | When"), 0), \
-        strings("crates/bson_convert/src/no_bytes.rt", r'NoBytes::\w+ => "([^"]+)"')
-    usage, text = re.findall(r'(?s)pub const (?:USAGE|HELP): &str =\s*"(.*?)";', sources.read("crates/bson_program/src/words.rt"))
+        strings("crates/bson_convert/src/encode_error.rt", r'NoBytes::\w+ => "([^"]+)"')
+    usage, text = re.findall(r'(?s)pub const (?:USAGE|HELP): &str =\s*"(.*?)";', sources.read("crates/bson_program/src/help_text.rt"))
     yield "the usage of bson_program and its help", usage, text.partition("\n\n")[0]
     yield "the help of bson_program", text.replace('\\"', '"') + "\n", sources.read("tests/lines/help.txt")
 

@@ -31,7 +31,7 @@ fn main(rt: HostRuntime) -> ExitCode {
 // The mode that the arguments ask for. One that is no UTF-8 asks for none.
 fn read_mode(rt: &HostRuntime) -> Result<Option<Mode>, Fault> {
     match words_given(rt)? {
-        Some(words) => Ok(mode_of(&words)),
+        Some(args) => Ok(mode_of(&args)),
         None => Ok(None),
     }
 }

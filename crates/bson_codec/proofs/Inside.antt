@@ -19,17 +19,17 @@ following : (all done bytes_read : List ℕ) (after : Option (List ℕ)) → Con
 following all done bytes_read None h = absurd h
 following all done bytes_read (Some left) h = record { rest = bytes_read ++ left; parts = h ∙ append_assoc done bytes_read left }
 
-kept : (had holds : Option (List ℕ)) (output more : List ℕ) → more ≡ [] → Appends had holds (output ++ more)
-    → Appends had holds output
-kept had holds output more e h =
-    subst (Appends had holds) (ap (λ (x : List ℕ). output ++ x) e ∙ append-nil output) h
+kept : (output_before output_after : Option (List ℕ)) (output more : List ℕ) → more ≡ [] → Appends output_before output_after (output ++ more)
+    → Appends output_before output_after output
+kept output_before output_after output more e h =
+    subst (Appends output_before output_after) (ap (λ (x : List ℕ). output ++ x) e ∙ append-nil output) h
 
-pub ends_inside : (run : Run) (all : List ℕ) (after had holds reported reports : Option (List ℕ)) (fault : RunFault)
-    (number refused start : ℕ) → EndsAt run (Some all) after had holds reported reports fault number refused start
+pub ends_inside : (run : Run) (all : List ℕ) (after output_before output_after diagnostics_before diagnostics_after : Option (List ℕ)) (fault : RunFault)
+    (number refused start : ℕ) → EndsAt run (Some all) after output_before output_after diagnostics_before diagnostics_after fault number refused start
     → IsFaultOfDocument fault
     → (output : List ℕ) × (diagnostic_lines : List ℕ) × EndsInside run all output diagnostic_lines fault number refused start
-    × Appends had holds output × Appends reported reports diagnostic_lines
-ends_inside run all after had holds reported reports fault number refused start h is =
+    × Appends output_before output_after output × Appends diagnostics_before diagnostics_after diagnostic_lines
+ends_inside run all after output_before output_after diagnostics_before diagnostics_after fault number refused start h is =
     let e = ended fault run number start (Some all) h.done h.bytes_read h.more h.partial_report is h.reason h.front in
     let b = following all h.done h.bytes_read after h.consumed_bytes in
     let known : Some all ≡ Some (h.done ++ b.rest) = ap (λ (x : List ℕ). Some x) b.parts in
@@ -46,4 +46,4 @@ ends_inside run all after had holds reported reports fault number refused start 
       reason = subst (HasNoLine fault run) first e.bad;
       last = λ over. e.last (subst (IsSkipped run) (sym first) over);
     } in
-    (h.output, h.diagnostic_lines, inside, kept had holds h.output h.more e.no_more h.written, kept reported reports h.diagnostic_lines h.partial_report e.unsaid h.reports_appended)
+    (h.output, h.diagnostic_lines, inside, kept output_before output_after h.output h.more e.no_more h.written, kept diagnostics_before diagnostics_after h.diagnostic_lines h.partial_report e.unsaid h.reports_appended)

@@ -87,8 +87,8 @@ justified_by run (Some all) (Some left) fault number start own bytes_read more p
       λ over. e.last (subst (IsSkipped run) (sym first) over),
     )
 
-pub justified : {run : Run} {before after had holds reported reports : Option (List ℕ)} {fault : RunFault}
-    {number refused start : ℕ} → EndsAt run before after had holds reported reports fault number refused start
+pub justified : {run : Run} {before after output_before output_after diagnostics_before diagnostics_after : Option (List ℕ)} {fault : RunFault}
+    {number refused start : ℕ} → EndsAt run before after output_before output_after diagnostics_before diagnostics_after fault number refused start
     → IsJustified run before fault start
 justified {run = run} {before = before} {after = after} {fault = fault} {number = number} {start = start} h =
     justified_by run before after fault number start h.done h.bytes_read h.more h.partial_report h.consumed_bytes h.place h.reason h.front

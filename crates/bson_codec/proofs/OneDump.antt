@@ -91,55 +91,55 @@ Step run number start bytes line partial_report over =
     ⊎ ((fault : RunFault) × HasNoLine fault run bytes × IsSkipped run bytes × (line ≡ [])
     × (partial_report ≡ diagnostic_of number start fault) × (over ≡ 1))
 
-record Last (run : Run) (bytes output reported : List ℕ) (number refused : ℕ) : Type 0 where
+record Last (run : Run) (bytes output diagnostics_before : List ℕ) (number refused : ℕ) : Type 0 where
   before : List ℕ
   span : List ℕ
   out : List ℕ
   line : List ℕ
-  reports : List ℕ
+  diagnostics_after : List ℕ
   partial_report : List ℕ
   left : ℕ
   over : ℕ
-  dump : Dump run before out reports number left
+  dump : Dump run before out diagnostics_after number left
   step : Step run (number + 1) (length before) span line partial_report over
   bytes_are : bytes ≡ before ++ span
   output_is : output ≡ out ++ line
-  told_is : reported ≡ reports ++ partial_report
+  told_is : diagnostics_before ≡ diagnostics_after ++ partial_report
   refused_are : refused ≡ left + over
 
-last_of : {run : Run} {bytes output reported : List ℕ} {number refused : ℕ} (n : ℕ)
-    → Dump run bytes output reported number refused → number ≡ suc n → Last run bytes output reported n refused
+last_of : {run : Run} {bytes output diagnostics_before : List ℕ} {number refused : ℕ} (n : ℕ)
+    → Dump run bytes output diagnostics_before number refused → number ≡ suc n → Last run bytes output diagnostics_before n refused
 last_of n none e = absurd (omega (arith, e))
-last_of {run = run} n (written {before = before} {output = output} {reported = reported} {number = number} {refused = refused} bytes line d is) e =
+last_of {run = run} n (written {before = before} {output = output} {diagnostics_before = diagnostics_before} {number = number} {refused = refused} bytes line d is) e =
     let count : number ≡ n = omega (arith, e) in
     record {
       before = before;
       span = bytes;
       out = output;
       line = line;
-      reports = reported;
+      diagnostics_after = diagnostics_before;
       partial_report = [];
       left = refused;
       over = 0;
-      dump = subst (λ (k : ℕ). Dump run before output reported k refused) count d;
+      dump = subst (λ (k : ℕ). Dump run before output diagnostics_before k refused) count d;
       step = inl (is, refl, refl);
       bytes_are = refl;
       output_is = refl;
-      told_is = sym (append-nil reported);
+      told_is = sym (append-nil diagnostics_before);
       refused_are = omega arith;
     }
-last_of {run = run} n (skipped_document {before = before} {output = output} {reported = reported} {number = number} {refused = refused} bytes fault d over bad) e =
+last_of {run = run} n (skipped_document {before = before} {output = output} {diagnostics_before = diagnostics_before} {number = number} {refused = refused} bytes fault d over bad) e =
     let count : number ≡ n = omega (arith, e) in
     record {
       before = before;
       span = bytes;
       out = output;
       line = [];
-      reports = reported;
+      diagnostics_after = diagnostics_before;
       partial_report = diagnostic_of (number + 1) (length before) fault;
       left = refused;
       over = 1;
-      dump = subst (λ (k : ℕ). Dump run before output reported k refused) count d;
+      dump = subst (λ (k : ℕ). Dump run before output diagnostics_before k refused) count d;
       step = inr (fault, bad, over, refl, ap (λ (k : ℕ). diagnostic_of (k + 1) (length before) fault) count, refl);
       bytes_are = refl;
       output_is = sym (append-nil output);
@@ -147,8 +147,8 @@ last_of {run = run} n (skipped_document {before = before} {output = output} {rep
       refused_are = refl;
     }
 
-none_of : {run : Run} {bytes output reported : List ℕ} {number refused : ℕ} → Dump run bytes output reported number refused
-    → number ≡ 0 → (bytes ≡ []) × (output ≡ []) × (reported ≡ []) × (refused ≡ 0)
+none_of : {run : Run} {bytes output diagnostics_before : List ℕ} {number refused : ℕ} → Dump run bytes output diagnostics_before number refused
+    → number ≡ 0 → (bytes ≡ []) × (output ≡ []) × (diagnostics_before ≡ []) × (refused ≡ 0)
 none_of none e = (refl, refl, refl, refl)
 none_of (written bytes line d is) e = absurd (omega (arith, e))
 none_of (skipped_document bytes fault d over bad) e = absurd (omega (arith, e))
@@ -158,39 +158,39 @@ step_length : (run : Run) (number start : ℕ) (bytes line partial_report : List
 step_length run number start bytes line partial_report over (inl s) = line_length run bytes line s.0
 step_length run number start bytes line partial_report over (inr s) = s.2.1
 
-one_step : (run : Run) (number start : ℕ) (bytes a b partial_report reports : List ℕ) (n m : ℕ)
-    → Step run number start bytes a partial_report n → Step run number start bytes b reports m
-    → (a ≡ b) × (partial_report ≡ reports) × (n ≡ m)
-one_step run number start bytes a b partial_report reports n m (inl s) (inl t) =
+one_step : (run : Run) (number start : ℕ) (bytes a b partial_report diagnostics_after : List ℕ) (n m : ℕ)
+    → Step run number start bytes a partial_report n → Step run number start bytes b diagnostics_after m
+    → (a ≡ b) × (partial_report ≡ diagnostics_after) × (n ≡ m)
+one_step run number start bytes a b partial_report diagnostics_after n m (inl s) (inl t) =
     (one_line run bytes a b s.0 t.0, s.1 ∙ sym t.1, s.2 ∙ sym t.2)
-one_step run number start bytes a b partial_report reports n m (inl s) (inr t) = absurd (either_line run bytes a t.0 s.0 t.1)
-one_step run number start bytes a b partial_report reports n m (inr s) (inl t) = absurd (either_line run bytes b s.0 t.0 s.1)
-one_step run number start bytes a b partial_report reports n m (inr (f, h, o, l, w, c)) (inr (g, k, p, q, v, d)) =
+one_step run number start bytes a b partial_report diagnostics_after n m (inl s) (inr t) = absurd (either_line run bytes a t.0 s.0 t.1)
+one_step run number start bytes a b partial_report diagnostics_after n m (inr s) (inl t) = absurd (either_line run bytes b s.0 t.0 s.1)
+one_step run number start bytes a b partial_report diagnostics_after n m (inr (f, h, o, l, w, c)) (inr (g, k, p, q, v, d)) =
     let same : f ≡ g = one_fault run bytes f g h k in
     (l ∙ sym q, w ∙ ap (diagnostic_of number start) same ∙ sym v, c ∙ sym d)
 
 -- ---- dumps of as many documents
 
-record Same (a b output other reported reports : List ℕ) (refused left : ℕ) : Type 0 where
+record Same (a b output other diagnostics_before diagnostics_after : List ℕ) (refused left : ℕ) : Type 0 where
   pub bytes : a ≡ b
   pub outputs : output ≡ other
-  pub diagnostic_lines : reported ≡ reports
+  pub diagnostic_lines : diagnostics_before ≡ diagnostics_after
   pub counts : refused ≡ left
 
-same_count : (n : ℕ) (run : Run) (a b output other reported reports x y : List ℕ) (refused left : ℕ)
-    → Dump run a output reported n refused → Dump run b other reports n left → a ++ x ≡ b ++ y
-    → Same a b output other reported reports refused left
-same_count zero run a b output other reported reports x y refused left d e g =
+same_count : (n : ℕ) (run : Run) (a b output other diagnostics_before diagnostics_after x y : List ℕ) (refused left : ℕ)
+    → Dump run a output diagnostics_before n refused → Dump run b other diagnostics_after n left → a ++ x ≡ b ++ y
+    → Same a b output other diagnostics_before diagnostics_after refused left
+same_count zero run a b output other diagnostics_before diagnostics_after x y refused left d e g =
     let i = none_of d refl in
     let j = none_of e refl in
     record { bytes = i.0 ∙ sym j.0; outputs = i.1 ∙ sym j.1; diagnostic_lines = i.2 ∙ sym j.2; counts = i.3 ∙ sym j.3 }
-same_count (suc n) run a b output other reported reports x y refused left d e g =
+same_count (suc n) run a b output other diagnostics_before diagnostics_after x y refused left d e g =
     let i = last_of n d refl in
     let j = last_of n e refl in
     let whole : i.before ++ (i.span ++ x) ≡ j.before ++ (j.span ++ y) =
     sym (append_assoc i.before i.span x) ∙ ap (λ (z : List ℕ). z ++ x) (sym i.bytes_are) ∙ g
     ∙ ap (λ (z : List ℕ). z ++ y) j.bytes_are ∙ append_assoc j.before j.span y in
-    let k = same_count n run i.before j.before i.out j.out i.reports j.reports (i.span ++ x) (j.span ++ y) i.left j.left
+    let k = same_count n run i.before j.before i.out j.out i.diagnostics_after j.diagnostics_after (i.span ++ x) (j.span ++ y) i.left j.left
     i.dump j.dump whole in
     let rests : i.span ++ x ≡ j.span ++ y =
     same_rest i.before (i.span ++ x) j.before (j.span ++ y) whole (ap length k.bytes) in
@@ -215,34 +215,34 @@ record Mark (run : Run) (bytes : List ℕ) (n k : ℕ) : Type 0 where
   front : List ℕ
   following : List ℕ
   output : List ℕ
-  reported : List ℕ
+  diagnostics_before : List ℕ
   refused : ℕ
-  dump : Dump run front output reported n refused
+  dump : Dump run front output diagnostics_before n refused
   parts : bytes ≡ front ++ following
   some : 1 ≤ k → 1 ≤ length following
 
-mark : (k n m : ℕ) (run : Run) (bytes output reported : List ℕ) (refused : ℕ) → Dump run bytes output reported m refused
+mark : (k n m : ℕ) (run : Run) (bytes output diagnostics_before : List ℕ) (refused : ℕ) → Dump run bytes output diagnostics_before m refused
     → m ≡ k + n → Mark run bytes n k
-mark zero n m run bytes output reported refused d e = record {
+mark zero n m run bytes output diagnostics_before refused d e = record {
   front = bytes;
   following = [];
   output = output;
-  reported = reported;
+  diagnostics_before = diagnostics_before;
   refused = refused;
-  dump = subst (λ (c : ℕ). Dump run bytes output reported c refused) (omega (arith, e)) d;
+  dump = subst (λ (c : ℕ). Dump run bytes output diagnostics_before c refused) (omega (arith, e)) d;
   parts = sym (append-nil bytes);
   some = λ le. absurd (omega (arith, le));
 }
-mark (suc k) n m run bytes output reported refused d e =
+mark (suc k) n m run bytes output diagnostics_before refused d e =
     let i = last_of (k + n) d (omega (arith, e)) in
-    let b = mark k n (k + n) run i.before i.out i.reports i.left i.dump refl in
+    let b = mark k n (k + n) run i.before i.out i.diagnostics_after i.left i.dump refl in
     let long : 4 ≤ length i.span =
     (counted i.span (step_length run (k + n + 1) (length i.before) i.span i.line i.partial_report i.over i.step)).long in
     record {
       front = b.front;
       following = b.following ++ i.span;
       output = b.output;
-      reported = b.reported;
+      diagnostics_before = b.diagnostics_before;
       refused = b.refused;
       dump = b.dump;
       parts = i.bytes_are ∙ ap (λ (z : List ℕ). z ++ i.span) b.parts ∙ append_assoc b.front b.following i.span;
@@ -250,17 +250,17 @@ mark (suc k) n m run bytes output reported refused d e =
     }
 
 -- the first of so many, of a dump that has no fewer
-first_of : (n m : ℕ) (run : Run) (bytes output reported : List ℕ) (refused : ℕ) → Dump run bytes output reported m refused
+first_of : (n m : ℕ) (run : Run) (bytes output diagnostics_before : List ℕ) (refused : ℕ) → Dump run bytes output diagnostics_before m refused
     → n ≤ m → Mark run bytes n (m - n)
-first_of n m run bytes output reported refused d le =
-    mark (m - n) n m run bytes output reported refused d (omega (arith, le))
+first_of n m run bytes output diagnostics_before refused d le =
+    mark (m - n) n m run bytes output diagnostics_before refused d (omega (arith, le))
 
 -- no bytes stand behind a dump of fewer documents
-no_longer : (n m : ℕ) (run : Run) (bytes output other reported reports : List ℕ) (refused left : ℕ)
-    → Dump run bytes output reported n refused → Dump run bytes other reports m left → n < m → ⊥
-no_longer n m run bytes output other reported reports refused left d e lt =
-    let f = first_of n m run bytes other reports left e (omega (arith, lt)) in
-    let s = same_count n run bytes f.front output f.output reported f.reported [] f.following refused f.refused d f.dump
+no_longer : (n m : ℕ) (run : Run) (bytes output other diagnostics_before diagnostics_after : List ℕ) (refused left : ℕ)
+    → Dump run bytes output diagnostics_before n refused → Dump run bytes other diagnostics_after m left → n < m → ⊥
+no_longer n m run bytes output other diagnostics_before diagnostics_after refused left d e lt =
+    let f = first_of n m run bytes other diagnostics_after left e (omega (arith, lt)) in
+    let s = same_count n run bytes f.front output f.output diagnostics_before f.diagnostics_before [] f.following refused f.refused d f.dump
     (append-nil bytes ∙ f.parts) in
     let some : 1 ≤ length f.following = f.some (omega (arith, lt)) in
     omega (arith, some, ap length f.parts, ap length s.bytes, length-append f.front f.following)
@@ -273,15 +273,15 @@ equal_by n m false false e f h k = omega (arith, ltb-false n m e, ltb-false m n 
 equal : (n m : ℕ) → (n < m → ⊥) → (m < n → ⊥) → n ≡ m
 equal n m h k = equal_by n m (ltb n m) (ltb m n) refl refl h k
 
-pub one_dump : (run : Run) (bytes output other reported reports : List ℕ) (number count refused left : ℕ)
-    → Dump run bytes output reported number refused → Dump run bytes other reports count left
-    → (output ≡ other) × (reported ≡ reports) × (number ≡ count) × (refused ≡ left)
-one_dump run bytes output other reported reports number count refused left d e =
+pub one_dump : (run : Run) (bytes output other diagnostics_before diagnostics_after : List ℕ) (number count refused left : ℕ)
+    → Dump run bytes output diagnostics_before number refused → Dump run bytes other diagnostics_after count left
+    → (output ≡ other) × (diagnostics_before ≡ diagnostics_after) × (number ≡ count) × (refused ≡ left)
+one_dump run bytes output other diagnostics_before diagnostics_after number count refused left d e =
     let n : number ≡ count = equal number count
-    (no_longer number count run bytes output other reported reports refused left d e)
-    (no_longer count number run bytes other output reports reported left refused e d) in
-    let s = same_count number run bytes bytes output other reported reports [] [] refused left d
-    (subst (λ (k : ℕ). Dump run bytes other reports k left) (sym n) e) refl in
+    (no_longer number count run bytes output other diagnostics_before diagnostics_after refused left d e)
+    (no_longer count number run bytes other output diagnostics_after diagnostics_before left refused e d) in
+    let s = same_count number run bytes bytes output other diagnostics_before diagnostics_after [] [] refused left d
+    (subst (λ (k : ℕ). Dump run bytes other diagnostics_after k left) (sym n) e) refl in
     (s.outputs, s.diagnostic_lines, n, s.counts)
 
 -- ---- where a run ends
@@ -292,17 +292,17 @@ stuck_at run number start bytes line partial_report over fault (inl s) bad last 
 stuck_at run number start bytes line partial_report over fault (inr s) bad last = last s.2
 
 -- at bytes at which a run ends no document of a dump begins
-stuck : (n m : ℕ) (run : Run) (done rest bytes more output other reported reports : List ℕ) (refused left : ℕ)
-    (fault : RunFault) → Dump run done output reported n refused → Dump run bytes other reports m left
+stuck : (n m : ℕ) (run : Run) (done rest bytes more output other diagnostics_before diagnostics_after : List ℕ) (refused left : ℕ)
+    (fault : RunFault) → Dump run done output diagnostics_before n refused → Dump run bytes other diagnostics_after m left
     → done ++ rest ≡ bytes ++ more → HasNoLine fault run (declared_prefix rest) → (IsSkipped run (declared_prefix rest) → ⊥)
     → n < m → ⊥
-stuck n m run done rest bytes more output other reported reports refused left fault d e whole bad last lt =
-    let f = first_of (suc n) m run bytes other reports left e (omega (arith, lt)) in
+stuck n m run done rest bytes more output other diagnostics_before diagnostics_after refused left fault d e whole bad last lt =
+    let f = first_of (suc n) m run bytes other diagnostics_after left e (omega (arith, lt)) in
     let i = last_of n f.dump refl in
     let parts : done ++ rest ≡ i.before ++ (i.span ++ (f.following ++ more)) =
     whole ∙ ap (λ (z : List ℕ). z ++ more) f.parts ∙ append_assoc f.front f.following more
     ∙ ap (λ (z : List ℕ). z ++ (f.following ++ more)) i.bytes_are ∙ append_assoc i.before i.span (f.following ++ more) in
-    let s = same_count n run done i.before output i.out reported i.reports rest (i.span ++ (f.following ++ more)) refused i.left d
+    let s = same_count n run done i.before output i.out diagnostics_before i.diagnostics_after rest (i.span ++ (f.following ++ more)) refused i.left d
     i.dump parts in
     let rests : rest ≡ i.span ++ (f.following ++ more) =
     same_rest done rest i.before (i.span ++ (f.following ++ more)) parts (ap length s.bytes) in
@@ -312,16 +312,16 @@ stuck n m run done rest bytes more output other reported reports refused left fa
     stuck_at run (n + 1) (length i.before) i.span i.line i.partial_report i.over fault i.step
     (subst (HasNoLine fault run) here bad) (λ over. last (subst (IsSkipped run) (sym here) over))
 
-either_by : (run : Run) (all other output reports reported done rest : List ℕ) (count n left refused : ℕ) (b : Bool)
-    → ltb n count ≡ b → (n < count → ⊥) → Dump run all other reports count left → Dump run done output reported n refused
+either_by : (run : Run) (all other output diagnostics_after diagnostics_before done rest : List ℕ) (count n left refused : ℕ) (b : Bool)
+    → ltb n count ≡ b → (n < count → ⊥) → Dump run all other diagnostics_after count left → Dump run done output diagnostics_before n refused
     → all ≡ done ++ rest → rest ≢ [] → ⊥
-either_by run all other output reports reported done rest count n left refused true e fewer d h parts some =
+either_by run all other output diagnostics_after diagnostics_before done rest count n left refused true e fewer d h parts some =
     fewer (ltb-true n count e)
-either_by run all other output reports reported done rest count n left refused false e fewer d h parts some =
-    let f = first_of count n run done output reported refused h (ltb-false n count e) in
+either_by run all other output diagnostics_after diagnostics_before done rest count n left refused false e fewer d h parts some =
+    let f = first_of count n run done output diagnostics_before refused h (ltb-false n count e) in
     let whole : all ++ [] ≡ f.front ++ (f.following ++ rest) =
     append-nil all ∙ parts ∙ ap (λ (z : List ℕ). z ++ rest) f.parts ∙ append_assoc f.front f.following rest in
-    let s = same_count count run all f.front other f.output reports f.reported [] (f.following ++ rest) left f.refused d f.dump
+    let s = same_count count run all f.front other f.output diagnostics_after f.diagnostics_before [] (f.following ++ rest) left f.refused d f.dump
     whole in
     let none : length rest ≡ 0 =
     omega (
@@ -335,28 +335,28 @@ either_by run all other output reports reported done rest count n left refused f
     some (nil_from_length rest none)
 
 -- a dump has no bytes behind it at which a run over it ended
-pub either_end : (run : Run) (all output other reported reports : List ℕ) (count left number refused start : ℕ)
-    (fault : RunFault) → Dump run all other reports count left
-    → EndsInside run all output reported fault number refused start → ⊥
-either_end run all output other reported reports count left number refused start fault d h =
-    let fewer : h.count < count → ⊥ = stuck h.count count run h.done h.rest all [] output other reported reports refused left
+pub either_end : (run : Run) (all output other diagnostics_before diagnostics_after : List ℕ) (count left number refused start : ℕ)
+    (fault : RunFault) → Dump run all other diagnostics_after count left
+    → EndsInside run all output diagnostics_before fault number refused start → ⊥
+either_end run all output other diagnostics_before diagnostics_after count left number refused start fault d h =
+    let fewer : h.count < count → ⊥ = stuck h.count count run h.done h.rest all [] output other diagnostics_before diagnostics_after refused left
     fault h.documents d (sym h.parts ∙ sym (append-nil all)) h.reason h.last in
-    either_by run all other output reports reported h.done h.rest count h.count left refused (ltb h.count count) refl fewer d
+    either_by run all other output diagnostics_after diagnostics_before h.done h.rest count h.count left refused (ltb h.count count) refl fewer d
     h.documents h.parts h.some
 
-pub one_end : (run : Run) (all output other reported reports : List ℕ) (number count refused left start place : ℕ)
-    (fault cause : RunFault) → EndsInside run all output reported fault number refused start
-    → EndsInside run all other reports cause count left place
-    → (output ≡ other) × (reported ≡ reports) × (fault ≡ cause) × (number ≡ count) × (refused ≡ left) × (start ≡ place)
-one_end run all output other reported reports number count refused left start place fault cause h k =
+pub one_end : (run : Run) (all output other diagnostics_before diagnostics_after : List ℕ) (number count refused left start place : ℕ)
+    (fault cause : RunFault) → EndsInside run all output diagnostics_before fault number refused start
+    → EndsInside run all other diagnostics_after cause count left place
+    → (output ≡ other) × (diagnostics_before ≡ diagnostics_after) × (fault ≡ cause) × (number ≡ count) × (refused ≡ left) × (start ≡ place)
+one_end run all output other diagnostics_before diagnostics_after number count refused left start place fault cause h k =
     let whole : h.done ++ h.rest ≡ k.done ++ k.rest = sym h.parts ∙ k.parts in
     let n : h.count ≡ k.count = equal h.count k.count
-    (stuck h.count k.count run h.done h.rest k.done k.rest output other reported reports refused left fault h.documents
+    (stuck h.count k.count run h.done h.rest k.done k.rest output other diagnostics_before diagnostics_after refused left fault h.documents
     k.documents whole h.reason h.last)
-    (stuck k.count h.count run k.done k.rest h.done h.rest other output reports reported left refused cause k.documents
+    (stuck k.count h.count run k.done k.rest h.done h.rest other output diagnostics_after diagnostics_before left refused cause k.documents
     h.documents (sym whole) k.reason k.last) in
-    let s = same_count h.count run h.done k.done output other reported reports h.rest k.rest refused left h.documents
-    (subst (λ (c : ℕ). Dump run k.done other reports c left) (sym n) k.documents) whole in
+    let s = same_count h.count run h.done k.done output other diagnostics_before diagnostics_after h.rest k.rest refused left h.documents
+    (subst (λ (c : ℕ). Dump run k.done other diagnostics_after c left) (sym n) k.documents) whole in
     let rests : h.rest ≡ k.rest = same_rest h.done h.rest k.done k.rest whole (ap length s.bytes) in
     let faults : fault ≡ cause = one_fault run (declared_prefix h.rest) fault cause h.reason
     (subst (λ (b : List ℕ). HasNoLine cause run (declared_prefix b)) (sym rests) k.reason) in

@@ -15,16 +15,16 @@ use Rattle.bson_codec.specs.declared.run_end.RunFault.{RunFault}
 use Rattle.bson_codec.specs.declared.run_end.RunFault.TheVariants.{Malformed, FiniteDouble, CannotRead, CannotWrite}
 use Rattle.bson_codec.specs.declared.run_end.RunFault.TheVariants.{OutOfMemory}
 
-pub run_begins : (run : Run) (before had reported : Option (List ℕ)) → RunProgress run before before had had reported reported 0 0 0
-run_begins run before had reported = record {
+pub run_begins : (run : Run) (before output_before diagnostics_before : Option (List ℕ)) → RunProgress run before before output_before output_before diagnostics_before diagnostics_before 0 0 0
+run_begins run before output_before diagnostics_before = record {
   done = [];
   output = [];
   diagnostic_lines = [];
   consumed_bytes = Consumes-nil before;
   documents = none;
   place = refl;
-  written = Appends-nil had;
-  reports_appended = Appends-nil reported;
+  written = Appends-nil output_before;
+  reports_appended = Appends-nil diagnostics_before;
 }
 
 appends_kept : (a b c : Option (List ℕ)) (bs : List ℕ) → Appends a b bs → Keeps b c → Appends a c bs
@@ -33,12 +33,12 @@ appends_kept (Some x) None c bs p q = absurd p
 appends_kept (Some x) (Some y) None bs p q = absurd q
 appends_kept (Some x) (Some y) (Some z) bs p q = q ∙ p
 
-pub run_goes_on : (run : Run) (before mid after had holds after_holds reported reports after_tells : Option (List ℕ))
+pub run_goes_on : (run : Run) (before mid after output_before output_after after_holds diagnostics_before diagnostics_after after_tells : Option (List ℕ))
     (number refused start n following : ℕ) (bytes : List ℕ)
-    → RunProgress run before mid had holds reported reports number refused start → Consumes mid after bytes
-    → IsLineOrSkip n run (number + 1) start bytes holds after_holds reports after_tells → following ≡ start + length bytes
-    → RunProgress run before after had after_holds reported after_tells (number + 1) (refused + n) following
-run_goes_on run before mid after had holds after_holds reported reports after_tells number refused start n following bytes r bytes_read (inl g) place =
+    → RunProgress run before mid output_before output_after diagnostics_before diagnostics_after number refused start → Consumes mid after bytes
+    → IsLineOrSkip n run (number + 1) start bytes output_after after_holds diagnostics_after after_tells → following ≡ start + length bytes
+    → RunProgress run before after output_before after_holds diagnostics_before after_tells (number + 1) (refused + n) following
+run_goes_on run before mid after output_before output_after after_holds diagnostics_before diagnostics_after after_tells number refused start n following bytes r bytes_read (inl g) place =
     let line = g.1.0.0 in
     let same : refused + n ≡ refused = omega (arith, g.0) in
     record {
@@ -49,10 +49,10 @@ run_goes_on run before mid after had holds after_holds reported reports after_te
       documents = subst (λ (k : ℕ). Dump run (r.done ++ bytes) (r.output ++ line) r.diagnostic_lines (number + 1) k) (sym same)
           (written bytes line r.documents g.1.0.1);
       place = omega (arith, place, r.place, length-append r.done bytes);
-      written = Appends-trans had holds after_holds r.output line r.written g.1.0.2;
-      reports_appended = appends_kept reported reports after_tells r.diagnostic_lines r.reports_appended g.1.1;
+      written = Appends-trans output_before output_after after_holds r.output line r.written g.1.0.2;
+      reports_appended = appends_kept diagnostics_before diagnostics_after after_tells r.diagnostic_lines r.reports_appended g.1.1;
     }
-run_goes_on run before mid after had holds after_holds reported reports after_tells number refused start n following bytes r bytes_read (inr g) place =
+run_goes_on run before mid after output_before output_after after_holds diagnostics_before diagnostics_after after_tells number refused start n following bytes r bytes_read (inr g) place =
     let fault = g.1.1.0.0 in
     let one : refused + n ≡ refused + 1 = omega (arith, g.0) in
     let partial_report = diagnostic_of (number + 1) (length r.done) fault in
@@ -64,39 +64,39 @@ run_goes_on run before mid after had holds after_holds reported reports after_te
       documents = subst (λ (k : ℕ). Dump run (r.done ++ bytes) r.output (r.diagnostic_lines ++ partial_report) (number + 1) k) (sym one)
           (skipped_document bytes fault r.documents g.1.0 g.1.1.0.1);
       place = omega (arith, place, r.place, length-append r.done bytes);
-      written = appends_kept had holds after_holds r.output r.written g.1.1.1;
-      reports_appended = Appends-trans reported reports after_tells r.diagnostic_lines partial_report r.reports_appended
-          (subst (λ (s : ℕ). Appends reports after_tells (diagnostic_of (number + 1) s fault)) r.place g.1.1.0.2);
+      written = appends_kept output_before output_after after_holds r.output r.written g.1.1.1;
+      reports_appended = Appends-trans diagnostics_before diagnostics_after after_tells r.diagnostic_lines partial_report r.reports_appended
+          (subst (λ (s : ℕ). Appends diagnostics_after after_tells (diagnostic_of (number + 1) s fault)) r.place g.1.1.0.2);
     }
 
 -- ---- a document without a line
 
-pub cut_line : (run : Run) (number start : ℕ) (bytes line : List ℕ) (had holds reports : Option (List ℕ))
-    → IsLine run bytes line → WritesBeginning had holds line
-    → IsRunEnd CannotWrite run number start bytes had holds reports reports
-cut_line run number start bytes line had holds reports is cut =
-    (cut.beginning, [], inl ((line, is, cut.starts), refl), (cut.written, Appends-nil reports))
+pub cut_line : (run : Run) (number start : ℕ) (bytes line : List ℕ) (output_before output_after diagnostics_after : Option (List ℕ))
+    → IsLine run bytes line → WritesBeginning output_before output_after line
+    → IsRunEnd CannotWrite run number start bytes output_before output_after diagnostics_after diagnostics_after
+cut_line run number start bytes line output_before output_after diagnostics_after is cut =
+    (cut.beginning, [], inl ((line, is, cut.starts), refl), (cut.written, Appends-nil diagnostics_after))
 
 pub untold : (e : RunFault) (run : Run) (number start : ℕ) (bytes : List ℕ) (fault : RunFault)
-    (had reported reports : Option (List ℕ)) → HasNoLine fault run bytes → IsSkipped run bytes
-    → IsReportFailure e number start fault reported reports → IsRunEnd e run number start bytes had had reported reports
-untold e run number start bytes fault had reported reports bad over (inl p) =
-    subst (λ (it : RunFault). IsRunEnd it run number start bytes had had reported reports) (sym p.0)
-    ([], [], (refl, refl), (Appends-nil had, appends_kept reported reported reports [] (Appends-nil reported) p.1))
-untold e run number start bytes fault had reported reports bad over (inr p) =
-    subst (λ (it : RunFault). IsRunEnd it run number start bytes had had reported reports) (sym p.0)
-    ([], p.1.0, inr ((fault, bad, over, p.1.1), refl), (Appends-nil had, p.1.2))
+    (output_before diagnostics_before diagnostics_after : Option (List ℕ)) → HasNoLine fault run bytes → IsSkipped run bytes
+    → IsReportFailure e number start fault diagnostics_before diagnostics_after → IsRunEnd e run number start bytes output_before output_before diagnostics_before diagnostics_after
+untold e run number start bytes fault output_before diagnostics_before diagnostics_after bad over (inl p) =
+    subst (λ (it : RunFault). IsRunEnd it run number start bytes output_before output_before diagnostics_before diagnostics_after) (sym p.0)
+    ([], [], (refl, refl), (Appends-nil output_before, appends_kept diagnostics_before diagnostics_before diagnostics_after [] (Appends-nil diagnostics_before) p.1))
+untold e run number start bytes fault output_before diagnostics_before diagnostics_after bad over (inr p) =
+    subst (λ (it : RunFault). IsRunEnd it run number start bytes output_before output_before diagnostics_before diagnostics_after) (sym p.0)
+    ([], p.1.0, inr ((fault, bad, over, p.1.1), refl), (Appends-nil output_before, p.1.2))
 
-pub judged_ends : (e : RunFault) (run : Run) (number start : ℕ) (bytes : List ℕ) (had reported : Option (List ℕ))
-    → IsConversionFault e run bytes → (IsFaultOfDocument e → IsSkipped run bytes → ⊥) → IsRunEnd e run number start bytes had had reported reported
-judged_ends (Malformed k n) run number start bytes had reported p last =
-    ([], [], (p, last tt, refl, refl), (Appends-nil had, Appends-nil reported))
-judged_ends FiniteDouble run number start bytes had reported p last =
-    ([], [], (p, last tt, refl, refl), (Appends-nil had, Appends-nil reported))
-judged_ends CannotRead run number start bytes had reported p last = absurd p
-judged_ends CannotWrite run number start bytes had reported p last = absurd p
-judged_ends OutOfMemory run number start bytes had reported p last =
-    ([], [], (refl, refl), (Appends-nil had, Appends-nil reported))
+pub judged_ends : (e : RunFault) (run : Run) (number start : ℕ) (bytes : List ℕ) (output_before diagnostics_before : Option (List ℕ))
+    → IsConversionFault e run bytes → (IsFaultOfDocument e → IsSkipped run bytes → ⊥) → IsRunEnd e run number start bytes output_before output_before diagnostics_before diagnostics_before
+judged_ends (Malformed k n) run number start bytes output_before diagnostics_before p last =
+    ([], [], (p, last tt, refl, refl), (Appends-nil output_before, Appends-nil diagnostics_before))
+judged_ends FiniteDouble run number start bytes output_before diagnostics_before p last =
+    ([], [], (p, last tt, refl, refl), (Appends-nil output_before, Appends-nil diagnostics_before))
+judged_ends CannotRead run number start bytes output_before diagnostics_before p last = absurd p
+judged_ends CannotWrite run number start bytes output_before diagnostics_before p last = absurd p
+judged_ends OutOfMemory run number start bytes output_before diagnostics_before p last =
+    ([], [], (refl, refl), (Appends-nil output_before, Appends-nil diagnostics_before))
 
 -- what is passed over has no line
 pub bad_bytes : (e : RunFault) (run : Run) (bytes : List ℕ) → IsFaultOfDocument e → IsConversionFault e run bytes → HasNoLine e run bytes
@@ -106,15 +106,15 @@ bad_bytes CannotRead run bytes is p = p
 bad_bytes CannotWrite run bytes is p = p
 bad_bytes OutOfMemory run bytes is p = absurd is
 
-pub one_at_most : (n : ℕ) (run : Run) (number start : ℕ) (bytes : List ℕ) (had holds reported reports : Option (List ℕ))
-    → IsLineOrSkip n run number start bytes had holds reported reports → n ≤ 1
-one_at_most n run number start bytes had holds reported reports (inl g) = omega (arith, g.0)
-one_at_most n run number start bytes had holds reported reports (inr g) = omega (arith, g.0)
+pub one_at_most : (n : ℕ) (run : Run) (number start : ℕ) (bytes : List ℕ) (output_before output_after diagnostics_before diagnostics_after : Option (List ℕ))
+    → IsLineOrSkip n run number start bytes output_before output_after diagnostics_before diagnostics_after → n ≤ 1
+one_at_most n run number start bytes output_before output_after diagnostics_before diagnostics_after (inl g) = omega (arith, g.0)
+one_at_most n run number start bytes output_before output_after diagnostics_before diagnostics_after (inr g) = omega (arith, g.0)
 
-pub run_is_done : (run : Run) (before mid after had holds reported reports : Option (List ℕ)) (number refused start : ℕ)
-    (bytes : List ℕ) → RunProgress run before mid had holds reported reports number refused start → Consumes mid after bytes
-    → bytes ≡ [] → IsAtEnd after → CompletedRun run before after had holds reported reports number refused
-run_is_done run before mid after had holds reported reports number refused start bytes r bytes_read nothing end = record {
+pub run_is_done : (run : Run) (before mid after output_before output_after diagnostics_before diagnostics_after : Option (List ℕ)) (number refused start : ℕ)
+    (bytes : List ℕ) → RunProgress run before mid output_before output_after diagnostics_before diagnostics_after number refused start → Consumes mid after bytes
+    → bytes ≡ [] → IsAtEnd after → CompletedRun run before after output_before output_after diagnostics_before diagnostics_after number refused
+run_is_done run before mid after output_before output_after diagnostics_before diagnostics_after number refused start bytes r bytes_read nothing end = record {
   bytes = r.done;
   output = r.output;
   diagnostic_lines = r.diagnostic_lines;
@@ -126,13 +126,13 @@ run_is_done run before mid after had holds reported reports number refused start
   reports_appended = r.reports_appended;
 }
 
-pub run_ends : (run : Run) (before mid after had holds after_holds reported reports after_tells : Option (List ℕ))
+pub run_ends : (run : Run) (before mid after output_before output_after after_holds diagnostics_before diagnostics_after after_tells : Option (List ℕ))
     (count refused start number : ℕ) (fault : RunFault) (bytes_read : List ℕ)
-    → (r : RunProgress run before mid had holds reported reports count refused start) → Consumes mid after bytes_read
+    → (r : RunProgress run before mid output_before output_after diagnostics_before diagnostics_after count refused start) → Consumes mid after bytes_read
     → number ≡ count + 1 → ConsumesPrefix fault before r.done bytes_read
-    → IsRunEnd fault run number start bytes_read holds after_holds reports after_tells
-    → EndsAt run before after had after_holds reported after_tells fault number refused start
-run_ends run before mid after had holds after_holds reported reports after_tells count refused start number fault bytes_read r consumed_bytes next front (more, partial_report, why, (w, t)) = record {
+    → IsRunEnd fault run number start bytes_read output_after after_holds diagnostics_after after_tells
+    → EndsAt run before after output_before after_holds diagnostics_before after_tells fault number refused start
+run_ends run before mid after output_before output_after after_holds diagnostics_before diagnostics_after after_tells count refused start number fault bytes_read r consumed_bytes next front (more, partial_report, why, (w, t)) = record {
   done = r.done;
   bytes_read = bytes_read;
   output = r.output;
@@ -146,8 +146,8 @@ run_ends run before mid after had holds after_holds reported reports after_tells
   counted = next;
   place = r.place;
   reason = why;
-  written = Appends-trans had holds after_holds r.output more r.written w;
-  reports_appended = Appends-trans reported reports after_tells r.diagnostic_lines partial_report r.reports_appended t;
+  written = Appends-trans output_before output_after after_holds r.output more r.written w;
+  reports_appended = Appends-trans diagnostics_before diagnostics_after after_tells r.diagnostic_lines partial_report r.reports_appended t;
 }
 
 -- ---- the bytes of a document
@@ -194,29 +194,29 @@ given_front CannotRead before mid done bytes_read c some h = tt
 given_front CannotWrite before mid done bytes_read c some h = (some, λ rest e. h rest (left before mid done rest e c))
 given_front OutOfMemory before mid done bytes_read c some h = tt
 
-pub run_ends_unread : (run : Run) (before mid after had holds reported reports : Option (List ℕ))
+pub run_ends_unread : (run : Run) (before mid after output_before output_after diagnostics_before diagnostics_after : Option (List ℕ))
     (count refused start number : ℕ) (fault : RunFault) (bytes_read : List ℕ)
-    → RunProgress run before mid had holds reported reports count refused start → Consumes mid after bytes_read → number ≡ count + 1
+    → RunProgress run before mid output_before output_after diagnostics_before diagnostics_after count refused start → Consumes mid after bytes_read → number ≡ count + 1
     → (fault ≡ CannotRead) ⊎ (fault ≡ OutOfMemory)
-    → EndsAt run before after had holds reported reports fault number refused start
-run_ends_unread run before mid after had holds reported reports count refused start number fault bytes_read r consumed_bytes next why =
-    run_ends run before mid after had holds holds reported reports reports count refused start number fault bytes_read r consumed_bytes next
+    → EndsAt run before after output_before output_after diagnostics_before diagnostics_after fault number refused start
+run_ends_unread run before mid after output_before output_after diagnostics_before diagnostics_after count refused start number fault bytes_read r consumed_bytes next why =
+    run_ends run before mid after output_before output_after output_after diagnostics_before diagnostics_after diagnostics_after count refused start number fault bytes_read r consumed_bytes next
     (unread_front fault before r.done bytes_read why)
-    ([], [], unread_ends fault run number start bytes_read why, (Appends-nil holds, Appends-nil reports))
+    ([], [], unread_ends fault run number start bytes_read why, (Appends-nil output_after, Appends-nil diagnostics_after))
 
-pub run_ends_at : (run : Run) (before mid after had holds after_holds reported reports after_tells : Option (List ℕ))
+pub run_ends_at : (run : Run) (before mid after output_before output_after after_holds diagnostics_before diagnostics_after after_tells : Option (List ℕ))
     (count refused start number : ℕ) (fault : RunFault) (bytes_read : List ℕ)
-    → RunProgress run before mid had holds reported reports count refused start → Consumes mid after bytes_read → number ≡ count + 1
+    → RunProgress run before mid output_before output_after diagnostics_before diagnostics_after count refused start → Consumes mid after bytes_read → number ≡ count + 1
     → bytes_read ≢ [] → ((all : List ℕ) → mid ≡ Some all → bytes_read ≡ declared_prefix all)
-    → IsRunEnd fault run number start bytes_read holds after_holds reports after_tells
-    → EndsAt run before after had after_holds reported after_tells fault number refused start
-run_ends_at run before mid after had holds after_holds reported reports after_tells count refused start number fault bytes_read r consumed_bytes next some front why =
-    run_ends run before mid after had holds after_holds reported reports after_tells count refused start number fault bytes_read r
+    → IsRunEnd fault run number start bytes_read output_after after_holds diagnostics_after after_tells
+    → EndsAt run before after output_before after_holds diagnostics_before after_tells fault number refused start
+run_ends_at run before mid after output_before output_after after_holds diagnostics_before diagnostics_after after_tells count refused start number fault bytes_read r consumed_bytes next some front why =
+    run_ends run before mid after output_before output_after after_holds diagnostics_before diagnostics_after after_tells count refused start number fault bytes_read r
     consumed_bytes next (given_front fault before mid r.done bytes_read r.consumed_bytes some front) why
 
-pub run_stops_between : (run : Run) (before mid had holds reported reports : Option (List ℕ))
-    (count refused start number : ℕ) → RunProgress run before mid had holds reported reports count refused start
-    → number ≡ count + 1 → EndsAt run before mid had holds reported reports CannotRead number refused start
-run_stops_between run before mid had holds reported reports count refused start number r next =
-    run_ends_unread run before mid mid had holds reported reports count refused start number CannotRead [] r (Consumes-nil mid) next
+pub run_stops_between : (run : Run) (before mid output_before output_after diagnostics_before diagnostics_after : Option (List ℕ))
+    (count refused start number : ℕ) → RunProgress run before mid output_before output_after diagnostics_before diagnostics_after count refused start
+    → number ≡ count + 1 → EndsAt run before mid output_before output_after diagnostics_before diagnostics_after CannotRead number refused start
+run_stops_between run before mid output_before output_after diagnostics_before diagnostics_after count refused start number r next =
+    run_ends_unread run before mid mid output_before output_after diagnostics_before diagnostics_after count refused start number CannotRead [] r (Consumes-nil mid) next
     (inl refl)

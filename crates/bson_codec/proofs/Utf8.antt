@@ -69,10 +69,10 @@ diagnostic_utf8 number start fault =
     let whole = IsUtf8-append _ _ partial_report (place_utf8 fault) in
     IsUtf8-append _ _ whole (IsUtf8-are_ascii newline refl)
 
-pub dump_utf8 : {run : Run} {bytes output reported : List ℕ} {number refused : ℕ} → Dump run bytes output reported number refused
-    → IsUtf8 output × IsUtf8 reported
+pub dump_utf8 : {run : Run} {bytes output diagnostics_before : List ℕ} {number refused : ℕ} → Dump run bytes output diagnostics_before number refused
+    → IsUtf8 output × IsUtf8 diagnostics_before
 dump_utf8 none = (IsUtf8-nil, IsUtf8-nil)
 dump_utf8 (written {output = output} bytes line d is) =
     let before = dump_utf8 d in (IsUtf8-append output line before.0 is.utf8, before.1)
-dump_utf8 (skipped_document {reported = reported} bytes fault d over bad) =
-    let before = dump_utf8 d in (before.0, IsUtf8-append reported _ before.1 (diagnostic_utf8 _ _ fault))
+dump_utf8 (skipped_document {diagnostics_before = diagnostics_before} bytes fault d over bad) =
+    let before = dump_utf8 d in (before.0, IsUtf8-append diagnostics_before _ before.1 (diagnostic_utf8 _ _ fault))

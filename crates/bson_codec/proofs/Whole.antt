@@ -12,12 +12,12 @@ use Rattle.bson_codec.specs.PackedText.{IsPackedText, DocumentPut}
 pub text_packed : (D : Doubles) (text bytes old : List ℕ) (ps : Pairs) → HasMeaningInOrder D text (document ps)
     → DocumentPut ps old bytes → old ≡ [] → IsPackedText D text bytes
 text_packed D text bytes old ps means (typed, put, grows) none =
-    let reported = told_ok ps bytes (subst (λ l. put_document ps l ≡ Ok bytes) none put) in
+    let diagnostics_before = told_ok ps bytes (subst (λ l. put_document ps l ≡ Ok bytes) none put) in
     record {
       pairs = ps;
       meaning = means;
-      fits = reported.0;
-      canonical = reported.1;
-      back = λ d nests. subst (λ b. IsRead (suc d) b (as_read_back ps)) (sym reported.1)
-          (written_read d ps reported.0 typed nests);
+      fits = diagnostics_before.0;
+      canonical = diagnostics_before.1;
+      back = λ d nests. subst (λ b. IsRead (suc d) b (as_read_back ps)) (sym diagnostics_before.1)
+          (written_read d ps diagnostics_before.0 typed nests);
     }

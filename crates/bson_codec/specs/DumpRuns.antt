@@ -67,15 +67,15 @@ IsFaultOfDocument OutOfMemory = ⊥
 
 -- ---- concatenated documents
 
--- these bytes are this number of documents with this output; this number of them were rejected, skipped and reported
+-- these bytes are this number of documents with this output; this number of them were rejected, skipped and diagnostics_before
 pub data Dump (run : Run) : List ℕ → List ℕ → List ℕ → ℕ → ℕ → Type 0 where
   none : Dump run [] [] [] 0 0
-  written : {before output reported : List ℕ} {number refused : ℕ} (bytes line : List ℕ)
-      → Dump run before output reported number refused → IsLine run bytes line
-      → Dump run (before ++ bytes) (output ++ line) reported (number + 1) refused
-  skipped_document : {before output reported : List ℕ} {number refused : ℕ} (bytes : List ℕ) (fault : RunFault)
-      → Dump run before output reported number refused → IsSkipped run bytes → HasNoLine fault run bytes
-      → Dump run (before ++ bytes) output (reported ++ diagnostic_of (number + 1) (length before) fault) (number + 1) (refused + 1)
+  written : {before output diagnostics_before : List ℕ} {number refused : ℕ} (bytes line : List ℕ)
+      → Dump run before output diagnostics_before number refused → IsLine run bytes line
+      → Dump run (before ++ bytes) (output ++ line) diagnostics_before (number + 1) refused
+  skipped_document : {before output diagnostics_before : List ℕ} {number refused : ℕ} (bytes : List ℕ) (fault : RunFault)
+      → Dump run before output diagnostics_before number refused → IsSkipped run bytes → HasNoLine fault run bytes
+      → Dump run (before ++ bytes) output (diagnostics_before ++ diagnostic_of (number + 1) (length before) fault) (number + 1) (refused + 1)
 
 -- ---- a run
 --
@@ -83,7 +83,7 @@ pub data Dump (run : Run) : List ℕ → List ℕ → List ℕ → ℕ → ℕ �
 -- of the output and of the report, before and after it. None means that they are not known.
 
 -- all bytes of the reader are documents, and their lines and diagnostics were written
-pub record CompletedRun (run : Run) (before after had holds reported reports : Option (List ℕ)) (number refused : ℕ)
+pub record CompletedRun (run : Run) (before after output_before output_after diagnostics_before diagnostics_after : Option (List ℕ)) (number refused : ℕ)
     : Type 0 where
   pub bytes : List ℕ
   pub output : List ℕ
@@ -91,8 +91,8 @@ pub record CompletedRun (run : Run) (before after had holds reported reports : O
   pub consumed_bytes : Consumes before after bytes
   pub at_end : IsAtEnd after
   pub documents : Dump run bytes output diagnostic_lines number refused
-  pub written : Appends had holds output
-  pub reports_appended : Appends reported reports diagnostic_lines
+  pub written : Appends output_before output_after output
+  pub reports_appended : Appends diagnostics_before diagnostics_after diagnostic_lines
 
 -- a writer accepted only a prefix of the line, or of the diagnostic
 abbrev pub IsPartialWrite : Run → (number start : ℕ) → (bytes_read more partial_report : List ℕ) → Type 0
@@ -120,7 +120,7 @@ ConsumesPrefix fault before done bytes_read =
 
 -- the documents before the one with this number and offset were converted or skipped, and their lines and diagnostics
 -- were written; at this one the run ended for the fault
-pub record EndsAt (run : Run) (before after had holds reported reports : Option (List ℕ)) (fault : RunFault)
+pub record EndsAt (run : Run) (before after output_before output_after diagnostics_before diagnostics_after : Option (List ℕ)) (fault : RunFault)
     (number refused start : ℕ) : Type 0 where
   pub done : List ℕ
   pub bytes_read : List ℕ
@@ -135,8 +135,8 @@ pub record EndsAt (run : Run) (before after had holds reported reports : Option 
   pub counted : number ≡ count + 1
   pub place : start ≡ length done
   pub reason : IsEndReason fault run number start bytes_read more partial_report
-  pub written : Appends had holds (output ++ more)
-  pub reports_appended : Appends reported reports (diagnostic_lines ++ partial_report)
+  pub written : Appends output_before output_after (output ++ more)
+  pub reports_appended : Appends diagnostics_before diagnostics_after (diagnostic_lines ++ partial_report)
 
 -- the bytes do not begin with a document that is written
 abbrev pub BeginsWithoutLine : Run → List ℕ → Type 0
@@ -181,27 +181,27 @@ IsLineFault FiniteDouble write_options l ps = IsUnwritable write_options l ps
 IsLineFault OutOfMemory write_options l ps = Unit {0}
 IsLineFault other write_options l ps = ⊥
 
--- the line was written; or the document was rejected, skipped and reported, which counts as 1
-abbrev pub IsLineOrSkip : ℕ → Run → (number start : ℕ) → List ℕ → (had holds reported reports : Option (List ℕ)) → Type 0
-IsLineOrSkip n run number start bytes had holds reported reports =
-    ((n ≡ 0) × (((line : List ℕ) × IsLine run bytes line × Appends had holds line) × Keeps reported reports))
+-- the line was written; or the document was rejected, skipped and diagnostics_before, which counts as 1
+abbrev pub IsLineOrSkip : ℕ → Run → (number start : ℕ) → List ℕ → (output_before output_after diagnostics_before diagnostics_after : Option (List ℕ)) → Type 0
+IsLineOrSkip n run number start bytes output_before output_after diagnostics_before diagnostics_after =
+    ((n ≡ 0) × (((line : List ℕ) × IsLine run bytes line × Appends output_before output_after line) × Keeps diagnostics_before diagnostics_after))
     ⊎ ((n ≡ 1) × (IsSkipped run bytes
-    × (((fault : RunFault) × HasNoLine fault run bytes × Appends reported reports (diagnostic_of number start fault))
-    × Keeps had holds)))
+    × (((fault : RunFault) × HasNoLine fault run bytes × Appends diagnostics_before diagnostics_after (diagnostic_of number start fault))
+    × Keeps output_before output_after)))
 
 -- the run ends for the fault, and these parts of the line and the diagnostic were written
-abbrev pub IsRunEnd : RunFault → Run → (number start : ℕ) → List ℕ → (had holds reported reports : Option (List ℕ)) → Type 0
-IsRunEnd e run number start bytes had holds reported reports = (more : List ℕ) × (partial_report : List ℕ)
-    × IsEndReason e run number start bytes more partial_report × (Appends had holds more × Appends reported reports partial_report)
+abbrev pub IsRunEnd : RunFault → Run → (number start : ℕ) → List ℕ → (output_before output_after diagnostics_before diagnostics_after : Option (List ℕ)) → Type 0
+IsRunEnd e run number start bytes output_before output_after diagnostics_before diagnostics_after = (more : List ℕ) × (partial_report : List ℕ)
+    × IsEndReason e run number start bytes more partial_report × (Appends output_before output_after more × Appends diagnostics_before diagnostics_after partial_report)
 
 -- the diagnostic was not written completely
-abbrev pub IsReportFailure : RunFault → (number start : ℕ) → RunFault → (reported reports : Option (List ℕ)) → Type 0
-IsReportFailure e number start fault reported reports =
-    ((e ≡ OutOfMemory) × Keeps reported reports)
-    ⊎ ((e ≡ CannotWrite) × ((partial_report : List ℕ) × StartsWith (diagnostic_of number start fault) partial_report × Appends reported reports partial_report))
+abbrev pub IsReportFailure : RunFault → (number start : ℕ) → RunFault → (diagnostics_before diagnostics_after : Option (List ℕ)) → Type 0
+IsReportFailure e number start fault diagnostics_before diagnostics_after =
+    ((e ≡ OutOfMemory) × Keeps diagnostics_before diagnostics_after)
+    ⊎ ((e ≡ CannotWrite) × ((partial_report : List ℕ) × StartsWith (diagnostic_of number start fault) partial_report × Appends diagnostics_before diagnostics_after partial_report))
 
 -- the progress of a run
-pub record RunProgress (run : Run) (before after had holds reported reports : Option (List ℕ)) (number refused start : ℕ)
+pub record RunProgress (run : Run) (before after output_before output_after diagnostics_before diagnostics_after : Option (List ℕ)) (number refused start : ℕ)
     : Type 0 where
   pub done : List ℕ
   pub output : List ℕ
@@ -209,5 +209,5 @@ pub record RunProgress (run : Run) (before after had holds reported reports : Op
   pub consumed_bytes : Consumes before after done
   pub documents : Dump run done output diagnostic_lines number refused
   pub place : start ≡ length done
-  pub written : Appends had holds output
-  pub reports_appended : Appends reported reports diagnostic_lines
+  pub written : Appends output_before output_after output
+  pub reports_appended : Appends diagnostics_before diagnostics_after diagnostic_lines

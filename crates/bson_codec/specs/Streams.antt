@@ -15,10 +15,10 @@ use Rattle.bson_codec.specs.declared.stream.WriterError.{WriterError}
 use Rattle.bson_codec.specs.declared.stream.WriterError.TheVariants as write_errors
 
 -- a beginning of the bytes was written
-pub record WritesBeginning (had holds : Option (List ℕ)) (bytes : List ℕ) : Type 0 where
+pub record WritesBeginning (output_before output_after : Option (List ℕ)) (bytes : List ℕ) : Type 0 where
   pub beginning : List ℕ
   pub starts : StartsWith bytes beginning
-  pub written : Appends had holds beginning
+  pub written : Appends output_before output_after beginning
 
 -- ---- reading
 
@@ -43,9 +43,9 @@ IsSystemFailure write_errors.CannotWrite = Unit {0}
 IsSystemFailure (write_errors.NoBytes e) = e ≡ errors.OutOfMemory
 
 -- a document that has no bytes writes none; a writer that fails accepted a prefix
-abbrev pub IsWriteFailure : WriterError → Pairs → (had holds : Option (List ℕ)) → Type 0
-IsWriteFailure (write_errors.NoBytes e) ps had holds = IsWriteErrorFor e ps × Keeps had holds
-IsWriteFailure write_errors.CannotWrite ps had holds = FitsDocument ps × WritesBeginning had holds (document_bytes ps)
+abbrev pub IsWriteFailure : WriterError → Pairs → (output_before output_after : Option (List ℕ)) → Type 0
+IsWriteFailure (write_errors.NoBytes e) ps output_before output_after = IsWriteErrorFor e ps × Keeps output_before output_after
+IsWriteFailure write_errors.CannotWrite ps output_before output_after = FitsDocument ps × WritesBeginning output_before output_after (document_bytes ps)
 
 -- ---- the front of bytes
 

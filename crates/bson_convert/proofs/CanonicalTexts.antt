@@ -10,7 +10,7 @@ use Rattle.bson_model.specs.Normal.{normal_form}
 use Rattle.bson_model.specs.Written.{WrittenIn}
 use Rattle.bson.specs.TextMeaning.{IsTextOf}
 use Rattle.bson.specs.declared.extjson.options.Options.{Options}
-use Rattle.bson_convert.specs.Convert.{ConvertsIn, IsCanonicalText, IsRefusedIn, IsUncanonicalAt, IsUncanonicalIn, newline}
+use Rattle.bson_convert.specs.Convert.{ConvertsIn, IsCanonicalText, IsRejectedIn, IsUncanonicalAt, IsUncanonicalIn, newline}
 use Rattle.bson_convert.specs.declared.error.Error.{Error}
 use Rattle.bson_convert.specs.declared.error.Error.TheVariants.{CannotRead, CannotWrite, NotJson, NotExtendedJson}
 use Rattle.bson_convert.specs.declared.error.Error.TheVariants.{NoBytes, NotCanonical, OutOfMemory}
@@ -65,7 +65,7 @@ module _ (o : Options) where
   }
 
   -- they have no canonical text
-  pub refused : (fault : Error) (bytes : List ℕ) → IsRefusedIn o fault bytes → IsUncanonicalIn o fault bytes
+  pub refused : (fault : Error) (bytes : List ℕ) → IsRejectedIn o fault bytes → IsUncanonicalIn o fault bytes
   refused CannotRead bytes h = h
   refused NotJson bytes h = h
   refused (NotExtendedJson place) bytes h = h

@@ -6,7 +6,7 @@ use Rattle.bson_scalar.specs.declared.form.Form.TheVariants as form
 use Rattle.bson_model.specs.Means.{MeansIn}
 use Rattle.bson_model.specs.Value.{Value}
 use Rattle.bson_model.specs.Laws.{IsReadFormIn}
-use Rattle.bson_convert.specs.Convert.{ConvertsIn, IsWrittenIn, IsOutputIn, IsTextFor, IsConvertedText, newline}
+use Rattle.bson_convert.specs.Convert.{ConvertsIn, IsWrittenIn, IsOutputIn, IsTextInMode, IsConvertedText, newline}
 use Rattle.bson_convert.specs.declared.mode.Mode.{Mode}
 use Rattle.bson_convert.specs.declared.mode.Mode.TheVariants.{Canonical, Relaxed, Show}
 use Rattle.bson.specs.declared.extjson.options.Options.{Options}
@@ -29,7 +29,7 @@ module _ (o : Options) where
       subst (λ t. MeansIn o.doubles t y.value) (tree_one bytes y.tree x.tree y.text x.text) y.meaning.means in
       output_one mode x.value a b x.is_output (subst (λ w. IsOutputIn o mode w b) (x.meaning.one y.value m) y.is_output)
 
-  text_output : (mode : Mode) (v : Value) (text output : List ℕ) → IsReadFormIn o.doubles v → IsTextFor o mode v text
+  text_output : (mode : Mode) (v : Value) (text output : List ℕ) → IsReadFormIn o.doubles v → IsTextInMode o mode v text
       → output ≡ text ++ newline → IsOutputIn o mode v output
   text_output Canonical v text output p i l = is_written o form.Canonical v text output p i l
   text_output Relaxed v text output p i l = is_written o form.Relaxed v text output p i l

@@ -8,13 +8,13 @@ use Rattle.bson_model.specs.Value.{Value}
 use Rattle.bson.proofs.Offered.{tree_one}
 use Rattle.bson.specs.TextMeaning.{HasTextMeaningIn, IsTextOf}
 use Rattle.bson.specs.declared.extjson.options.Options.{Options}
-use Rattle.bson_convert.specs.Convert.{IsAccepted, IsRefusedIn}
+use Rattle.bson_convert.specs.Convert.{IsAccepted, IsRejectedIn}
 use Rattle.bson_convert.specs.declared.error.Error.{Error}
 use Rattle.bson_convert.specs.declared.error.Error.TheVariants.{CannotRead, CannotWrite, NotJson, NotExtendedJson}
 use Rattle.bson_convert.specs.declared.error.Error.TheVariants.{NoBytes, NotCanonical, OutOfMemory}
 
 module _ (o : Options) (bytes : List ℕ) (t : Data) (v : Value) (is : IsTextOf bytes t) (means : MeansIn o.doubles t v) where
-  memory_alone : (f : Error) → IsRefusedIn o f bytes → f ≡ OutOfMemory
+  memory_alone : (f : Error) → IsRejectedIn o f bytes → f ≡ OutOfMemory
   memory_alone OutOfMemory h = refl
   memory_alone NotJson h =
       let none : read bytes ≡ None = h is.utf8 in let some : read bytes ≡ Some t = is.tree_read in cc
@@ -26,7 +26,7 @@ module _ (o : Options) (bytes : List ℕ) (t : Data) (v : Value) (is : IsTextOf 
   memory_alone CannotWrite h = absurd h
 
   -- bytes that mean something are refused for want of memory alone
-  pub accepted : {X : Type 0} (r : Result X Error) → IfErr r (λ f. IsRefusedIn o f bytes)
+  pub accepted : {X : Type 0} (r : Result X Error) → IfErr r (λ f. IsRejectedIn o f bytes)
       → IfErr r (λ f. f ≡ OutOfMemory)
   accepted (Ok x) h = tt
   accepted (Err f) h = memory_alone f h
@@ -41,7 +41,7 @@ module _ (o : Options) (text normalized : List ℕ) (utf8 : IsUtf8 text) (same :
   pub accepted_alike : IsAccepted o normalized → IsAccepted o text
   accepted_alike (t, v, is, means) = (t, v, text_alike t is, means)
 
-  pub refused_alike : (f : Error) → IsUtf8 normalized → IsRefusedIn o f normalized → IsRefusedIn o f text
+  pub refused_alike : (f : Error) → IsUtf8 normalized → IsRejectedIn o f normalized → IsRejectedIn o f text
   refused_alike NotJson valid none = λ _. sym same ∙ none valid
   refused_alike (NotExtendedJson place) valid (t, is, first) = (t, text_alike t is, first)
   refused_alike OutOfMemory valid is = tt

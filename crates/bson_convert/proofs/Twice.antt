@@ -17,7 +17,7 @@ use Rattle.bson_model.proofs.Offered.{has_text_in, in_range_in, means_to_in, rea
 use Rattle.bson_model.proofs.Offered.{value_read_in, writable_is_in}
 use Rattle.bson.specs.TextMeaning.{IsTextOf}
 use Rattle.bson.specs.declared.extjson.options.Options.{Options}
-use Rattle.bson_convert.specs.Convert.{ConvertsIn, ConvertsToItself, IsConvertedText, IsKeptIn, IsOutputIn, IsWrittenIn, newline}
+use Rattle.bson_convert.specs.Convert.{ConvertsIn, ConvertsToItself, IsConvertedText, IsFixedPointIn, IsOutputIn, IsWrittenIn, newline}
 use Rattle.bson_convert.specs.declared.error.Error.{Error}
 use Rattle.bson_convert.specs.declared.mode.Mode.{Mode}
 use Rattle.bson_convert.specs.declared.mode.Mode.TheVariants.{Canonical, Relaxed, Show}
@@ -87,7 +87,7 @@ module _ (o : Options) (f : Form) where
       }
 
 pub output_kept : (o : Options) (mode : Mode) (bytes output : List ℕ) → ConvertsIn o mode bytes output → IsUtf8 output
-    → IsKeptIn o mode output
+    → IsFixedPointIn o mode output
 output_kept o Canonical bytes output x utf8 =
     kept o form.Canonical Canonical bytes output x.tree x.value x.text x.meaning utf8 x.is_output (λ v w. w)
 output_kept o Relaxed bytes output x utf8 =
@@ -97,7 +97,7 @@ output_kept o Show bytes output x utf8 = tt
 -- the same of a text that is ended
 pub kept_ok : (o : Options) (mode : Mode) (bytes text : List ℕ) (r : Result (Vec ℕ Global) Error)
     → IsConvertedText o mode bytes text → IsUtf8 text → IfOk r (λ ended. ended.items ≡ text ++ newline)
-    → (IsUtf8 text → IfOk r (λ ended. IsUtf8 ended.items)) → IfOk r (λ ended. IsKeptIn o mode ended.items)
+    → (IsUtf8 text → IfOk r (λ ended. IsUtf8 ended.items)) → IfOk r (λ ended. IsFixedPointIn o mode ended.items)
 kept_ok o mode bytes text (Ok ended) is utf8 line valid =
     output_kept o mode bytes ended.items (text_converts o mode bytes text ended.items is line) (valid utf8)
 kept_ok o mode bytes text (Err e) is utf8 line valid = tt

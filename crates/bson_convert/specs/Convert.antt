@@ -16,8 +16,8 @@ use Rattle.bson_model.specs.Laws.{HasMeaningIn, IsTreeOfIn}
 use Rattle.bson_tree.specs.Place.{IsFirstFaultIn}
 use Rattle.bson.specs.TextMeaning.{IsTextOf, IsNotJsonText, HasTextMeaningIn}
 use Rattle.bson.specs.Texts.{IsTextWithDoubles}
-use Rattle.bson_convert.specs.declared.converted.Attempt.{Attempt}
-use Rattle.bson_convert.specs.declared.converted.Attempt.TheVariants.{Written, Normalized}
+use Rattle.bson_convert.specs.declared.conversion_attempt.Attempt.{Attempt}
+use Rattle.bson_convert.specs.declared.conversion_attempt.Attempt.TheVariants.{Written, Normalized}
 use Rattle.bson_convert.specs.declared.mode.Mode.{Mode}
 use Rattle.bson_convert.specs.declared.mode.Mode.TheVariants.{Canonical, Relaxed, Show}
 use Rattle.bson_convert.specs.declared.error.Error.{Error}
@@ -31,57 +31,57 @@ newline = 10 ∷ []
 
 -- the compact text of the tree and a newline; where the tree nests no deeper than a text may, its text reads as the
 -- tree
-pub record IsLineOf (o : Options) (f : Form) (tree : Data) (output : List ℕ) : Type 0 where
-  pub text : output ≡ tree_text o.doubles f tree ++ newline
-  pub read_again : depth tree ≤ max_depth → read (tree_text o.doubles f tree) ≡ Some tree
+pub record IsLineOf (options : Options) (output_form : Form) (tree : Data) (output : List ℕ) : Type 0 where
+  pub text : output ≡ tree_text options.doubles output_form tree ++ newline
+  pub read_again : depth tree ≤ max_depth → read (tree_text options.doubles output_form tree) ≡ Some tree
 
 -- the line of the value's one tree in a form; what that tree means has the same tree
-pub record IsWrittenIn (o : Options) (f : Form) (value : Value) (output : List ℕ) : Type 0 where
+pub record IsWrittenIn (options : Options) (output_form : Form) (value : Value) (output : List ℕ) : Type 0 where
   pub tree : Data
-  pub is_tree : IsTreeOfIn o.doubles f value tree
-  pub line : IsLineOf o f tree output
-  pub again : (w : Value) → MeansIn o.doubles tree w → WrittenIn o.doubles f (normal_form w) tree
+  pub is_tree : IsTreeOfIn options.doubles output_form value tree
+  pub line : IsLineOf options output_form tree output
+  pub again : (w : Value) → MeansIn options.doubles tree w → WrittenIn options.doubles output_form (normal_form w) tree
 
 -- that line, or the text that shows the value and a newline
 abbrev pub IsOutputIn : Options → Mode → Value → List ℕ → Type 0
-IsOutputIn o Canonical value output = IsWrittenIn o form.Canonical value output
-IsOutputIn o Relaxed value output = IsWrittenIn o form.Relaxed value output
-IsOutputIn o Show value output = output ≡ display_text value ++ newline
+IsOutputIn options Canonical value output = IsWrittenIn options form.Canonical value output
+IsOutputIn options Relaxed value output = IsWrittenIn options form.Relaxed value output
+IsOutputIn options Show value output = output ≡ display_text value ++ newline
 
 -- ---- converting
 
 -- the bytes are the text of a tree, which means the value, whose output this is
-pub record ConvertsIn (o : Options) (mode : Mode) (bytes output : List ℕ) : Type 0 where
+pub record ConvertsIn (options : Options) (mode : Mode) (bytes output : List ℕ) : Type 0 where
   pub tree : Data
   pub value : Value
   pub text : IsTextOf bytes tree
-  pub meaning : HasMeaningIn o.doubles tree value
-  pub is_output : IsOutputIn o mode value output
+  pub meaning : HasMeaningIn options.doubles tree value
+  pub is_output : IsOutputIn options mode value output
 
 -- a line of a tree in a form; where the tree nests no deeper than a text may the line is converted to itself, and else
 -- it is no text
-pub record ConvertsToItself (o : Options) (f : Form) (mode : Mode) (output : List ℕ) : Type 0 where
+pub record ConvertsToItself (options : Options) (output_form : Form) (mode : Mode) (output : List ℕ) : Type 0 where
   pub tree : Data
-  pub text : output ≡ tree_text o.doubles f tree ++ newline
-  pub again : depth tree ≤ max_depth → ConvertsIn o mode output output
+  pub text : output ≡ tree_text options.doubles output_form tree ++ newline
+  pub again : depth tree ≤ max_depth → ConvertsIn options mode output output
   pub only : (other : Data) → IsTextOf output other → depth tree ≤ max_depth
 
 -- an output in a form is that
-abbrev pub IsKeptIn : Options → Mode → List ℕ → Type 0
-IsKeptIn o Canonical output = ConvertsToItself o form.Canonical Canonical output
-IsKeptIn o Relaxed output = ConvertsToItself o form.Relaxed Relaxed output
-IsKeptIn o Show output = Unit {0}
+abbrev pub IsFixedPointIn : Options → Mode → List ℕ → Type 0
+IsFixedPointIn options Canonical output = ConvertsToItself options form.Canonical Canonical output
+IsFixedPointIn options Relaxed output = ConvertsToItself options form.Relaxed Relaxed output
+IsFixedPointIn options Show output = Unit {0}
 
 -- what each fault says of the bytes
-abbrev pub IsRefusedIn : Options → Error → List ℕ → Type 0
-IsRefusedIn o NotJson bytes = IsNotJsonText bytes
-IsRefusedIn o (NotExtendedJson place) bytes = (tree : Data) × IsTextOf bytes tree × IsFirstFaultIn o.doubles tree place
-IsRefusedIn o OutOfMemory bytes = Unit {0}
-IsRefusedIn o other bytes = ⊥
+abbrev pub IsRejectedIn : Options → Error → List ℕ → Type 0
+IsRejectedIn options NotJson bytes = IsNotJsonText bytes
+IsRejectedIn options (NotExtendedJson place) bytes = (tree : Data) × IsTextOf bytes tree × IsFirstFaultIn options.doubles tree place
+IsRejectedIn options OutOfMemory bytes = Unit {0}
+IsRejectedIn options other bytes = ⊥
 
 -- the bytes are the text of a tree that means something
 abbrev pub IsAccepted : Options → List ℕ → Type 0
-IsAccepted o bytes = (tree : Data) × (value : Value) × IsTextOf bytes tree × MeansIn o.doubles tree value
+IsAccepted options bytes = (tree : Data) × (value : Value) × IsTextOf bytes tree × MeansIn options.doubles tree value
 
 abbrev pub IsWritten : Form → Value → List ℕ → Type 0
 IsWritten = IsWrittenIn default_options
@@ -92,48 +92,48 @@ IsOutput = IsOutputIn default_options
 abbrev pub Converts : Mode → List ℕ → List ℕ → Type 0
 Converts = ConvertsIn default_options
 
-abbrev pub IsKept : Mode → List ℕ → Type 0
-IsKept = IsKeptIn default_options
+abbrev pub IsFixedPoint : Mode → List ℕ → Type 0
+IsFixedPoint = IsFixedPointIn default_options
 
-abbrev pub IsRefused : Error → List ℕ → Type 0
-IsRefused = IsRefusedIn default_options
+abbrev pub IsRejected : Error → List ℕ → Type 0
+IsRejected = IsRejectedIn default_options
 
 -- the bytes are the canonical text of the value that they mean, with keys in ascending order: they are converted to
 -- themselves and a newline
 abbrev pub IsCanonicalText : Options → List ℕ → Type 0
-IsCanonicalText o bytes = ConvertsIn o Canonical bytes (bytes ++ newline)
+IsCanonicalText options bytes = ConvertsIn options Canonical bytes (bytes ++ newline)
 
 -- the bytes mean a value, whose canonical text is another: they differ from it in the byte of this column, and in none
 -- before it
-pub record IsUncanonicalAt (o : Options) (column : ℕ) (bytes : List ℕ) : Type 0 where
+pub record IsUncanonicalAt (options : Options) (column : ℕ) (bytes : List ℕ) : Type 0 where
   pub text : List ℕ
-  pub converts : ConvertsIn o Canonical bytes (text ++ newline)
+  pub converts : ConvertsIn options Canonical bytes (text ++ newline)
   pub differ : IsFirstDifferenceAt column bytes text
 
 -- what each fault says of bytes that are not canonical
 abbrev pub IsUncanonicalIn : Options → Error → List ℕ → Type 0
-IsUncanonicalIn o (NotCanonical column) bytes = IsUncanonicalAt o column bytes
-IsUncanonicalIn o fault bytes = IsRefusedIn o fault bytes
+IsUncanonicalIn options (NotCanonical column) bytes = IsUncanonicalAt options column bytes
+IsUncanonicalIn options fault bytes = IsRejectedIn options fault bytes
 
 -- ---- the text
 
 -- a text of the value in the mode's form, or the one that shows it
-abbrev pub IsTextFor : Options → Mode → Value → List ℕ → Type 0
-IsTextFor o Canonical value text = IsTextWithDoubles o.doubles form.Canonical value text
-IsTextFor o Relaxed value text = IsTextWithDoubles o.doubles form.Relaxed value text
-IsTextFor o Show value text = text ≡ display_text value
+abbrev pub IsTextInMode : Options → Mode → Value → List ℕ → Type 0
+IsTextInMode options Canonical value text = IsTextWithDoubles options.doubles form.Canonical value text
+IsTextInMode options Relaxed value text = IsTextWithDoubles options.doubles form.Relaxed value text
+IsTextInMode options Show value text = text ≡ display_text value
 
 -- a text for the mode, of the value that the bytes denote
 abbrev pub IsConvertedText : Options → Mode → List ℕ → List ℕ → Type 0
-IsConvertedText o mode bytes text =
-    (value : Value) × HasTextMeaningIn o.doubles bytes value × IsTextFor o mode value text
+IsConvertedText options mode bytes text =
+    (value : Value) × HasTextMeaningIn options.doubles bytes value × IsTextInMode options mode value text
 
 -- that text, or a text of the same tree as the bytes', which means something
-abbrev pub IsTried : Options → Mode → List ℕ → Attempt → Type 0
-IsTried o mode bytes (Written text) = IsConvertedText o mode bytes text.items
-IsTried o mode bytes (Normalized text) = IsUtf8 bytes × (read (string_bytes text) ≡ read bytes) × IsAccepted o (string_bytes text)
+abbrev pub IsAttemptResult : Options → Mode → List ℕ → Attempt → Type 0
+IsAttemptResult options mode bytes (Written text) = IsConvertedText options mode bytes text.items
+IsAttemptResult options mode bytes (Normalized text) = IsUtf8 bytes × (read (string_bytes text) ≡ read bytes) × IsAccepted options (string_bytes text)
 
 -- the text that was written is UTF-8; the other is by its type
-abbrev pub IsUtf8Tried : Attempt → Type 0
-IsUtf8Tried (Written text) = IsUtf8 text.items
-IsUtf8Tried (Normalized text) = Unit {0}
+abbrev pub IsUtf8Attempt : Attempt → Type 0
+IsUtf8Attempt (Written text) = IsUtf8 text.items
+IsUtf8Attempt (Normalized text) = Unit {0}

@@ -1,7 +1,7 @@
 pub mod Convert
 pub mod Difference
 pub mod Run
-pub mod Words
+pub mod Messages
 -- what public clauses cite of the crates below, so that a caller names this crate alone
 pub use Rattle.bson.specs.TextMeaning
 pub use Rattle.bson.specs.View

@@ -4,8 +4,8 @@ use Rattle.std.specs.Io.{StartsWith}
 use Rattle.std.specs.Io.KnownBytes.{Keeps, Appends, Consumes, IsAtEnd}
 use Rattle.bson.specs.declared.extjson.options.Options.{Options}
 use Rattle.bson.specs.Options.{default_options}
-use Rattle.bson_convert.specs.Convert.{ConvertsIn, IsRefusedIn}
-use Rattle.bson_convert.specs.Words.{fault_kind}
+use Rattle.bson_convert.specs.Convert.{ConvertsIn, IsRejectedIn}
+use Rattle.bson_convert.specs.Messages.{fault_kind}
 use Rattle.bson_convert.specs.declared.error.Error.{Error}
 use Rattle.bson_convert.specs.declared.mode.Mode.{Mode}
 use Rattle.bson_convert.specs.declared.fault.Fault.{Fault}
@@ -17,65 +17,65 @@ pub record ReadsAll (before after : Option (List ℕ)) (bytes : List ℕ) : Type
   pub at_end : IsAtEnd after
 
 -- a beginning of the output was written
-pub record WritesBeginning (had holds : Option (List ℕ)) (output : List ℕ) : Type 0 where
+pub record WritesBeginning (output_before output_after : Option (List ℕ)) (output : List ℕ) : Type 0 where
   pub beginning : List ℕ
   pub starts : StartsWith output beginning
-  pub written : Appends had holds beginning
+  pub written : Appends output_before output_after beginning
 
 -- a beginning of the output was written, and not all of it
-pub record WritesPart (had holds : Option (List ℕ)) (output : List ℕ) : Type 0 where
+pub record WritesPart (output_before output_after : Option (List ℕ)) (output : List ℕ) : Type 0 where
   pub beginning : List ℕ
   pub starts : StartsWith output beginning
   pub short : length beginning < length output
-  pub written : Appends had holds beginning
+  pub written : Appends output_before output_after beginning
 
 -- all bytes of the reader are converted to the output
-pub record AcceptsIn (o : Options) (mode : Mode) (before after : Option (List ℕ)) (output : List ℕ) : Type 0 where
+pub record AcceptsIn (options : Options) (mode : Mode) (before after : Option (List ℕ)) (output : List ℕ) : Type 0 where
   pub bytes : List ℕ
   pub all : ReadsAll before after bytes
-  pub converts : ConvertsIn o mode bytes output
+  pub converts : ConvertsIn options mode bytes output
   pub utf8 : IsUtf8 output
 
 -- the input was accepted, and the output written
-pub record DoneIn (o : Options) (mode : Mode) (before after had holds : Option (List ℕ)) : Type 0 where
+pub record DoneIn (options : Options) (mode : Mode) (before after output_before output_after : Option (List ℕ)) : Type 0 where
   pub output : List ℕ
-  pub accepted : AcceptsIn o mode before after output
-  pub written : Appends had holds output
+  pub accepted : AcceptsIn options mode before after output
+  pub written : Appends output_before output_after output
 
 -- the input was accepted, and the output not written whole
-pub record CutShortIn (o : Options) (mode : Mode) (before after had holds : Option (List ℕ)) : Type 0 where
+pub record CutShortIn (options : Options) (mode : Mode) (before after output_before output_after : Option (List ℕ)) : Type 0 where
   pub output : List ℕ
-  pub accepted : AcceptsIn o mode before after output
-  pub written : WritesPart had holds output
+  pub accepted : AcceptsIn options mode before after output
+  pub written : WritesPart output_before output_after output
 
 -- the bytes are rejected for an error of this kind
-abbrev pub IsRefusedAs : Options → Fault → List ℕ → Type 0
-IsRefusedAs o fault bytes = (error : Error) × IsRefusedIn o error bytes × (fault_kind error ≡ Some fault)
+abbrev pub IsRejectedAs : Options → Fault → List ℕ → Type 0
+IsRejectedAs options fault bytes = (error : Error) × IsRejectedIn options error bytes × (fault_kind error ≡ Some fault)
 
 -- all bytes of the reader are rejected for an error of this kind
-pub record RefusesIn (o : Options) (fault : Fault) (before after : Option (List ℕ)) : Type 0 where
+pub record RejectsIn (options : Options) (fault : Fault) (before after : Option (List ℕ)) : Type 0 where
   pub bytes : List ℕ
   pub all : ReadsAll before after bytes
-  pub refused : IsRefusedAs o fault bytes
+  pub refused : IsRejectedAs options fault bytes
 
 -- what each kind says of the bytes
-abbrev pub RunFailsIn : Options → Fault → Mode → (before after had holds : Option (List ℕ)) → Type 0
-RunFailsIn o CannotRead mode before after had holds = Keeps had holds
-RunFailsIn o OutOfMemory mode before after had holds = Keeps had holds
-RunFailsIn o CannotWrite mode before after had holds = CutShortIn o mode before after had holds
-RunFailsIn o fault mode before after had holds = RefusesIn o fault before after × Keeps had holds
+abbrev pub RunFailsIn : Options → Fault → Mode → (before after output_before output_after : Option (List ℕ)) → Type 0
+RunFailsIn options CannotRead mode before after output_before output_after = Keeps output_before output_after
+RunFailsIn options OutOfMemory mode before after output_before output_after = Keeps output_before output_after
+RunFailsIn options CannotWrite mode before after output_before output_after = CutShortIn options mode before after output_before output_after
+RunFailsIn options fault mode before after output_before output_after = RejectsIn options fault before after × Keeps output_before output_after
 
 abbrev pub Accepts : Mode → (before after : Option (List ℕ)) → List ℕ → Type 0
 Accepts = AcceptsIn default_options
 
-abbrev pub Done : Mode → (before after had holds : Option (List ℕ)) → Type 0
+abbrev pub Done : Mode → (before after output_before output_after : Option (List ℕ)) → Type 0
 Done = DoneIn default_options
 
-abbrev pub CutShort : Mode → (before after had holds : Option (List ℕ)) → Type 0
+abbrev pub CutShort : Mode → (before after output_before output_after : Option (List ℕ)) → Type 0
 CutShort = CutShortIn default_options
 
-abbrev pub Refuses : Fault → (before after : Option (List ℕ)) → Type 0
-Refuses = RefusesIn default_options
+abbrev pub Rejects : Fault → (before after : Option (List ℕ)) → Type 0
+Rejects = RejectsIn default_options
 
-abbrev pub RunFails : Fault → Mode → (before after had holds : Option (List ℕ)) → Type 0
+abbrev pub RunFails : Fault → Mode → (before after output_before output_after : Option (List ℕ)) → Type 0
 RunFails = RunFailsIn default_options

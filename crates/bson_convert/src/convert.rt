@@ -3,13 +3,13 @@ ghost use Rattle.std.specs.Prelude.{◌≡◌, ◌++◌, IfOk, IfErr, IsUtf8, �
 ghost use Rattle.serde_json.specs.Data.{Data};
 ghost use Rattle.bson_model.specs.Means.{Means, MeansIn};
 ghost use Rattle.bson_model.specs.Value as model;
-ghost use Rattle.bson_convert.specs.Convert.{Converts, ConvertsIn, IsKept, IsKeptIn, IsRefused, IsRefusedIn};
+ghost use Rattle.bson_convert.specs.Convert.{Converts, ConvertsIn, IsFixedPoint, IsFixedPointIn, IsRejected, IsRejectedIn};
 ghost use Rattle.bson.specs.declared.extjson.options.Options.{Options};
-ghost use Rattle.bson_convert.specs.Convert.{IsConvertedText, IsTried, IsUtf8Tried, newline};
+ghost use Rattle.bson_convert.specs.Convert.{IsConvertedText, IsAttemptResult, IsUtf8Attempt, newline};
 ghost use Rattle.bson.specs.TextMeaning.{IsTextOf, IsTextFaultIn};
 ghost use Rattle.bson.specs.declared.extjson.text_error.TextError.{TextError};
 
-use crate::converted::{Attempt, read_normalized, try_line, try_text};
+use crate::conversion_attempt::{Attempt, read_normalized, try_line, try_text};
 use crate::error::Error;
 use crate::mode::Mode;
 use bson::extjson::Options;
@@ -39,11 +39,11 @@ use std::alloc::Global;
 pub fn convert(alloc: Global, mode: Mode, bytes: &[u8]) -> Result<Vec<u8>, Error>
     ensures ok { IfOk result (λ output. Converts mode bytes.now output.items) }
     ensures utf8 { IfOk result (λ output. IsUtf8 output.items) }
-    ensures again { IfOk result (λ output. IsKept mode output.items) }
+    ensures again { IfOk result (λ output. IsFixedPoint mode output.items) }
     ensures one { IfOk result (λ output. (other : List ℕ) → Converts mode bytes.now other → other ≡ output.items) }
     ensures accepts { (tree : Data) (value : model.Value) → IsTextOf bytes.now tree → Means tree value
         → IfErr result (λ fault. fault ≡ Error.OutOfMemory) }
-    ensures fault { IfErr result (λ fault. IsRefused fault bytes.now) }
+    ensures fault { IfErr result (λ fault. IsRejected fault bytes.now) }
 {
     convert_sorted(alloc, Options::default(), mode, bytes)
 }
@@ -62,12 +62,12 @@ pub fn convert_sorted(
 ) -> Result<Vec<u8>, Error>
     ensures ok { IfOk result (λ output. ConvertsIn options mode bytes.now output.items) }
     ensures utf8 { IfOk result (λ output. IsUtf8 output.items) }
-    ensures again { IfOk result (λ output. IsKeptIn options mode output.items) }
+    ensures again { IfOk result (λ output. IsFixedPointIn options mode output.items) }
     ensures one { IfOk result (λ output. (other : List ℕ) → ConvertsIn options mode bytes.now other
         → other ≡ output.items) }
     ensures accepts { (tree : Data) (value : model.Value) → IsTextOf bytes.now tree
         → MeansIn options.doubles tree value → IfErr result (λ fault. fault ≡ Error.OutOfMemory) }
-    ensures fault { IfErr result (λ fault. IsRefusedIn options fault bytes.now) }
+    ensures fault { IfErr result (λ fault. IsRejectedIn options fault bytes.now) }
 {
     convert_line(alloc, options, mode, bytes, &mut Scratch::new(alloc))
 }
@@ -86,12 +86,12 @@ pub fn convert_line(
 ) -> Result<Vec<u8>, Error>
     ensures ok { IfOk result (λ output. ConvertsIn options mode bytes.now output.items) }
     ensures utf8 { IfOk result (λ output. IsUtf8 output.items) }
-    ensures again { IfOk result (λ output. IsKeptIn options mode output.items) }
+    ensures again { IfOk result (λ output. IsFixedPointIn options mode output.items) }
     ensures one { IfOk result (λ output. (other : List ℕ) → ConvertsIn options mode bytes.now other
         → other ≡ output.items) }
     ensures accepts { (tree : Data) (value : model.Value) → IsTextOf bytes.now tree
         → MeansIn options.doubles tree value → IfErr result (λ fault. fault ≡ Error.OutOfMemory) }
-    ensures fault { IfErr result (λ fault. IsRefusedIn options fault bytes.now) }
+    ensures fault { IfErr result (λ fault. IsRejectedIn options fault bytes.now) }
 {
     let text = line_text(alloc, options, mode, bytes, scratch)?;
     end_line(text)
@@ -111,10 +111,10 @@ pub fn convert_whole(
 ) -> Result<Vec<u8>, Error>
     ensures ok { IfOk result (λ output. ConvertsIn options mode bytes.items output.items) }
     ensures utf8 { IfOk result (λ output. IsUtf8 output.items) }
-    ensures again { IfOk result (λ output. IsKeptIn options mode output.items) }
+    ensures again { IfOk result (λ output. IsFixedPointIn options mode output.items) }
     ensures accepts { (tree : Data) (value : model.Value) → IsTextOf bytes.items tree
         → MeansIn options.doubles tree value → IfErr result (λ fault. fault ≡ Error.OutOfMemory) }
-    ensures fault { IfErr result (λ fault. IsRefusedIn options fault bytes.items) }
+    ensures fault { IfErr result (λ fault. IsRejectedIn options fault bytes.items) }
 {
     let attempt = try_text(alloc, options, mode, &bytes)?;
     drop(bytes);
@@ -144,7 +144,7 @@ pub fn converted_text(
     ensures utf8 { IfOk result (λ text. IsUtf8 text.items) }
     ensures accepts { (tree : Data) (value : model.Value) → IsTextOf bytes.now tree
         → MeansIn options.doubles tree value → IfErr result (λ fault. fault ≡ Error.OutOfMemory) }
-    ensures fault { IfErr result (λ fault. IsRefusedIn options fault bytes.now) }
+    ensures fault { IfErr result (λ fault. IsRejectedIn options fault bytes.now) }
 {
     line_text(alloc, options, mode, bytes, &mut Scratch::new(alloc))
 }
@@ -161,7 +161,7 @@ pub(crate) fn line_text(
     ensures utf8 { IfOk result (λ text. IsUtf8 text.items) }
     ensures accepts { (tree : Data) (value : model.Value) → IsTextOf bytes.now tree
         → MeansIn options.doubles tree value → IfErr result (λ fault. fault ≡ Error.OutOfMemory) }
-    ensures fault { IfErr result (λ fault. IsRefusedIn options fault bytes.now) }
+    ensures fault { IfErr result (λ fault. IsRejectedIn options fault bytes.now) }
 {
     let attempt = try_line(alloc, options, mode, bytes, scratch)?;
     finish(alloc, options, mode, attempt)
@@ -169,11 +169,11 @@ pub(crate) fn line_text(
 
 // Returns the text that was already written, or writes the text of the normalized input.
 fn finish(alloc: Global, options: Options, mode: Mode, attempt: Attempt) -> Result<Vec<u8>, Error>
-    ensures ok { (bytes : List ℕ) → IsTried options mode bytes attempt
+    ensures ok { (bytes : List ℕ) → IsAttemptResult options mode bytes attempt
         → IfOk result (λ text. IsConvertedText options mode bytes text.items) }
-    ensures utf8 { IsUtf8Tried attempt → IfOk result (λ text. IsUtf8 text.items) }
-    ensures fault { (bytes : List ℕ) → IsTried options mode bytes attempt
-        → IfErr result (λ fault. IsRefusedIn options fault bytes) }
+    ensures utf8 { IsUtf8Attempt attempt → IfOk result (λ text. IsUtf8 text.items) }
+    ensures fault { (bytes : List ℕ) → IsAttemptResult options mode bytes attempt
+        → IfErr result (λ fault. IsRejectedIn options fault bytes) }
 {
     match attempt {
         Attempt::Written(text) => Ok(text),
@@ -189,7 +189,7 @@ fn finish(alloc: Global, options: Options, mode: Mode, attempt: Attempt) -> Resu
 /// Returns the error of a conversion whose text was not read.
 pub fn error_of(error: TextError) -> Error
     ensures cause { (options : Options) (bytes : List ℕ) → IsTextFaultIn options.doubles bytes error
-        → IsRefusedIn options result bytes }
+        → IsRejectedIn options result bytes }
     ensures memory { error ≡ TextError.OutOfMemory → result ≡ Error.OutOfMemory }
 {
     match error {

@@ -1,9 +1,9 @@
 //! The errors of the conversions.
 ghost use Rattle.std.specs.Prelude.{◌≡◌, ◌≢◌, MatchBool};
-ghost use Rattle.bson_convert.specs.Words.{fault_kind, words_of};
+ghost use Rattle.bson_convert.specs.Messages.{fault_kind, error_message};
 
 use crate::fault::Fault;
-use crate::no_bytes::NoBytes;
+use crate::encode_error::NoBytes;
 use bson_tree::place::{Place, Reason};
 
 /// Why a conversion failed.
@@ -55,7 +55,7 @@ impl Error {
 
     /// Returns the message of the error, without the path to it.
     pub fn message(&self) -> &'static str
-        ensures words { result.now ≡ words_of self.now }
+        ensures words { result.now ≡ error_message self.now }
     {
         match self {
             Error::CannotRead => "cannot read",

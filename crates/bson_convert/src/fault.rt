@@ -1,6 +1,6 @@
 //! The kinds of errors of a run.
 ghost use Rattle.std.specs.Prelude.{◌≡◌};
-ghost use Rattle.bson_convert.specs.Words.{line_of};
+ghost use Rattle.bson_convert.specs.Messages.{fault_line};
 
 /// Why a run failed: the kind of its error.
 ///
@@ -39,7 +39,7 @@ pub enum Fault {
 impl Fault {
     /// Returns the line that the program writes on standard error.
     pub fn line(&self) -> &'static str
-        ensures line { result.now ≡ line_of self.now }
+        ensures line { result.now ≡ fault_line self.now }
     {
         match self {
             Fault::CannotRead => "bson_cli: cannot read",

@@ -1,14 +1,14 @@
 //! The form that a run writes.
 ghost use Rattle.std.specs.Prelude.{◌≡◌, [], ◌∷◌, map, string_bytes, IfSome, None};
-ghost use Rattle.bson_convert.specs.Words.{name_of};
+ghost use Rattle.bson_convert.specs.Messages.{name_of_mode};
 ghost use Rattle.bson_convert.specs.declared.mode.Mode.{Mode};
 
 /// The form in which a value is written.
 ///
 /// ```
-/// let mut words = Vec::new(alloc);
-/// words.push(String::from_str(alloc, "relaxed")?)?;
-/// println!(rt; "{:?}", mode_of(&words))?; // Some(Relaxed)
+/// let mut args = Vec::new(alloc);
+/// args.push(String::from_str(alloc, "relaxed")?)?;
+/// println!(rt; "{:?}", mode_of(&args))?; // Some(Relaxed)
 /// ```
 #[derive(Clone, Copy, PartialEq, Eq, Debug)]
 pub enum Mode {
@@ -23,8 +23,8 @@ pub enum Mode {
 impl Mode {
     /// Returns the mode with this name: `canonical`, `relaxed` or `show`.
     pub fn from_name(name: &str) -> Option<Mode>
-        ensures named { IfSome result (λ mode. name.now ≡ name_of mode) }
-        ensures other { result ≡ None → (mode : Mode) → name.now ≡ name_of mode → ⊥ }
+        ensures named { IfSome result (λ mode. name.now ≡ name_of_mode mode) }
+        ensures other { result ≡ None → (mode : Mode) → name.now ≡ name_of_mode mode → ⊥ }
     {
         match name {
             "canonical" => Some(Mode::Canonical),
@@ -37,11 +37,11 @@ impl Mode {
 
 /// Returns the mode that the arguments after the program's name request: its name, and nothing
 /// else.
-pub fn mode_of(words: &[String]) -> Option<Mode>
-    ensures named { IfSome result (λ mode. map string_bytes words.now ≡ name_of mode ∷ []) }
-    ensures other { result ≡ None → (mode : Mode) → map string_bytes words.now ≡ name_of mode ∷ [] → ⊥ }
+pub fn mode_of(args: &[String]) -> Option<Mode>
+    ensures named { IfSome result (λ mode. map string_bytes args.now ≡ name_of_mode mode ∷ []) }
+    ensures other { result ≡ None → (mode : Mode) → map string_bytes args.now ≡ name_of_mode mode ∷ [] → ⊥ }
 {
-    let (word, rest) = words.split_first()?;
+    let (word, rest) = args.split_first()?;
     if !rest.is_empty() {
         return None;
     }

@@ -15,14 +15,14 @@ use std::process::ExitCode;
 pub fn words_given<R: Env + AllocGlobal>(rt: &R) -> Result<Option<Vec<String>>, Fault>
     ensures { IfErr result (λ fault. fault ≡ Fault.OutOfMemory) }
 {
-    let mut words = match env::args(rt) {
-        Ok(words) => words,
+    let mut args = match env::args(rt) {
+        Ok(args) => args,
         Err(error) if error.kind() == ErrorKind::InvalidData => return Ok(None),
         Err(_) => return Err(Fault::OutOfMemory),
     };
-    let _program = words.next();
-    match words.collect::<Vec<String>>(rt.alloc()) {
-        Ok(words) => Ok(Some(words)),
+    let _program = args.next();
+    match args.collect::<Vec<String>>(rt.alloc()) {
+        Ok(args) => Ok(Some(args)),
         Err(_) => Err(Fault::OutOfMemory),
     }
 }

@@ -3,7 +3,7 @@ use Rattle.std.proofs.Common.{◌≡◌, ◌⊎◌, inl, inr, ◌<◌, ◌-◌, 
 use Rattle.std.proofs.Common.{refl, ap, sym, ◌∙◌, append_assoc, append-nil, take-append-drop, length-drop, arith}
 use Rattle.std.proofs.lemmas.List.{take_rest}
 use Rattle.std.specs.Option.{IfSome}
-use Rattle.bson_run.specs.Place.{Breaks, IsPart}
+use Rattle.bson_run.specs.ErrorMessages.{BreaksRule, IsSubslice}
 use Rattle.bson_run.specs.declared.rule.Rule.{Rule}
 use Rattle.bson_program.specs.Hints.{IsAdvice, IsAdvisedAt, IsSplit, advice_under}
 use Rattle.bson_program.specs.Messages.{line_len}
@@ -18,18 +18,18 @@ IsEnd rest bytes = (front : List ℕ) × (bytes ≡ front ++ rest)
 pub starts : (bytes : List ℕ) → IsEnd bytes bytes
 starts bytes = ([], refl)
 
-pub goes_on : (head rest text next : List ℕ) → IsSplit rest text next → IsEnd rest head → IsEnd next head
-goes_on head rest text next (mark, split) (front, is) =
+pub goes_on : (first_bytes rest text next : List ℕ) → IsSplit rest text next → IsEnd rest first_bytes → IsEnd next first_bytes
+goes_on first_bytes rest text next (mark, split) (front, is) =
     (front ++ (text ++ mark), is ∙ ap (λ r. front ++ r) split ∙ sym (append_assoc front (text ++ mark) next))
 
-pub is_part : (head rest text next : List ℕ) → IsSplit rest text next → IsEnd rest head → IsPart text head
-is_part head rest text next (mark, split) (front, is) = (
+pub is_part : (first_bytes rest text next : List ℕ) → IsSplit rest text next → IsEnd rest first_bytes → IsSubslice text first_bytes
+is_part first_bytes rest text next (mark, split) (front, is) = (
   front,
   mark ++ next,
   is ∙ ap (λ r. front ++ r) (split ∙ append_assoc text mark next) ∙ sym (append_assoc front text (mark ++ next)),
 )
 
-pub part_of_part : (part text bytes : List ℕ) → IsPart part text → IsPart text bytes → IsPart part bytes
+pub part_of_part : (part text bytes : List ℕ) → IsSubslice part text → IsSubslice text bytes → IsSubslice part bytes
 part_of_part part text bytes (front, rest, of_text) (before, after, of_bytes) = (
   before ++ front,
   rest ++ after,
@@ -39,14 +39,14 @@ part_of_part part text bytes (front, rest, of_text) (before, after, of_bytes) = 
       ∙ ap (λ it. it ++ (rest ++ after)) (sym (append_assoc before front part)),
 )
 
-pub all_of : (bytes : List ℕ) → IsPart bytes bytes
+pub all_of : (bytes : List ℕ) → IsSubslice bytes bytes
 all_of bytes = ([], [], sym (append-nil bytes))
 
-pub end_of : (n : ℕ) (bytes : List ℕ) → IsPart (drop n bytes) bytes
+pub end_of : (n : ℕ) (bytes : List ℕ) → IsSubslice (drop n bytes) bytes
 end_of n bytes =
     (take n bytes, [], sym (take-append-drop n bytes) ∙ sym (append-nil (take n bytes ++ drop n bytes)))
 
-pub start_of : (n : ℕ) (bytes : List ℕ) → IsPart (take n bytes) bytes
+pub start_of : (n : ℕ) (bytes : List ℕ) → IsSubslice (take n bytes) bytes
 start_of n bytes = ([], drop n bytes, sym (take-append-drop n bytes))
 
 pub split_by : (rest text next : List ℕ)
@@ -64,7 +64,7 @@ after_shorter bytes next is some =
 -- ---- what helps
 
 pub at_stop : (invocation : Invocation) (text : List ℕ) (rule : Rule) (offset : ℕ) (result : Option Advice)
-    → Breaks text rule
+    → BreaksRule text rule
     → result ≡ advice_under invocation.input invocation.options.doubles rule (take (length text - offset) (drop offset text))
     → IfSome result (IsAdvisedAt invocation text)
 at_stop invocation text rule offset None breaks is = tt
@@ -75,7 +75,7 @@ at_stop invocation text rule offset (Some it) breaks is = (
   ap (λ rest. advice_under invocation.input invocation.options.doubles rule rest) (sym (take_rest text offset)) ∙ sym is,
 )
 
-pub within : (invocation : Invocation) (part bytes : List ℕ) (it : Advice) → IsPart part bytes
+pub within : (invocation : Invocation) (part bytes : List ℕ) (it : Advice) → IsSubslice part bytes
     → IsAdvice invocation part it → IsAdvice invocation bytes it
 within invocation part bytes it inside (fault, text, found, rejected, helps) =
     (fault, text, part_of_part text part bytes found inside, rejected, helps)

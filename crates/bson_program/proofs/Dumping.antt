@@ -24,22 +24,22 @@ kept (Some x) None c bytes p q = absurd p
 kept (Some x) (Some y) None bytes p q = absurd q
 kept (Some x) (Some y) (Some z) bytes p q = q ∙ p
 
-flushed : (had mid holds : Option (List ℕ)) (first last bytes : List ℕ) → first ≡ [] → last ≡ []
-    → Appends (append_known had first) mid bytes → Keeps mid (append_known holds last) → Appends had holds bytes
-flushed had mid holds first last bytes e f h k =
-    subst (λ (x : Option (List ℕ)). Appends x holds bytes) (flat had first e)
-    (subst (λ (x : Option (List ℕ)). Appends (append_known had first) x bytes) (flat holds last f)
-    (kept (append_known had first) mid (append_known holds last) bytes h k))
+flushed : (output_before mid output_after : Option (List ℕ)) (first last bytes : List ℕ) → first ≡ [] → last ≡ []
+    → Appends (append_known output_before first) mid bytes → Keeps mid (append_known output_after last) → Appends output_before output_after bytes
+flushed output_before mid output_after first last bytes e f h k =
+    subst (λ (x : Option (List ℕ)). Appends x output_after bytes) (flat output_before first e)
+    (subst (λ (x : Option (List ℕ)). Appends (append_known output_before first) x bytes) (flat output_after last f)
+    (kept (append_known output_before first) mid (append_known output_after last) bytes h k))
 
 -- the end at a document of a run that keeps going
-pub cut_dump : (run : Run) (before after had mid holds reported said reports : Option (List ℕ)) (first last : List ℕ)
+pub cut_dump : (run : Run) (before after output_before mid output_after diagnostics_before said diagnostics_after : Option (List ℕ)) (first last : List ℕ)
     (fault : RunFault) (number left start documents refused : ℕ)
-    → EndsAt run before after (append_known had first) mid reported said fault number left start → first ≡ [] → last ≡ []
-    → Keeps mid (append_known holds last) → run.keep_going ≡ true → IsFaultOfDocument fault
-    → Appends said reports (diagnostic_of number start fault) → documents ≡ number → refused ≡ left + 1
-    → IsDoneDump run before after had holds reported reports documents refused
-cut_dump run before after had mid holds reported said reports first last fault number left start documents refused h e f k going is reports_appended same counted =
-    let ended : EndsAt run before after had holds reported said fault number left start = record {
+    → EndsAt run before after (append_known output_before first) mid diagnostics_before said fault number left start → first ≡ [] → last ≡ []
+    → Keeps mid (append_known output_after last) → run.keep_going ≡ true → IsFaultOfDocument fault
+    → Appends said diagnostics_after (diagnostic_of number start fault) → documents ≡ number → refused ≡ left + 1
+    → IsDoneDump run before after output_before output_after diagnostics_before diagnostics_after documents refused
+cut_dump run before after output_before mid output_after diagnostics_before said diagnostics_after first last fault number left start documents refused h e f k going is reports_appended same counted =
+    let ended : EndsAt run before after output_before output_after diagnostics_before said fault number left start = record {
       done = h.done;
       taken = h.taken;
       output = h.output;
@@ -53,10 +53,10 @@ cut_dump run before after had mid holds reported said reports first last fault n
       counted = h.counted;
       place = h.place;
       reason = h.reason;
-      written = flushed had mid holds first last (h.output ++ h.more) e f h.written k;
+      written = flushed output_before mid output_after first last (h.output ++ h.more) e f h.written k;
       reports_appended = h.reports_appended;
     } in
-    subst (λ (n : ℕ). IsDoneDump run before after had holds reported reports n refused) (sym same)
+    subst (λ (n : ℕ). IsDoneDump run before after output_before output_after diagnostics_before diagnostics_after n refused) (sym same)
     (inr (record {
       fault = fault;
       left = left;

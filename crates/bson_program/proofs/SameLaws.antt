@@ -15,10 +15,10 @@ use Rattle.std.specs.Prelude.{bytes_eq}
 use Rattle.std.specs.declared.cmp.Ordering.{Ordering}
 use Rattle.std.specs.declared.cmp.Ordering.TheVariants.{Less, Equal, Greater}
 use Rattle.bson_program.proofs.Verdicts.{first}
-use Rattle.bson_program.specs.Messages.{line_len, spans}
-use Rattle.bson_program.specs.Same.{DifferFirstAt, IsDifference}
-use Rattle.bson_program.specs.declared.same.Difference.{Difference}
-use Rattle.bson_program.specs.declared.same.Difference.TheVariants.{At, Counts, Lines}
+use Rattle.bson_program.specs.Messages.{line_len, split_lines}
+use Rattle.bson_program.specs.Comparison.{DifferFirstAt, IsDifference}
+use Rattle.bson_program.specs.declared.compare_outputs.Difference.{Difference}
+use Rattle.bson_program.specs.declared.compare_outputs.Difference.TheVariants.{At, Counts, Lines}
 
 -- the bytes of lines
 abbrev pub texts : List (Bor (List ℕ)) → List (List ℕ)
@@ -28,14 +28,14 @@ texts lines = map (λ line. line.now) lines
 
 pub one_line_more : (rest : List ℕ) (lines : List (Bor (List ℕ))) (line : Bor (List ℕ)) (others whole : List ℕ) (n : ℕ)
     → 0 < length rest → n ≡ line_len rest → line.now ≡ take n rest → others ≡ drop n rest
-    → texts lines ++ spans rest ≡ spans whole → texts (lines ++ line ∷ []) ++ spans others ≡ spans whole
+    → texts lines ++ split_lines rest ≡ split_lines whole → texts (lines ++ line ∷ []) ++ split_lines others ≡ split_lines whole
 one_line_more [] lines line others whole n some is front back before = absurd (omega arith)
 one_line_more (x ∷ xs) lines line others whole n some is front back before =
     let rest = x ∷ xs in
-    let parts : spans rest ≡ line.now ∷ spans others =
-    first x xs ∙ ap (λ k. take k rest ∷ spans (drop k rest)) (sym is)
-    ∙ ap (λ l. l ∷ spans (drop n rest)) (sym front) ∙ ap (λ l. line.now ∷ spans l) (sym back) in
-    let moved : texts (lines ++ line ∷ []) ++ spans others ≡ texts lines ++ (line.now ∷ spans others) = simp (map-append, append_assoc) in
+    let parts : split_lines rest ≡ line.now ∷ split_lines others =
+    first x xs ∙ ap (λ k. take k rest ∷ split_lines (drop k rest)) (sym is)
+    ∙ ap (λ l. l ∷ split_lines (drop n rest)) (sym front) ∙ ap (λ l. line.now ∷ split_lines l) (sym back) in
+    let moved : texts (lines ++ line ∷ []) ++ split_lines others ≡ texts lines ++ (line.now ∷ split_lines others) = simp (map-append, append_assoc) in
     moved ∙ ap (λ l. texts lines ++ l) (sym parts) ∙ before
 
 -- ---- the first difference

@@ -14,14 +14,14 @@ use Rattle.bson_convert.specs.Run.{ReadsAll}
 use Rattle.bson_run.specs.Accepted.{HasOutput, IsUtf8Accepted}
 use Rattle.bson_run.specs.declared.accepted.Accepted.{Accepted}
 use Rattle.bson_run.specs.Lines.{WritesText}
-use Rattle.bson_run.specs.Place.{IsWhere}
+use Rattle.bson_run.specs.ErrorMessages.{IsPositionMessage}
 use Rattle.bson_program.specs.Texts.{AcceptedStops, AreWritten, HasLine, IsNotJson, IsSequence, IsTextDone, StopsAt, TextFails}
 use Rattle.bson_program.specs.Texts.{TextStops, TextsDone, TextsStop, WritesAccepted, WritesAll, content_of, is_sequence}
 use Rattle.bson_program.specs.Texts.AreWritten.{no_texts, one_more}
-use Rattle.bson_program.specs.Whole.{IsUngiven, WritesOutput}
+use Rattle.bson_program.specs.SingleText.{IsTextRejected, WritesOutput}
 use Rattle.bson_program.specs.declared.invocation.Invocation.{Invocation}
-use Rattle.bson_program.specs.declared.run.Stop.{Stop}
-use Rattle.bson_program.specs.declared.run.Stop.TheVariants as stops
+use Rattle.bson_program.specs.declared.run.RunFailure.{RunFailure}
+use Rattle.bson_program.specs.declared.run.RunFailure.TheVariants as stops
 
 -- ---- how many there are
 
@@ -59,25 +59,25 @@ less_than_two content rest has_one none before =
 -- ---- a run over them
 
 -- the outputs of the texts before the rest were written
-pub record Reaches (invocation : Invocation) (content rest : List ℕ) (had holds : Option (List ℕ)) : Type 0 where
+pub record Reaches (invocation : Invocation) (content rest : List ℕ) (output_before output_after : Option (List ℕ)) : Type 0 where
   pub done : List (List ℕ)
   pub written : List ℕ
   pub texts : texts_in content ≡ done ++ texts_in rest
   pub outputs : AreWritten invocation done written
   pub utf8 : WritesText invocation.task → IsUtf8 written
-  pub kept : Appends had holds written
+  pub kept : Appends output_before output_after written
   pub front : List ℕ
   pub following : content ≡ front ++ rest
 
-module _ (invocation : Invocation) (content : List ℕ) (had : Option (List ℕ)) where
-  pub starts : Reaches invocation content content had had
+module _ (invocation : Invocation) (content : List ℕ) (output_before : Option (List ℕ)) where
+  pub starts : Reaches invocation content content output_before output_before
   starts = record {
     done = [];
     written = [];
     texts = refl;
     outputs = no_texts;
     utf8 = λ w. IsUtf8-nil;
-    kept = Appends-nil had;
+    kept = Appends-nil output_before;
     front = [];
     following = refl;
   }
@@ -100,10 +100,10 @@ module _ (invocation : Invocation) (content : List ℕ) (had : Option (List ℕ)
       is ∙ ap (λ l. front ++ l) (a.splits ∙ sym (append_assoc text a.between next))
       ∙ sym (append_assoc front (text ++ a.between) next)
 
-  pub passes : (rest text next : List ℕ) (holds : Option (List ℕ)) → texts_in rest ≡ prepend_part text (texts_in next)
+  pub passes : (rest text next : List ℕ) (output_after : Option (List ℕ)) → texts_in rest ≡ prepend_part text (texts_in next)
       → ((rest ≡ text) × (next ≡ [])) ⊎ ((x : ℕ) × (rest ≡ text ++ x ∷ next)) → length text ≡ 0
-      → Reaches invocation content rest had holds → Reaches invocation content next had holds
-  passes rest text next holds found place none r =
+      → Reaches invocation content rest output_before output_after → Reaches invocation content next output_before output_after
+  passes rest text next output_after found place none r =
       let a = after rest text next place in
       record {
         done = r.done;
@@ -116,10 +116,10 @@ module _ (invocation : Invocation) (content : List ℕ) (had : Option (List ℕ)
         following = moved r.front rest text next a r.following;
       }
 
-  pub goes_on : (rest text next : List ℕ) (held holds : Option (List ℕ)) → texts_in rest ≡ prepend_part text (texts_in next)
+  pub goes_on : (rest text next : List ℕ) (output_between output_after : Option (List ℕ)) → texts_in rest ≡ prepend_part text (texts_in next)
       → ((rest ≡ text) × (next ≡ [])) ⊎ ((x : ℕ) × (rest ≡ text ++ x ∷ next)) → 0 < length text
-      → IsTextDone invocation text held holds → Reaches invocation content rest had held → Reaches invocation content next had holds
-  goes_on rest text next held holds found place some t r =
+      → IsTextDone invocation text output_between output_after → Reaches invocation content rest output_before output_between → Reaches invocation content next output_before output_after
+  goes_on rest text next output_between output_after found place some t r =
       let a = after rest text next place in
       record {
         done = r.done ++ text ∷ [];
@@ -128,14 +128,14 @@ module _ (invocation : Invocation) (content : List ℕ) (had : Option (List ℕ)
             ∙ sym (append_assoc r.done (text ∷ []) (texts_in next));
         outputs = one_more text t.output r.outputs t.has.gives;
         utf8 = λ w. IsUtf8-append r.written t.output (r.utf8 w) (t.has.utf8 w);
-        kept = Appends-trans had held holds r.written t.output r.kept t.written;
+        kept = Appends-trans output_before output_between output_after r.written t.output r.kept t.written;
         front = r.front ++ (text ++ a.between);
         following = moved r.front rest text next a r.following;
       }
 
-  pub ends : (rest : List ℕ) (holds : Option (List ℕ)) → length rest ≡ 0 → Reaches invocation content rest had holds
-      → WritesAll invocation content had holds
-  ends rest holds none r = record {
+  pub ends : (rest : List ℕ) (output_after : Option (List ℕ)) → length rest ≡ 0 → Reaches invocation content rest output_before output_after
+      → WritesAll invocation content output_before output_after
+  ends rest output_after none r = record {
     output = r.written;
     outputs = subst (λ ts. AreWritten invocation ts r.written)
         (sym (r.texts ∙ ap (λ ts. r.done ++ ts) (none_left rest none) ∙ append-nil r.done)) r.outputs;
@@ -166,19 +166,19 @@ text_there front rest text between next content is splits =
     ∙ ap (take (length text)) splits
     ∙ take_front text (between ++ next)
 
-pub stops_in : (invocation : Invocation) (stop : Stop) (name content rest text next : List ℕ) (had held holds : Option (List ℕ))
+pub stops_in : (invocation : Invocation) (stop : RunFailure) (name content rest text next : List ℕ) (output_before output_between output_after : Option (List ℕ))
     → texts_in rest ≡ prepend_part text (texts_in next)
     → ((rest ≡ text) × (next ≡ [])) ⊎ ((x : ℕ) × (rest ≡ text ++ x ∷ next)) → 0 < length text
-    → Reaches invocation content rest had held
-    → TextStops invocation stop name content (length content - length rest) text held holds
-    → IsSequence invocation content → StopsAt invocation stop name content had holds
-stops_in invocation stop name content rest text next had held holds found place some r stops sequence =
-    let a = after invocation content had rest text next place in
+    → Reaches invocation content rest output_before output_between
+    → TextStops invocation stop name content (length content - length rest) text output_between output_after
+    → IsSequence invocation content → StopsAt invocation stop name content output_before output_after
+stops_in invocation stop name content rest text next output_before output_between output_after found place some r stops sequence =
+    let a = after invocation content output_before rest text next place in
     record {
       text = text;
       start = length content - length rest;
       written = r.written;
-      held = held;
+      output_between = output_between;
       is = inr (record {
         done = r.done;
         rest = texts_in next;
@@ -193,7 +193,7 @@ stops_in invocation stop name content rest text next had held holds found place 
 
 -- the text is rejected for the error, with the words for it
 pub text_fails : (invocation : Invocation) (fault : Error) (place content text : List ℕ) (start number : ℕ)
-    → IsUngiven invocation.options invocation.task fault text → IsWhere text fault place → HasLine fault content start text number
+    → IsTextRejected invocation.options invocation.task fault text → IsPositionMessage text fault place → HasLine fault content start text number
     → TextFails invocation fault place number content start text
 text_fails invocation OutOfMemory place content text start number is lies line = (line, lies)
 text_fails invocation CannotRead place content text start number is lies line = (is, lies, line)
@@ -204,16 +204,16 @@ text_fails invocation (NoBytes why) place content text start number is lies line
 text_fails invocation (NotCanonical column) place content text start number is lies line = (is, lies, line)
 
 -- all bytes are the text at which a run stops
-pub stops_whole : (invocation : Invocation) (stop : Stop) (name content : List ℕ) (had holds : Option (List ℕ))
-    → (IsNotJson stop → is_sequence invocation content ≡ false) → TextStops invocation stop name content 0 content had holds
-    → StopsAt invocation stop name content had holds
-stops_whole invocation stop name content had holds alone stops = record {
+pub stops_whole : (invocation : Invocation) (stop : RunFailure) (name content : List ℕ) (output_before output_after : Option (List ℕ))
+    → (IsNotJson stop → is_sequence invocation content ≡ false) → TextStops invocation stop name content 0 content output_before output_after
+    → StopsAt invocation stop name content output_before output_after
+stops_whole invocation stop name content output_before output_after alone stops = record {
   text = content;
   start = 0;
   written = [];
-  held = had;
+  output_between = output_before;
   is = inl (record { whole = refl; first = refl; nothing = refl; alone = alone });
-  before = Appends-nil had;
+  before = Appends-nil output_before;
   stops = stops;
 }
 
@@ -223,21 +223,21 @@ pub content_read : (invocation : Invocation) (name content read bytes : List ℕ
 content_read invocation name content read bytes is same = is ∙ ap (content_of invocation name) same
 
 -- all was read before it
-pub reads_and_stops : (invocation : Invocation) (stop : Stop) (name content bytes : List ℕ) (before after had holds : Option (List ℕ))
-    → ReadsAll before after bytes → content ≡ content_of invocation name bytes → StopsAt invocation stop name content had holds
-    → TextsStop invocation stop name before after had holds
-reads_and_stops invocation stop name content bytes before after had holds all is at = inr (record {
+pub reads_and_stops : (invocation : Invocation) (stop : RunFailure) (name content bytes : List ℕ) (before after output_before output_after : Option (List ℕ))
+    → ReadsAll before after bytes → content ≡ content_of invocation name bytes → StopsAt invocation stop name content output_before output_after
+    → TextsStop invocation stop name before after output_before output_after
+reads_and_stops invocation stop name content bytes before after output_before output_after all is at = inr (record {
   bytes = bytes;
   all = all;
-  at = subst (λ c. StopsAt invocation stop name c had holds) is at;
+  at = subst (λ c. StopsAt invocation stop name c output_before output_after) is at;
 })
 
-module _ (invocation : Invocation) (name content : List ℕ) (accepted : Accepted) (had holds : Option (List ℕ))
+module _ (invocation : Invocation) (name content : List ℕ) (accepted : Accepted) (output_before output_after : Option (List ℕ))
     (has : HasOutput invocation.options (WritesOutput invocation invocation.task content) accepted)
     (utf8 : WritesText invocation.task → IsUtf8Accepted accepted) where
   pub one_text_done : (before after : Option (List ℕ)) (bytes : List ℕ) → ReadsAll before after bytes
-      → content ≡ content_of invocation name bytes → WritesAccepted invocation accepted had holds
-      → TextsDone invocation name before after had holds
+      → content ≡ content_of invocation name bytes → WritesAccepted invocation accepted output_before output_after
+      → TextsDone invocation name before after output_before output_after
   one_text_done before after bytes all is w = record {
     bytes = bytes;
     output = w.output;
@@ -247,8 +247,8 @@ module _ (invocation : Invocation) (name content : List ℕ) (accepted : Accepte
     written = w.written;
   }
 
-  one_text_stops : (stop : Stop) → AcceptedStops invocation stop name accepted had holds
-      → TextStops invocation stop name content 0 content had holds
+  one_text_stops : (stop : RunFailure) → AcceptedStops invocation stop name accepted output_before output_after
+      → TextStops invocation stop name content 0 content output_before output_after
   one_text_stops (stops.Output it error) h = (
     h.0,
     (
@@ -271,7 +271,7 @@ module _ (invocation : Invocation) (name content : List ℕ) (accepted : Accepte
   one_text_stops stops.Terminal h = absurd h
   one_text_stops (stops.Document it end) h = absurd h
 
-  no_syntax_error : (stop : Stop) → AcceptedStops invocation stop name accepted had holds → IsNotJson stop
+  no_syntax_error : (stop : RunFailure) → AcceptedStops invocation stop name accepted output_before output_after → IsNotJson stop
       → is_sequence invocation content ≡ false
   no_syntax_error (stops.Text it number OutOfMemory place) h is = absurd is
   no_syntax_error (stops.Text it number CannotRead place) h is = absurd is
@@ -286,9 +286,9 @@ module _ (invocation : Invocation) (name content : List ℕ) (accepted : Accepte
   no_syntax_error stops.Terminal h is = absurd is
   no_syntax_error (stops.Document it end) h is = absurd is
 
-  pub accepted_stops : (stop : Stop) → AcceptedStops invocation stop name accepted had holds → StopsAt invocation stop name content had holds
+  pub accepted_stops : (stop : RunFailure) → AcceptedStops invocation stop name accepted output_before output_after → StopsAt invocation stop name content output_before output_after
   accepted_stops stop h =
-      stops_whole invocation stop name content had holds (no_syntax_error stop h) (one_text_stops stop h)
+      stops_whole invocation stop name content output_before output_after (no_syntax_error stop h) (one_text_stops stop h)
 
 -- ---- results
 

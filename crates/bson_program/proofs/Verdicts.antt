@@ -6,38 +6,38 @@ use Rattle.std.specs.Char.Iter.{escape_rest, escape_steps}
 use Rattle.std.specs.Result.{is_ok}
 use Rattle.std.proofs.lemmas.Bool.Decides.{nat_tests}
 use Rattle.std.specs.List.{flat_map, position_or_len, starts_with}
-use Rattle.bson_run.specs.Lines.{onto_first}
-use Rattle.bson_program.specs.Messages.{all_under, line_prefix, line_len, spans, under}
+use Rattle.bson_run.specs.Lines.{prepend_to_first_line}
+use Rattle.bson_program.specs.Messages.{with_file_names, line_prefix, line_len, split_lines, with_file_name}
 
 is_newline : (x : ℕ) → (x == 10) ≡ true → x ≡ 10
 is_newline x e = grind (arith, nat_tests)
 
 by_test : (b : Bool) (x : ℕ) (xs : List ℕ) → (b ≡ true → x ≡ 10)
-    → (b ≡ false → onto_first x (spans xs) ≡ (x ∷ take (line_len xs) xs) ∷ spans (drop (line_len xs) xs))
-    → cond b ((10 ∷ []) ∷ spans xs) (onto_first x (spans xs))
-    ≡ take (cond b 1 (suc (line_len xs))) (x ∷ xs) ∷ spans (drop (cond b 1 (suc (line_len xs))) (x ∷ xs))
-by_test true x xs is other = ap (λ y. (y ∷ []) ∷ spans xs) (sym (is refl))
+    → (b ≡ false → prepend_to_first_line x (split_lines xs) ≡ (x ∷ take (line_len xs) xs) ∷ split_lines (drop (line_len xs) xs))
+    → cond b ((10 ∷ []) ∷ split_lines xs) (prepend_to_first_line x (split_lines xs))
+    ≡ take (cond b 1 (suc (line_len xs))) (x ∷ xs) ∷ split_lines (drop (cond b 1 (suc (line_len xs))) (x ∷ xs))
+by_test true x xs is other = ap (λ y. (y ∷ []) ∷ split_lines xs) (sym (is refl))
 by_test false x xs is other = other refl
 
 -- the first line of bytes that begin with x
 pub first : (x : ℕ) (xs : List ℕ)
-    → spans (x ∷ xs) ≡ take (line_len (x ∷ xs)) (x ∷ xs) ∷ spans (drop (line_len (x ∷ xs)) (x ∷ xs))
+    → split_lines (x ∷ xs) ≡ take (line_len (x ∷ xs)) (x ∷ xs) ∷ split_lines (drop (line_len (x ∷ xs)) (x ∷ xs))
 first x [] = by_test (x == 10) x [] (is_newline x) (λ e. refl)
-first x (y ∷ ys) = by_test (x == 10) x (y ∷ ys) (is_newline x) (λ e. ap (onto_first x) (first y ys))
+first x (y ∷ ys) = by_test (x == 10) x (y ∷ ys) (is_newline x) (λ e. ap (prepend_to_first_line x) (first y ys))
 
 pub under_first : (name xs : List ℕ) → 0 < length xs
-    → all_under name xs ≡ under name (take (line_len xs) xs) ++ all_under name (drop (line_len xs) xs)
+    → with_file_names name xs ≡ with_file_name name (take (line_len xs) xs) ++ with_file_names name (drop (line_len xs) xs)
 under_first name [] some = absurd (omega arith)
-under_first name (x ∷ xs) some = ap (λ ys. flat_map (under name) ys) (first x xs)
+under_first name (x ∷ xs) some = ap (λ ys. flat_map (with_file_name name) ys) (first x xs)
 
 -- a diagnostic was appended to those before it
-pub named_on : (name rest verdict others old new whole : List ℕ) (n : ℕ) → 0 < length rest → n ≡ line_len rest
-    → verdict ≡ take n rest → others ≡ drop n rest → new ≡ old ++ under name verdict
-    → old ++ all_under name rest ≡ whole → new ++ all_under name others ≡ whole
-named_on name rest verdict others old new whole n some len front back added before =
-    ap (λ l. l ++ all_under name others) (added ∙ ap (λ v. old ++ under name v) (front ∙ ap (λ k. take k rest) len))
-    ∙ ap (λ l. (old ++ under name (take (line_len rest) rest)) ++ all_under name l) (back ∙ ap (λ k. drop k rest) len)
-    ∙ append_assoc old (under name (take (line_len rest) rest)) (all_under name (drop (line_len rest) rest))
+pub named_on : (name rest diagnostic others old new whole : List ℕ) (n : ℕ) → 0 < length rest → n ≡ line_len rest
+    → diagnostic ≡ take n rest → others ≡ drop n rest → new ≡ old ++ with_file_name name diagnostic
+    → old ++ with_file_names name rest ≡ whole → new ++ with_file_names name others ≡ whole
+named_on name rest diagnostic others old new whole n some len front back added before =
+    ap (λ l. l ++ with_file_names name others) (added ∙ ap (λ v. old ++ with_file_name name v) (front ∙ ap (λ k. take k rest) len))
+    ∙ ap (λ l. (old ++ with_file_name name (take (line_len rest) rest)) ++ with_file_names name l) (back ∙ ap (λ k. drop k rest) len)
+    ∙ append_assoc old (with_file_name name (take (line_len rest) rest)) (with_file_names name (drop (line_len rest) rest))
     ∙ ap (λ l. old ++ l) (sym (under_first name rest some)) ∙ before
 
 -- ---- the length of the first line
@@ -66,15 +66,15 @@ line_to xs i e = found_by _ _ _ i (line_len xs) (line_len_is xs) e
 pub line_whole : (xs : List ℕ) → position (λ b. b == 10) xs ≡ None → length xs ≡ line_len xs
 line_whole xs e = none_by _ _ _ (line_len xs) (line_len_is xs) e
 
-pub named_behind : {E : Type 0} (r : Result (Unit {0}) E) (old a b new name verdict rest : List ℕ) → a ≡ old ++ name
-    → b ≡ a ++ 58 ∷ [] → new ≡ cond (is_ok r) (b ++ rest) b → rest ≡ drop (length line_prefix) verdict
-    → starts_with nat_eq verdict line_prefix ≡ true → OnOk r (new ≡ old ++ under name verdict)
-named_behind (Err x) old a b new name verdict rest p q e is starts = tt
-named_behind (Ok x) old a b new name verdict rest p q e is starts =
+pub named_behind : {E : Type 0} (r : Result (Unit {0}) E) (old a b new name diagnostic rest : List ℕ) → a ≡ old ++ name
+    → b ≡ a ++ 58 ∷ [] → new ≡ cond (is_ok r) (b ++ rest) b → rest ≡ drop (length line_prefix) diagnostic
+    → starts_with nat_eq diagnostic line_prefix ≡ true → OnOk r (new ≡ old ++ with_file_name name diagnostic)
+named_behind (Err x) old a b new name diagnostic rest p q e is starts = tt
+named_behind (Ok x) old a b new name diagnostic rest p q e is starts =
     let joined : ((old ++ name) ++ 58 ∷ []) ++ rest ≡ old ++ (name ++ (58 ∷ rest)) = simp append_assoc in
     e ∙ ap (λ l. l ++ rest) (q ∙ ap (λ l. l ++ 58 ∷ []) p) ∙ joined
     ∙ ap (λ l. old ++ (name ++ (58 ∷ l))) is
-    ∙ ap (λ t. old ++ (name ++ cond t (58 ∷ drop (length line_prefix) verdict) (codes ": " ++ verdict))) (sym starts)
+    ∙ ap (λ t. old ++ (name ++ cond t (58 ∷ drop (length line_prefix) diagnostic) (codes ": " ++ diagnostic))) (sym starts)
 
 -- ---- escapes, a letter after the other
 

@@ -8,7 +8,7 @@ use Rattle.bson_codec.specs.declared.run_end.RunFault.{RunFault}
 
 -- the run ended at a document for an error of its bytes, whose diagnostic follows the others; so many documents were
 -- rejected, this one too
-pub record IsCutDump (run : Run) (before after had holds reported reports : Option (List ℕ)) (documents refused : ℕ)
+pub record IsCutDump (run : Run) (before after output_before output_after diagnostics_before diagnostics_after : Option (List ℕ)) (documents refused : ℕ)
     : Type 0 where
   pub fault : RunFault
   pub left : ℕ
@@ -16,12 +16,12 @@ pub record IsCutDump (run : Run) (before after had holds reported reports : Opti
   pub said : Option (List ℕ)
   pub keeps_going : run.keep_going ≡ true
   pub of_bytes : IsFaultOfDocument fault
-  pub ended : EndsAt run before after had holds reported said fault documents left start
-  pub reports_appended : Appends said reports (diagnostic_of documents start fault)
+  pub ended : EndsAt run before after output_before output_after diagnostics_before said fault documents left start
+  pub reports_appended : Appends said diagnostics_after (diagnostic_of documents start fault)
   pub counted : refused ≡ left + 1
 
 -- all documents were done; or a run that keeps going ended at one
-abbrev pub IsDoneDump : Run → (before after had holds reported reports : Option (List ℕ)) → (documents refused : ℕ) → Type 0
-IsDoneDump run before after had holds reported reports documents refused =
-    CompletedRun run before after had holds reported reports documents refused
-    ⊎ IsCutDump run before after had holds reported reports documents refused
+abbrev pub IsDoneDump : Run → (before after output_before output_after diagnostics_before diagnostics_after : Option (List ℕ)) → (documents refused : ℕ) → Type 0
+IsDoneDump run before after output_before output_after diagnostics_before diagnostics_after documents refused =
+    CompletedRun run before after output_before output_after diagnostics_before diagnostics_after documents refused
+    ⊎ IsCutDump run before after output_before output_after diagnostics_before diagnostics_after documents refused

@@ -1,10 +1,10 @@
 -- The options: which of them each command has, and which of them are set.
 use Rattle.std.specs.Prelude.{ℕ, Bool, true, false, not, ◌&&◌, List, codes, is_some, if◌then◌else◌}
 use Rattle.bson_convert.specs.declared.mode.Mode.TheVariants.{Show}
-use Rattle.bson_run.specs.declared.order.Criterion.TheVariants as criterion
-use Rattle.bson_run.specs.declared.order.Task.{Task}
-use Rattle.bson_run.specs.declared.order.Task.TheVariants.{Write, Check, Encode}
-use Rattle.bson_program.specs.declared.arguments.Given.{Given}
+use Rattle.bson_run.specs.declared.task.Criterion.TheVariants as criterion
+use Rattle.bson_run.specs.declared.task.Task.{Task}
+use Rattle.bson_run.specs.declared.task.Task.TheVariants.{Write, Check, Encode}
+use Rattle.bson_program.specs.declared.arguments.ArgsSoFar.{ArgsSoFar}
 use Rattle.bson_program.specs.declared.invocation.Flag.{Flag}
 use Rattle.bson_program.specs.declared.invocation.Flag.TheVariants.{SortKeys, Strict, Legacy, NoDoubleKeys, Canonical, Indent, KeepGoing, Jobs}
 use Rattle.bson_program.specs.declared.invocation.Flag.TheVariants.{Output, Unordered}
@@ -50,51 +50,51 @@ reads_many Text = false
 reads_many input = true
 
 -- the command has the option
-abbrev pub accepts : Flag → Input → Task → Bool
-accepts SortKeys Documents task = is_form task
-accepts SortKeys input task = has_output task
-accepts Strict Documents task = is_form task
-accepts Strict input task = true
-accepts Legacy input task = reads_texts input task
-accepts NoDoubleKeys input task = reads_texts input task
-accepts Canonical input task = judges_texts input task
-accepts Indent Text task = is_form task
-accepts Indent input task = false
-accepts KeepGoing input task = reads_many input
-accepts Jobs input task = reads_many input
-accepts Output input task = has_output task
-accepts Unordered input task = true
+abbrev pub command_allows : Flag → Input → Task → Bool
+command_allows SortKeys Documents task = is_form task
+command_allows SortKeys input task = has_output task
+command_allows Strict Documents task = is_form task
+command_allows Strict input task = true
+command_allows Legacy input task = reads_texts input task
+command_allows NoDoubleKeys input task = reads_texts input task
+command_allows Canonical input task = judges_texts input task
+command_allows Indent Text task = is_form task
+command_allows Indent input task = false
+command_allows KeepGoing input task = reads_many input
+command_allows Jobs input task = reads_many input
+command_allows Output input task = has_output task
+command_allows Unordered input task = true
 
 -- modes with this purpose have the option
-abbrev pub serves : Flag → Purpose → Bool
-serves SortKeys purpose.Output = true
-serves SortKeys other = false
-serves Indent purpose.Output = true
-serves Indent other = false
-serves KeepGoing purpose.Comparison = false
-serves Jobs purpose.Comparison = false
-serves Output purpose.Comparison = false
-serves Unordered purpose.Comparison = true
-serves Unordered other = false
-serves flag other = true
+abbrev pub purpose_allows : Flag → Purpose → Bool
+purpose_allows SortKeys purpose.Output = true
+purpose_allows SortKeys other = false
+purpose_allows Indent purpose.Output = true
+purpose_allows Indent other = false
+purpose_allows KeepGoing purpose.Comparison = false
+purpose_allows Jobs purpose.Comparison = false
+purpose_allows Output purpose.Comparison = false
+purpose_allows Unordered purpose.Comparison = true
+purpose_allows Unordered other = false
+purpose_allows flag other = true
 
 -- ---- options that are set
 
-abbrev pub has_flag : Flag → Given → Bool
-has_flag SortKeys given = given.sorts_keys
-has_flag Strict given = given.is_strict
-has_flag Legacy given = given.is_legacy
-has_flag NoDoubleKeys given = given.is_distinct
-has_flag Canonical given = given.is_canonical
-has_flag Indent given = is_some given.indent
-has_flag KeepGoing given = given.keeps_going
-has_flag Jobs given = is_some given.jobs
-has_flag Output given = is_some given.output
-has_flag Unordered given = given.is_unordered
+abbrev pub has_flag : Flag → ArgsSoFar → Bool
+has_flag SortKeys args_so_far = args_so_far.sorts_keys
+has_flag Strict args_so_far = args_so_far.is_strict
+has_flag Legacy args_so_far = args_so_far.is_legacy
+has_flag NoDoubleKeys args_so_far = args_so_far.is_distinct
+has_flag Canonical args_so_far = args_so_far.is_canonical
+has_flag Indent args_so_far = is_some args_so_far.indent
+has_flag KeepGoing args_so_far = args_so_far.keeps_going
+has_flag Jobs args_so_far = is_some args_so_far.jobs
+has_flag Output args_so_far = is_some args_so_far.output
+has_flag Unordered args_so_far = args_so_far.is_unordered
 
 -- an option is set that the command does not have
-abbrev pub clashes : Flag → Given → Task → Bool
-clashes flag given task = if serves flag given.purpose && accepts flag given.input task then false else has_flag flag given
+abbrev pub is_unsupported : Flag → ArgsSoFar → Task → Bool
+is_unsupported flag args_so_far task = if purpose_allows flag args_so_far.purpose && command_allows flag args_so_far.input task then false else has_flag flag args_so_far
 
 -- ---- the names of options
 

@@ -6,15 +6,15 @@ use Rattle.std.specs.declared.alloc.Global.{Global}
 use Rattle.std.specs.Fmt.{decimal}
 use Rattle.std.specs.Option.{option_map_or}
 use Rattle.bson_convert.specs.declared.mode.Mode.TheVariants as modes
-use Rattle.bson_run.specs.Words.{task_name}
-use Rattle.bson_run.specs.declared.order.Criterion.TheVariants.{Canonical, Valid}
-use Rattle.bson_run.specs.declared.order.OnRefusal.TheVariants.{KeepGoing, Stop}
-use Rattle.bson_run.specs.declared.order.Preprocessing.{Preprocessing}
-use Rattle.bson_run.specs.declared.order.Preprocessing.TheVariants.{Distinct, Legacy, DistinctLegacy}
-use Rattle.bson_run.specs.declared.order.Task.{Task}
-use Rattle.bson_run.specs.declared.order.Task.TheVariants.{Write, Check, Encode, Preprocessed}
-use Rattle.bson_run.specs.declared.order.Work.TheVariants as work
-use Rattle.bson_program.specs.Flags.{clashes, has_flag}
+use Rattle.bson_run.specs.TaskNames.{task_name}
+use Rattle.bson_run.specs.declared.task.Criterion.TheVariants.{Canonical, Valid}
+use Rattle.bson_run.specs.declared.task.OnRefusal.TheVariants.{KeepGoing, Stop}
+use Rattle.bson_run.specs.declared.task.Preprocessing.{Preprocessing}
+use Rattle.bson_run.specs.declared.task.Preprocessing.TheVariants.{Distinct, Legacy, DistinctLegacy}
+use Rattle.bson_run.specs.declared.task.Task.{Task}
+use Rattle.bson_run.specs.declared.task.Task.TheVariants.{Write, Check, Encode, Preprocessed}
+use Rattle.bson_run.specs.declared.task.InnerTask.TheVariants as inner_task
+use Rattle.bson_program.specs.Flags.{is_unsupported, has_flag}
 use Rattle.bson_program.specs.declared.invocation.Request.{Request}
 use Rattle.bson_program.specs.declared.invocation.Request.TheVariants.{Run, Help, Version, Wrong}
 use Rattle.bson_program.specs.declared.invocation.Command.{Command}
@@ -23,14 +23,14 @@ use Rattle.bson_program.specs.declared.invocation.Flag.{Flag}
 use Rattle.bson_program.specs.declared.invocation.Flag.TheVariants as flag
 use Rattle.bson_program.specs.declared.invocation.Input.{Input}
 use Rattle.bson_program.specs.declared.invocation.Input.TheVariants.{Text, Lines, Documents}
-use Rattle.bson_program.specs.declared.invocation.Misuse.{Misuse}
-use Rattle.bson_program.specs.declared.invocation.Misuse.TheVariants as misuse
+use Rattle.bson_program.specs.declared.invocation.UsageError.{UsageError}
+use Rattle.bson_program.specs.declared.invocation.UsageError.TheVariants as usage_error
 use Rattle.bson_program.specs.declared.invocation.Invocation.{Invocation}
 use Rattle.bson_program.specs.declared.invocation.Purpose.{Purpose}
 use Rattle.bson_program.specs.declared.invocation.Purpose.TheVariants as purpose
-use Rattle.bson_program.specs.declared.arguments.Given.{Given}
-use Rattle.bson_program.specs.declared.arguments.Parsed as arguments
-use Rattle.bson_program.specs.declared.arguments.Parsed.TheVariants as parsed
+use Rattle.bson_program.specs.declared.arguments.ArgsSoFar.{ArgsSoFar}
+use Rattle.bson_program.specs.declared.arguments.ParsedArg as arguments
+use Rattle.bson_program.specs.declared.arguments.ParsedArg.TheVariants as parsed
 use Rattle.bson_program.specs.declared.arguments.Next.{Next}
 use Rattle.bson_program.specs.declared.arguments.Next.TheVariants.{Any, Output, Indent, Jobs, Name}
 use Rattle.bson.specs.Doubles.{Doubles}
@@ -42,10 +42,10 @@ use Rattle.bson.specs.declared.extjson.options.Options.{Options}
 -- ---- tasks and options
 
 -- a check by the criterion that the option sets
-abbrev pub judged : (is_canonical : Bool) → Task → Task
-judged false task = task
-judged true (Check criterion) = Check Canonical
-judged true task = task
+abbrev pub with_criterion : (is_canonical : Bool) → Task → Task
+with_criterion false task = task
+with_criterion true (Check criterion) = Check Canonical
+with_criterion true task = task
 
 -- the preprocessing of a text before it is read: the check for duplicate keys, and rewriting Extended JSON v1
 abbrev pub requested_preprocessing : (is_distinct is_legacy : Bool) → Option Preprocessing
@@ -56,8 +56,8 @@ requested_preprocessing false false = None
 
 -- of texts that are taken so; bytes are made of texts that are not, and those that are to be canonical are not either
 abbrev pub first_preprocessed : Preprocessing → Task → Task
-first_preprocessed preprocessing (Write mode) = Preprocessed preprocessing (work.Write mode)
-first_preprocessed preprocessing (Check Valid) = Preprocessed preprocessing work.Check
+first_preprocessed preprocessing (Write mode) = Preprocessed preprocessing (inner_task.Write mode)
+first_preprocessed preprocessing (Check Valid) = Preprocessed preprocessing inner_task.Check
 first_preprocessed preprocessing task = task
 
 -- all doubles have a text; or, if the run is strict, those of the specification
@@ -73,53 +73,53 @@ requested_order purpose sorts_keys is_strict = Ascending
 -- ---- arguments
 
 -- the argument has the option of the output and its file in it
-abbrev pub IsOutputOption : (file word : List ℕ) → Type 0
-IsOutputOption file word = (word ≡ codes "--output=" ++ file) ⊎ (word ≡ codes "-o" ++ file)
+abbrev pub IsOutputOption : (file arg : List ℕ) → Type 0
+IsOutputOption file arg = (arg ≡ codes "--output=" ++ file) ⊎ (arg ≡ codes "-o" ++ file)
 
 -- a number from 1 to the greatest, as it is written, is not the argument
-abbrev pub IsNoCount : (most : ℕ) → (word : List ℕ) → Type 0
-IsNoCount most word = (count : ℕ) → 0 < count → count ≤ most → word ≡ decimal count → ⊥
+abbrev pub IsInvalidCount : (most : ℕ) → (arg : List ℕ) → Type 0
+IsInvalidCount most arg = (count : ℕ) → 0 < count → count ≤ most → arg ≡ decimal count → ⊥
 
 -- the arguments that are options, each with its value in the argument or after it
 abbrev pub is_option : List ℕ → Bool
-is_option word = bytes_eq word (codes "--sort-keys") || bytes_eq word (codes "--strict") || bytes_eq word (codes "--legacy")
-    || bytes_eq word (codes "--no-double-keys") || bytes_eq word (codes "--canonical") || bytes_eq word (codes "--unordered")
-    || bytes_eq word (codes "--keep-going") || bytes_eq word (codes "--indent")
-    || bytes_eq word (codes "--jobs") || bytes_eq word (codes "-o") || bytes_eq word (codes "--output")
-    || bytes_eq word (codes "--help") || bytes_eq word (codes "-h") || bytes_eq word (codes "--version")
-    || bytes_eq word (codes "-v") || bytes_eq word (codes "--")
+is_option arg = bytes_eq arg (codes "--sort-keys") || bytes_eq arg (codes "--strict") || bytes_eq arg (codes "--legacy")
+    || bytes_eq arg (codes "--no-double-keys") || bytes_eq arg (codes "--canonical") || bytes_eq arg (codes "--unordered")
+    || bytes_eq arg (codes "--keep-going") || bytes_eq arg (codes "--indent")
+    || bytes_eq arg (codes "--jobs") || bytes_eq arg (codes "-o") || bytes_eq arg (codes "--output")
+    || bytes_eq arg (codes "--help") || bytes_eq arg (codes "-h") || bytes_eq arg (codes "--version")
+    || bytes_eq arg (codes "-v") || bytes_eq arg (codes "--")
 
 -- ---- modes
 
 -- the argument that names a mode
-abbrev pub mode_word : Purpose → Task → List ℕ
-mode_word purpose.Output task = task_name task
-mode_word purpose.Digests task = codes "hash"
-mode_word purpose.Comparison task = codes "same"
+abbrev pub mode_arg : Purpose → Task → List ℕ
+mode_arg purpose.Output task = task_name task
+mode_arg purpose.Digests task = codes "hash"
+mode_arg purpose.Comparison task = codes "same"
 
 -- digests and comparisons are of canonical text
-abbrev pub IsVerbFor : Purpose → (verb : Task) → Type 0
-IsVerbFor purpose.Output verb = Unit {0}
-IsVerbFor other verb = verb ≡ Write modes.Canonical
+abbrev pub IsNamedTaskFor : Purpose → (named_task : Task) → Type 0
+IsNamedTaskFor purpose.Output named_task = Unit {0}
+IsNamedTaskFor other named_task = named_task ≡ Write modes.Canonical
 
 -- with the keys of each document in ascending order
 abbrev pub IsTaskFor : Purpose → KeyOrder → Task → Type 0
 IsTaskFor purpose.Output order task = Unit {0}
 IsTaskFor other order (Write mode) = (mode ≡ modes.Canonical) × (order ≡ Ascending)
-IsTaskFor other order (Preprocessed preprocessing (work.Write mode)) = (mode ≡ modes.Canonical) × (order ≡ Ascending)
+IsTaskFor other order (Preprocessed preprocessing (inner_task.Write mode)) = (mode ≡ modes.Canonical) × (order ≡ Ascending)
 IsTaskFor other order task = ⊥
 
 -- the argument names this mode
-abbrev pub IsNamed : (word : List ℕ) → Purpose → (verb : Task) → Type 0
-IsNamed word purpose verb = (word ≡ mode_word purpose verb) × IsVerbFor purpose verb
+abbrev pub IsNamed : (arg : List ℕ) → Purpose → (named_task : Task) → Type 0
+IsNamed arg purpose named_task = (arg ≡ mode_arg purpose named_task) × IsNamedTaskFor purpose named_task
 
 -- ---- commands
 
 -- the input that a command names
-abbrev pub input_named : (word : List ℕ) → Input → Input
-input_named word input = if bytes_eq word (codes "lines") then Lines
-    else (if bytes_eq word (codes "decode") then Documents
-    else (if bytes_eq word (codes "encode") then Lines else input))
+abbrev pub input_named : (arg : List ℕ) → Input → Input
+input_named arg input = if bytes_eq arg (codes "lines") then Lines
+    else (if bytes_eq arg (codes "decode") then Documents
+    else (if bytes_eq arg (codes "encode") then Lines else input))
 
 -- no argument has named another
 abbrev pub is_text : Input → Bool
@@ -136,30 +136,30 @@ command_of Lines task = command.Lines
 -- ---- the meaning of the arguments
 
 -- after a mode an argument is a file
-abbrev pub input_of : (word : List ℕ) → Given → Input
-input_of word given = option_map_or (λ verb. given.input) given.task (input_named word given.input)
+abbrev pub input_of : (arg : List ℕ) → ArgsSoFar → Input
+input_of arg args_so_far = option_map_or (λ named_task. args_so_far.input) args_so_far.task (input_named arg args_so_far.input)
 
 -- what an argument sets that is not the value of an option: each option and each command sets its own part, and any
 -- other argument none of these
-abbrev pub given_of : List ℕ → Given → Given
-given_of word given = record given {
-  keeps_going = bytes_eq word (codes "--keep-going") || given.keeps_going;
-  input = input_of word given;
-  sorts_keys = bytes_eq word (codes "--sort-keys") || given.sorts_keys;
-  is_strict = bytes_eq word (codes "--strict") || given.is_strict;
-  is_distinct = bytes_eq word (codes "--no-double-keys") || given.is_distinct;
-  is_legacy = bytes_eq word (codes "--legacy") || given.is_legacy;
-  is_canonical = bytes_eq word (codes "--canonical") || given.is_canonical;
-  is_unordered = bytes_eq word (codes "--unordered") || given.is_unordered;
-  next = if bytes_eq word (codes "--") then Name
-      else (if bytes_eq word (codes "-o") || bytes_eq word (codes "--output") then Output
-      else (if bytes_eq word (codes "--indent") then Indent
-      else (if bytes_eq word (codes "--jobs") then Jobs else given.next)));
+abbrev pub set_flags : List ℕ → ArgsSoFar → ArgsSoFar
+set_flags arg args_so_far = record args_so_far {
+  keeps_going = bytes_eq arg (codes "--keep-going") || args_so_far.keeps_going;
+  input = input_of arg args_so_far;
+  sorts_keys = bytes_eq arg (codes "--sort-keys") || args_so_far.sorts_keys;
+  is_strict = bytes_eq arg (codes "--strict") || args_so_far.is_strict;
+  is_distinct = bytes_eq arg (codes "--no-double-keys") || args_so_far.is_distinct;
+  is_legacy = bytes_eq arg (codes "--legacy") || args_so_far.is_legacy;
+  is_canonical = bytes_eq arg (codes "--canonical") || args_so_far.is_canonical;
+  is_unordered = bytes_eq arg (codes "--unordered") || args_so_far.is_unordered;
+  next = if bytes_eq arg (codes "--") then Name
+      else (if bytes_eq arg (codes "-o") || bytes_eq arg (codes "--output") then Output
+      else (if bytes_eq arg (codes "--indent") then Indent
+      else (if bytes_eq arg (codes "--jobs") then Jobs else args_so_far.next)));
 }
 
 -- an argument that is an option sets what the table says; arguments for files, the mode and numbers set the rest
-abbrev pub Sets : (word : List ℕ) → (old new : Given) → Type 0
-Sets word old new = new ≡ record (given_of word old) {
+abbrev pub SetsOption : (arg : List ℕ) → (old new : ArgsSoFar) → Type 0
+SetsOption arg old new = new ≡ record (set_flags arg old) {
   task = new.task;
   purpose = new.purpose;
   indent = new.indent;
@@ -169,24 +169,24 @@ Sets word old new = new ≡ record (given_of word old) {
 }
 
 -- the argument is the one that the argument before it expects
-abbrev pub TakesFor : Next → (word : List ℕ) → (old new : Given) → Type 0
-TakesFor Any word old new = Sets word old new
-TakesFor Output word old new = new ≡ record old { next = Any; output = new.output }
-TakesFor Indent word old new = new ≡ record old { next = Any; indent = new.indent }
-TakesFor Jobs word old new = new ≡ record old { next = Any; jobs = new.jobs }
-TakesFor Name word old new = new ≡ record old {
+abbrev pub AcceptsAs : Next → (arg : List ℕ) → (old new : ArgsSoFar) → Type 0
+AcceptsAs Any arg old new = SetsOption arg old new
+AcceptsAs Output arg old new = new ≡ record old { next = Any; output = new.output }
+AcceptsAs Indent arg old new = new ≡ record old { next = Any; indent = new.indent }
+AcceptsAs Jobs arg old new = new ≡ record old { next = Any; jobs = new.jobs }
+AcceptsAs Name arg old new = new ≡ record old {
   task = new.task;
   purpose = new.purpose;
-  input = input_of word old;
+  input = input_of arg old;
   inputs = new.inputs;
 }
 
-abbrev pub AcceptsWord : (word : List ℕ) → (old new : Given) → Type 0
-AcceptsWord word old new = TakesFor old.next word old new
+abbrev pub AcceptsArg : (arg : List ℕ) → (old new : ArgsSoFar) → Type 0
+AcceptsArg arg old new = AcceptsAs old.next arg old new
 
 -- the state before the first argument
-abbrev pub IsInitial : Given → Type 0
-IsInitial given = given ≡ record given {
+abbrev pub IsInitial : ArgsSoFar → Type 0
+IsInitial args_so_far = args_so_far ≡ record args_so_far {
   task = None;
   purpose = purpose.Output;
   input = Text;
@@ -204,62 +204,62 @@ IsInitial given = given ≡ record given {
 }
 
 -- the state after the arguments, one after another
-pub data AreGiven : List (List ℕ) → Given → Type 0 where
-  none : (given : Given) → IsInitial given → vec_len given.inputs ≡ 0 → AreGiven [] given
-  one_more : {words : List (List ℕ)} {old : Given} (word : List ℕ) (new : Given) → AreGiven words old → AcceptsWord word old new
-      → AreGiven (words ++ word ∷ []) new
+pub data AreParsed : List (List ℕ) → ArgsSoFar → Type 0 where
+  none : (args_so_far : ArgsSoFar) → IsInitial args_so_far → vec_len args_so_far.inputs ≡ 0 → AreParsed [] args_so_far
+  one_more : {args : List (List ℕ)} {old : ArgsSoFar} (arg : List ℕ) (new : ArgsSoFar) → AreParsed args old → AcceptsArg arg old new
+      → AreParsed (args ++ arg ∷ []) new
 
 -- ---- arguments that are not accepted
 
 -- the argument names a mode, or, as the first, a command
-abbrev pub IsMode : Input → (word : List ℕ) → Type 0
-IsMode Text word = ((purpose : Purpose) × (task : Task) × (word ≡ mode_word purpose task)) ⊎ (word ≡ codes "lines")
-    ⊎ (word ≡ codes "decode")
-IsMode input word = (purpose : Purpose) × (task : Task) × (task ≢ Encode) × (word ≡ mode_word purpose task)
+abbrev pub IsMode : Input → (arg : List ℕ) → Type 0
+IsMode Text arg = ((purpose : Purpose) × (task : Task) × (arg ≡ mode_arg purpose task)) ⊎ (arg ≡ codes "lines")
+    ⊎ (arg ≡ codes "decode")
+IsMode input arg = (purpose : Purpose) × (task : Task) × (task ≢ Encode) × (arg ≡ mode_arg purpose task)
 
 -- the argument, or the part after its option, is not the expected value
-abbrev pub IsUnnumbered : (most : ℕ) → (option word : List ℕ) → Type 0
-IsUnnumbered most option word = (text : List ℕ) × IsNoCount most text × ((word ≡ text) ⊎ (word ≡ option ++ text))
+abbrev pub HasInvalidNumber : (most : ℕ) → (option arg : List ℕ) → Type 0
+HasInvalidNumber most option arg = (text : List ℕ) × IsInvalidCount most text × ((arg ≡ text) ⊎ (arg ≡ option ++ text))
 
 -- the argument begins as an option
-abbrev pub IsDashed : (word : List ℕ) → Type 0
-IsDashed word = (slice_index word 0 == 45) ≡ true
+abbrev pub StartsWithDash : (arg : List ℕ) → Type 0
+StartsWithDash arg = (slice_index arg 0 == 45) ≡ true
 
 -- why the argument is not accepted after those before it
-abbrev pub IsMisuse : Given → (word : List ℕ) → Misuse → Type 0
-IsMisuse given word misuse.UnknownOption = IsDashed word × (is_option word ≡ false)
-IsMisuse given word misuse.UnknownMode = (given.task ≡ None) × (IsMode given.input word → ⊥)
-IsMisuse given word misuse.Former = (word ≡ codes "--doubles") ⊎ (word ≡ codes "--keep-order")
-IsMisuse given word (misuse.Twice flag) = has_flag flag given ≡ true
-IsMisuse given word (misuse.NoValue flag.Indent) = IsUnnumbered 16 (codes "--indent=") word
-IsMisuse given word (misuse.NoValue flag.Jobs) = IsUnnumbered 9999 (codes "--jobs=") word
-IsMisuse given word other = ⊥
+abbrev pub IsUsageError : ArgsSoFar → (arg : List ℕ) → UsageError → Type 0
+IsUsageError args_so_far arg usage_error.UnknownOption = StartsWithDash arg × (is_option arg ≡ false)
+IsUsageError args_so_far arg usage_error.UnknownMode = (args_so_far.task ≡ None) × (IsMode args_so_far.input arg → ⊥)
+IsUsageError args_so_far arg usage_error.RemovedOption = (arg ≡ codes "--doubles") ⊎ (arg ≡ codes "--keep-order")
+IsUsageError args_so_far arg (usage_error.Twice flag) = has_flag flag args_so_far ≡ true
+IsUsageError args_so_far arg (usage_error.NoValue flag.Indent) = HasInvalidNumber 16 (codes "--indent=") arg
+IsUsageError args_so_far arg (usage_error.NoValue flag.Jobs) = HasInvalidNumber 9999 (codes "--jobs=") arg
+IsUsageError args_so_far arg other = ⊥
 
 -- the argument requests help: `help` is a file after a mode
-abbrev pub IsHelp : Given → (word : List ℕ) → Type 0
-IsHelp given word = (word ≡ codes "--help") ⊎ (word ≡ codes "-h") ⊎ ((word ≡ codes "help") × (given.task ≡ None))
+abbrev pub IsHelp : ArgsSoFar → (arg : List ℕ) → Type 0
+IsHelp args_so_far arg = (arg ≡ codes "--help") ⊎ (arg ≡ codes "-h") ⊎ ((arg ≡ codes "help") × (args_so_far.task ≡ None))
 
 -- the result for an argument after those before it
-abbrev pub IsParsed : Given → (word : List ℕ) → arguments.Parsed → Type 0
-IsParsed given word parsed.Word = Unit {0}
-IsParsed given word parsed.Help = IsHelp given word
-IsParsed given word parsed.Version = (word ≡ codes "--version") ⊎ (word ≡ codes "-v")
-IsParsed given word (parsed.Wrong why) = IsMisuse given word why
+abbrev pub IsParsed : ArgsSoFar → (arg : List ℕ) → arguments.ParsedArg → Type 0
+IsParsed args_so_far arg parsed.AcceptedArg = Unit {0}
+IsParsed args_so_far arg parsed.Help = IsHelp args_so_far arg
+IsParsed args_so_far arg parsed.Version = (arg ≡ codes "--version") ⊎ (arg ≡ codes "-v")
+IsParsed args_so_far arg (parsed.Wrong why) = IsUsageError args_so_far arg why
 
 -- ---- modes and options
 
 -- the command has all options that are set
-pub record AllFit (given : Given) (task : Task) : Type 0 where
-  pub sort_keys : clashes flag.SortKeys given task ≡ false
-  pub strict : clashes flag.Strict given task ≡ false
-  pub legacy : clashes flag.Legacy given task ≡ false
-  pub no_double_keys : clashes flag.NoDoubleKeys given task ≡ false
-  pub canonical : clashes flag.Canonical given task ≡ false
-  pub indent : clashes flag.Indent given task ≡ false
-  pub keep_going : clashes flag.KeepGoing given task ≡ false
-  pub jobs : clashes flag.Jobs given task ≡ false
-  pub output : clashes flag.Output given task ≡ false
-  pub unordered : clashes flag.Unordered given task ≡ false
+pub record AllOptionsSupported (args_so_far : ArgsSoFar) (task : Task) : Type 0 where
+  pub sort_keys : is_unsupported flag.SortKeys args_so_far task ≡ false
+  pub strict : is_unsupported flag.Strict args_so_far task ≡ false
+  pub legacy : is_unsupported flag.Legacy args_so_far task ≡ false
+  pub no_double_keys : is_unsupported flag.NoDoubleKeys args_so_far task ≡ false
+  pub canonical : is_unsupported flag.Canonical args_so_far task ≡ false
+  pub indent : is_unsupported flag.Indent args_so_far task ≡ false
+  pub keep_going : is_unsupported flag.KeepGoing args_so_far task ≡ false
+  pub jobs : is_unsupported flag.Jobs args_so_far task ≡ false
+  pub output : is_unsupported flag.Output args_so_far task ≡ false
+  pub unordered : is_unsupported flag.Unordered args_so_far task ≡ false
 
 -- the file at this place among the files is standard input
 abbrev pub IsStandardAt : (at : ℕ) → Vec (String Global) Global → Type 0
@@ -270,37 +270,37 @@ abbrev pub AreTwoFiles : Vec (String Global) Global → Type 0
 AreTwoFiles inputs = (vec_len inputs ≡ 2) × ((IsStandardAt 0 inputs × IsStandardAt 1 inputs) → ⊥)
 
 -- the mode has the options, and a comparison is of two files
-pub record TaskFits (given : Given) (task : Task) : Type 0 where
-  pub files : given.purpose ≡ purpose.Comparison → AreTwoFiles given.inputs
-  pub options : AllFit given task
+pub record OptionsFitMode (args_so_far : ArgsSoFar) (task : Task) : Type 0 where
+  pub files : args_so_far.purpose ≡ purpose.Comparison → AreTwoFiles args_so_far.inputs
+  pub options : AllOptionsSupported args_so_far task
 
 -- why they do not fit
-abbrev pub IsMisfit : Given → Task → Misuse → Type 0
-IsMisfit given task (misuse.Unfit flag mode verb) = (mode ≡ given.purpose) × (verb ≡ task) × (clashes flag given task ≡ true)
-IsMisfit given task misuse.TwoFiles = (given.purpose ≡ purpose.Comparison) × (vec_len given.inputs ≢ 2)
-IsMisfit given task misuse.StandardTwice =
-    (given.purpose ≡ purpose.Comparison) × IsStandardAt 0 given.inputs × IsStandardAt 1 given.inputs
-IsMisfit given task other = ⊥
+abbrev pub IsOptionError : ArgsSoFar → Task → UsageError → Type 0
+IsOptionError args_so_far task (usage_error.UnsupportedOption flag mode named_task) = (mode ≡ args_so_far.purpose) × (named_task ≡ task) × (is_unsupported flag args_so_far task ≡ true)
+IsOptionError args_so_far task usage_error.TwoFiles = (args_so_far.purpose ≡ purpose.Comparison) × (vec_len args_so_far.inputs ≢ 2)
+IsOptionError args_so_far task usage_error.StandardTwice =
+    (args_so_far.purpose ≡ purpose.Comparison) × IsStandardAt 0 args_so_far.inputs × IsStandardAt 1 args_so_far.inputs
+IsOptionError args_so_far task other = ⊥
 
 -- the option whose value is missing
-abbrev pub awaited : Next → Option Flag
-awaited Output = Some flag.Output
-awaited Indent = Some flag.Indent
-awaited Jobs = Some flag.Jobs
-awaited next = None
+abbrev pub option_without_value : Next → Option Flag
+option_without_value Output = Some flag.Output
+option_without_value Indent = Some flag.Indent
+option_without_value Jobs = Some flag.Jobs
+option_without_value next = None
 
 -- ---- what is asked for
 
 -- the task of a mode with the options
-abbrev pub task_of : Given → (verb : Task) → Task
-task_of given verb =
-    let task = judged given.is_canonical verb in
-    option_map_or (λ preprocessing. first_preprocessed preprocessing task) (requested_preprocessing given.is_distinct given.is_legacy) task
+abbrev pub task_of : ArgsSoFar → (named_task : Task) → Task
+task_of args_so_far named_task =
+    let task = with_criterion args_so_far.is_canonical named_task in
+    option_map_or (λ preprocessing. first_preprocessed preprocessing task) (requested_preprocessing args_so_far.is_distinct args_so_far.is_legacy) task
 
-abbrev pub options_of : Given → Options
-options_of given = record {
-  doubles = doubles_of given.is_strict;
-  key_order = requested_order given.purpose given.sorts_keys given.is_strict;
+abbrev pub options_of : ArgsSoFar → Options
+options_of args_so_far = record {
+  doubles = doubles_of args_so_far.is_strict;
+  key_order = requested_order args_so_far.purpose args_so_far.sorts_keys args_so_far.is_strict;
 }
 
 -- the files, or the standard stream if there is none
@@ -309,72 +309,72 @@ or_standard [] = codes "-" ∷ []
 or_standard (name ∷ names) = name ∷ names
 
 -- the run that the arguments request
-pub record IsGiven (given : Given) (invocation : Invocation) : Type 0 where
-  pub verb : Task
-  pub is_verb : given.task ≡ Some verb
-  pub ended : awaited given.next ≡ None
-  pub fits : TaskFits given (judged given.is_canonical verb)
-  pub task : invocation.task ≡ task_of given verb
-  pub options : invocation.options ≡ options_of given
-  pub on_refusal : invocation.on_refusal ≡ (if given.keeps_going then KeepGoing else Stop)
-  pub purpose : invocation.purpose ≡ given.purpose
-  pub unordered : invocation.is_unordered ≡ given.is_unordered
-  pub input : invocation.input ≡ given.input
-  pub indent : invocation.indent ≡ given.indent
-  pub output : string_bytes invocation.output ≡ option_map_or string_bytes given.output (codes "-")
-  pub inputs : map string_bytes invocation.inputs.items ≡ or_standard (map string_bytes given.inputs.items)
+pub record IsInvocationOf (args_so_far : ArgsSoFar) (invocation : Invocation) : Type 0 where
+  pub named_task : Task
+  pub is_verb : args_so_far.task ≡ Some named_task
+  pub ended : option_without_value args_so_far.next ≡ None
+  pub fits : OptionsFitMode args_so_far (with_criterion args_so_far.is_canonical named_task)
+  pub task : invocation.task ≡ task_of args_so_far named_task
+  pub options : invocation.options ≡ options_of args_so_far
+  pub on_refusal : invocation.on_refusal ≡ (if args_so_far.keeps_going then KeepGoing else Stop)
+  pub purpose : invocation.purpose ≡ args_so_far.purpose
+  pub unordered : invocation.is_unordered ≡ args_so_far.is_unordered
+  pub input : invocation.input ≡ args_so_far.input
+  pub indent : invocation.indent ≡ args_so_far.indent
+  pub output : string_bytes invocation.output ≡ option_map_or string_bytes args_so_far.output (codes "-")
+  pub inputs : map string_bytes invocation.inputs.items ≡ or_standard (map string_bytes args_so_far.inputs.items)
 
 -- what is wrong with all arguments, if each was accepted
-abbrev pub IsWrongOf : Given → Misuse → Type 0
-IsWrongOf given (misuse.NoValue flag) = awaited given.next ≡ Some flag
-IsWrongOf given misuse.NoMode = given.task ≡ None
-IsWrongOf given why = (verb : Task) × (given.task ≡ Some verb) × IsMisfit given (judged given.is_canonical verb) why
+abbrev pub IsErrorOfAllArgs : ArgsSoFar → UsageError → Type 0
+IsErrorOfAllArgs args_so_far (usage_error.NoValue flag) = option_without_value args_so_far.next ≡ Some flag
+IsErrorOfAllArgs args_so_far usage_error.NoMode = args_so_far.task ≡ None
+IsErrorOfAllArgs args_so_far why = (named_task : Task) × (args_so_far.task ≡ Some named_task) × IsOptionError args_so_far (with_criterion args_so_far.is_canonical named_task) why
 
 -- the result for all arguments, if no help was requested: a run, or what is wrong
-abbrev pub IsAnswer : Given → Request → Type 0
-IsAnswer given (Run invocation) = IsGiven given invocation
-IsAnswer given (Wrong wrong) = IsWrongOf given wrong.misuse × (wrong.command ≡ command_of given.input given.task)
-IsAnswer given other = ⊥
+abbrev pub IsRequestOf : ArgsSoFar → Request → Type 0
+IsRequestOf args_so_far (Run invocation) = IsInvocationOf args_so_far invocation
+IsRequestOf args_so_far (Wrong wrong) = IsErrorOfAllArgs args_so_far wrong.usage_error × (wrong.command ≡ command_of args_so_far.input args_so_far.task)
+IsRequestOf args_so_far other = ⊥
 
 -- the argument is among the arguments, and this is the state after those before it
-pub record IsWordAfter (words : List (List ℕ)) (given : Given) (word : List ℕ) : Type 0 where
+pub record IsArgAfter (args : List (List ℕ)) (args_so_far : ArgsSoFar) (arg : List ℕ) : Type 0 where
   pub at : ℕ
-  pub within : at < length words
-  pub is : get_or words at word ≡ word
-  pub before : AreGiven (take at words) given
+  pub within : at < length args
+  pub is : get_or args at arg ≡ arg
+  pub before : AreParsed (take at args) args_so_far
 
 -- what each request says of the arguments: a run is what all of them request, and any other request is that of the
 -- first argument that requests help, or is not accepted, or that of all arguments
-abbrev pub IsRequestedBy : (words : List (List ℕ)) → Request → Type 0
-IsRequestedBy words (Run invocation) =
-    Contains words (mode_word invocation.purpose invocation.task)
+abbrev pub IsRequestedBy : (args : List (List ℕ)) → Request → Type 0
+IsRequestedBy args (Run invocation) =
+    Contains args (mode_arg invocation.purpose invocation.task)
     × IsTaskFor invocation.purpose invocation.options.key_order invocation.task
-    × ((given : Given) × AreGiven words given × IsGiven given invocation)
-IsRequestedBy words (Help command) = (given : Given) × (word : List ℕ) × IsWordAfter words given word × IsHelp given word
-    × (command ≡ command_of given.input given.task)
-IsRequestedBy words Version = Contains words (codes "--version") ⊎ Contains words (codes "-v")
-IsRequestedBy words (Wrong wrong) = (given : Given) × (wrong.command ≡ command_of given.input given.task)
-    × ((AreGiven words given × IsWrongOf given wrong.misuse)
-    ⊎ (IsWordAfter words given (string_bytes wrong.word) × IsMisuse given (string_bytes wrong.word) wrong.misuse))
+    × ((args_so_far : ArgsSoFar) × AreParsed args args_so_far × IsInvocationOf args_so_far invocation)
+IsRequestedBy args (Help command) = (args_so_far : ArgsSoFar) × (arg : List ℕ) × IsArgAfter args args_so_far arg × IsHelp args_so_far arg
+    × (command ≡ command_of args_so_far.input args_so_far.task)
+IsRequestedBy args Version = Contains args (codes "--version") ⊎ Contains args (codes "-v")
+IsRequestedBy args (Wrong wrong) = (args_so_far : ArgsSoFar) × (wrong.command ≡ command_of args_so_far.input args_so_far.task)
+    × ((AreParsed args args_so_far × IsErrorOfAllArgs args_so_far wrong.usage_error)
+    ⊎ (IsArgAfter args args_so_far (string_bytes wrong.arg) × IsUsageError args_so_far (string_bytes wrong.arg) wrong.usage_error))
 
 -- ---- for private clauses
 
-abbrev pub IsWrongRequest : Misuse → Command → Request → Type 0
-IsWrongRequest why command (Wrong wrong) = (wrong.misuse ≡ why) × (wrong.command ≡ command)
+abbrev pub IsWrongRequest : UsageError → Command → Request → Type 0
+IsWrongRequest why command (Wrong wrong) = (wrong.usage_error ≡ why) × (wrong.command ≡ command)
 IsWrongRequest why command other = ⊥
 
 -- the number of an option is in the text, or the option occurs twice
-abbrev pub IsNumbered : Flag → (most : ℕ) → Given → (text : List ℕ) → arguments.Parsed → Type 0
-IsNumbered flag most given text parsed.Word = Unit {0}
-IsNumbered flag most given text (parsed.Wrong why) =
-    ((why ≡ misuse.Twice flag) × (has_flag flag given ≡ true)) ⊎ ((why ≡ misuse.NoValue flag) × IsNoCount most text)
-IsNumbered flag most given text other = ⊥
+abbrev pub IsNumbered : Flag → (most : ℕ) → ArgsSoFar → (text : List ℕ) → arguments.ParsedArg → Type 0
+IsNumbered flag most args_so_far text parsed.AcceptedArg = Unit {0}
+IsNumbered flag most args_so_far text (parsed.Wrong why) =
+    ((why ≡ usage_error.Twice flag) × (has_flag flag args_so_far ≡ true)) ⊎ ((why ≡ usage_error.NoValue flag) × IsInvalidCount most text)
+IsNumbered flag most args_so_far text other = ⊥
 
-abbrev pub IsStored : Given → arguments.Parsed → Type 0
-IsStored given parsed.Word = Unit {0}
-IsStored given (parsed.Wrong (misuse.Twice flag.Output)) = has_flag flag.Output given ≡ true
-IsStored given other = ⊥
+abbrev pub IsStored : ArgsSoFar → arguments.ParsedArg → Type 0
+IsStored args_so_far parsed.AcceptedArg = Unit {0}
+IsStored args_so_far (parsed.Wrong (usage_error.Twice flag.Output)) = has_flag flag.Output args_so_far ≡ true
+IsStored args_so_far other = ⊥
 
 -- the value of an option is in its argument, or the argument is not an option
-abbrev pub IsValueInWord : Given → (word : List ℕ) → arguments.Parsed → Type 0
-IsValueInWord given word it = (it ≡ parsed.Wrong misuse.UnknownOption) ⊎ IsParsed given word it
+abbrev pub IsValueInArg : ArgsSoFar → (arg : List ℕ) → arguments.ParsedArg → Type 0
+IsValueInArg args_so_far arg it = (it ≡ parsed.Wrong usage_error.UnknownOption) ⊎ IsParsed args_so_far arg it

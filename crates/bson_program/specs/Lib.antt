@@ -1,11 +1,11 @@
 pub mod Messages
-pub mod Misuses
+pub mod UsageErrors
 pub mod Flags
 pub mod Invocation
-pub mod Stops
+pub mod RunFailures
 pub mod Dump
-pub mod Whole
+pub mod SingleText
 pub mod Hints
 pub mod Texts
 pub mod Digests
-pub mod Same
+pub mod Comparison

@@ -11,16 +11,16 @@ use Rattle.bson_convert.specs.declared.error.Error.{Error}
 use Rattle.bson_convert.specs.declared.error.Error.TheVariants.{NotCanonical, NotJson, OutOfMemory}
 use Rattle.bson_run.specs.Accepted.{IsUtf8Accepted, Outputs}
 use Rattle.bson_run.specs.Lines.{WritesText}
-use Rattle.bson_run.specs.Place.{IsWhere}
+use Rattle.bson_run.specs.ErrorMessages.{IsPositionMessage}
 use Rattle.bson_run.specs.declared.accepted.Accepted.{Accepted}
-use Rattle.bson_run.specs.declared.order.Criterion.TheVariants as criterion
-use Rattle.bson_run.specs.declared.order.Task.{Task}
-use Rattle.bson_run.specs.declared.order.Task.TheVariants.{Check}
+use Rattle.bson_run.specs.declared.task.Criterion.TheVariants as criterion
+use Rattle.bson_run.specs.declared.task.Task.{Task}
+use Rattle.bson_run.specs.declared.task.Task.TheVariants.{Check}
 use Rattle.bson_program.specs.Messages.{is_standard}
-use Rattle.bson_program.specs.Whole.{IsUngiven, WritesOutput}
+use Rattle.bson_program.specs.SingleText.{IsTextRejected, WritesOutput}
 use Rattle.bson_program.specs.declared.invocation.Invocation.{Invocation}
-use Rattle.bson_program.specs.declared.run.Stop.{Stop}
-use Rattle.bson_program.specs.declared.run.Stop.TheVariants.{Input, Output, Text}
+use Rattle.bson_program.specs.declared.run.RunFailure.{RunFailure}
+use Rattle.bson_program.specs.declared.run.RunFailure.TheVariants.{Input, Output, Text}
 
 -- ---- the bytes of an input
 
@@ -54,7 +54,7 @@ is_sequence invocation content =
 
 -- they are read as a sequence: they are not one JSON text
 pub record IsSequence (invocation : Invocation) (content : List ℕ) : Type 0 where
-  pub not_one : IsUngiven invocation.options invocation.task NotJson content
+  pub not_one : IsTextRejected invocation.options invocation.task NotJson content
   pub several : is_sequence invocation content ≡ true
 
 -- the outputs of texts, one after the other
@@ -74,13 +74,13 @@ GivesTexts invocation content output =
 -- before and after the run: None if they are not known.
 
 -- all was read, and what the bytes give was written
-pub record TextsDone (invocation : Invocation) (name : List ℕ) (before after had holds : Option (List ℕ)) : Type 0 where
+pub record TextsDone (invocation : Invocation) (name : List ℕ) (before after output_before output_after : Option (List ℕ)) : Type 0 where
   pub bytes : List ℕ
   pub output : List ℕ
   pub all : ReadsAll before after bytes
   pub gives : GivesTexts invocation (content_of invocation name bytes) output
   pub utf8 : WritesText invocation.task → IsUtf8 output
-  pub written : Appends had holds output
+  pub written : Appends output_before output_after output
 
 -- the text has this output
 pub record HasOneOutput (invocation : Invocation) (text output : List ℕ) : Type 0 where
@@ -102,27 +102,27 @@ HasLine fault content start text number = number ≡ begin_line content start te
 -- the text was rejected, and nothing of it was written; the message says where its error is
 abbrev pub TextFails : Invocation → Error → (place : List ℕ) → (number : ℕ) → (content : List ℕ) → (start : ℕ) → (text : List ℕ) → Type 0
 TextFails invocation OutOfMemory place number content start text = (number ≡ 0) × (place ≡ [])
-TextFails invocation fault place number content start text = IsUngiven invocation.options invocation.task fault text × IsWhere text fault place
+TextFails invocation fault place number content start text = IsTextRejected invocation.options invocation.task fault text × IsPositionMessage text fault place
     × HasLine fault content start text number
 
--- what each stop at a text says of it
-abbrev pub TextStops : Invocation → Stop → (name content : List ℕ) → (start : ℕ) → (text : List ℕ) → (had holds : Option (List ℕ)) → Type 0
-TextStops invocation (Output it error) name content start text had holds =
+-- what each failure at a text says of it
+abbrev pub TextStops : Invocation → RunFailure → (name content : List ℕ) → (start : ℕ) → (text : List ℕ) → (output_before output_after : Option (List ℕ)) → Type 0
+TextStops invocation (Output it error) name content start text output_before output_after =
     (it.now ≡ string_bytes invocation.output) × ((output : List ℕ) × HasOneOutput invocation text output)
-TextStops invocation (Text it number fault place) name content start text had holds =
-    (it.now ≡ name) × TextFails invocation fault (string_bytes place) number content start text × Keeps had holds
-TextStops invocation other name content start text had holds = ⊥
+TextStops invocation (Text it number fault place) name content start text output_before output_after =
+    (it.now ≡ name) × TextFails invocation fault (string_bytes place) number content start text × Keeps output_before output_after
+TextStops invocation other name content start text output_before output_after = ⊥
 
-abbrev pub IsNotJson : Stop → Type 0
+abbrev pub IsNotJson : RunFailure → Type 0
 IsNotJson (Text it number NotJson place) = Unit {0}
 IsNotJson other = ⊥
 
 -- all bytes are the text; if they are not JSON, they are not a sequence either
-pub record IsOnlyText (invocation : Invocation) (stop : Stop) (content text written : List ℕ) (start : ℕ) : Type 0 where
+pub record IsOnlyText (invocation : Invocation) (failure : RunFailure) (content text written : List ℕ) (start : ℕ) : Type 0 where
   pub whole : text ≡ content
   pub first : start ≡ 0
   pub nothing : written ≡ []
-  pub alone : IsNotJson stop → is_sequence invocation content ≡ false
+  pub alone : IsNotJson failure → is_sequence invocation content ≡ false
 
 -- the text is one of a sequence, and the outputs of those before it were written
 pub record IsInSequence (invocation : Invocation) (content text written : List ℕ) (start : ℕ) : Type 0 where
@@ -134,58 +134,58 @@ pub record IsInSequence (invocation : Invocation) (content text written : List �
   pub outputs : AreWritten invocation done written
 
 -- the text at which a run stops, and what was written before it
-pub record StopsAt (invocation : Invocation) (stop : Stop) (name content : List ℕ) (had holds : Option (List ℕ)) : Type 0 where
+pub record StopsAt (invocation : Invocation) (failure : RunFailure) (name content : List ℕ) (output_before output_after : Option (List ℕ)) : Type 0 where
   pub text : List ℕ
   pub start : ℕ
   pub written : List ℕ
-  pub held : Option (List ℕ)
-  pub is : IsOnlyText invocation stop content text written start ⊎ IsInSequence invocation content text written start
-  pub before : Appends had held written
-  pub stops : TextStops invocation stop name content start text held holds
+  pub output_between : Option (List ℕ)
+  pub is : IsOnlyText invocation failure content text written start ⊎ IsInSequence invocation content text written start
+  pub before : Appends output_before output_between written
+  pub stops : TextStops invocation failure name content start text output_between output_after
 
 -- all was read before the run stopped
-pub record ReadsAndStops (invocation : Invocation) (stop : Stop) (name : List ℕ) (before after had holds : Option (List ℕ)) : Type 0 where
+pub record ReadsAndStops (invocation : Invocation) (failure : RunFailure) (name : List ℕ) (before after output_before output_after : Option (List ℕ)) : Type 0 where
   pub bytes : List ℕ
   pub all : ReadsAll before after bytes
-  pub at : StopsAt invocation stop name (content_of invocation name bytes) had holds
+  pub at : StopsAt invocation failure name (content_of invocation name bytes) output_before output_after
 
 -- the bytes could not be read, for a reader that failed or for lack of memory
-abbrev pub CannotReadAll : Stop → (name : List ℕ) → (had holds : Option (List ℕ)) → Type 0
-CannotReadAll (Input it error) name had holds = (it.now ≡ name) × Keeps had holds
-CannotReadAll (Text it number OutOfMemory place) name had holds =
-    (it.now ≡ name) × (number ≡ 0) × (string_bytes place ≡ []) × Keeps had holds
-CannotReadAll other name had holds = ⊥
+abbrev pub CannotReadAll : RunFailure → (name : List ℕ) → (output_before output_after : Option (List ℕ)) → Type 0
+CannotReadAll (Input it error) name output_before output_after = (it.now ≡ name) × Keeps output_before output_after
+CannotReadAll (Text it number OutOfMemory place) name output_before output_after =
+    (it.now ≡ name) × (number ≡ 0) × (string_bytes place ≡ []) × Keeps output_before output_after
+CannotReadAll other name output_before output_after = ⊥
 
-abbrev pub TextsStop : Invocation → Stop → (name : List ℕ) → (before after had holds : Option (List ℕ)) → Type 0
-TextsStop invocation stop name before after had holds =
-    CannotReadAll stop name had holds ⊎ ReadsAndStops invocation stop name before after had holds
+abbrev pub TextsStop : Invocation → RunFailure → (name : List ℕ) → (before after output_before output_after : Option (List ℕ)) → Type 0
+TextsStop invocation failure name before after output_before output_after =
+    CannotReadAll failure name output_before output_after ⊎ ReadsAndStops invocation failure name before after output_before output_after
 
 -- ---- for private clauses
 
 -- what was accepted has an output, which was not written whole; or memory is lacking
-abbrev pub AcceptedStops : Invocation → Stop → (name : List ℕ) → Accepted → (had holds : Option (List ℕ)) → Type 0
-AcceptedStops invocation (Output it error) name accepted had holds = (it.now ≡ string_bytes invocation.output)
+abbrev pub AcceptedStops : Invocation → RunFailure → (name : List ℕ) → Accepted → (output_before output_after : Option (List ℕ)) → Type 0
+AcceptedStops invocation (Output it error) name accepted output_before output_after = (it.now ≡ string_bytes invocation.output)
     × ((output : List ℕ) × Outputs invocation.options accepted output × (IsUtf8Accepted accepted → IsUtf8 output))
-AcceptedStops invocation (Text it number OutOfMemory place) name accepted had holds =
-    (it.now ≡ name) × (number ≡ 0) × (string_bytes place ≡ []) × Keeps had holds
-AcceptedStops invocation other name accepted had holds = ⊥
+AcceptedStops invocation (Text it number OutOfMemory place) name accepted output_before output_after =
+    (it.now ≡ name) × (number ≡ 0) × (string_bytes place ≡ []) × Keeps output_before output_after
+AcceptedStops invocation other name accepted output_before output_after = ⊥
 
 -- what was accepted was written
-pub record WritesAccepted (invocation : Invocation) (accepted : Accepted) (had holds : Option (List ℕ)) : Type 0 where
+pub record WritesAccepted (invocation : Invocation) (accepted : Accepted) (output_before output_after : Option (List ℕ)) : Type 0 where
   pub output : List ℕ
   pub outputs : Outputs invocation.options accepted output
   pub utf8 : IsUtf8Accepted accepted → IsUtf8 output
-  pub written : Appends had holds output
+  pub written : Appends output_before output_after output
 
 -- the outputs of all texts were written
-pub record WritesAll (invocation : Invocation) (content : List ℕ) (had holds : Option (List ℕ)) : Type 0 where
+pub record WritesAll (invocation : Invocation) (content : List ℕ) (output_before output_after : Option (List ℕ)) : Type 0 where
   pub output : List ℕ
   pub outputs : AreWritten invocation (texts_in content) output
   pub utf8 : WritesText invocation.task → IsUtf8 output
-  pub written : Appends had holds output
+  pub written : Appends output_before output_after output
 
 -- the output of a text was written
-pub record IsTextDone (invocation : Invocation) (text : List ℕ) (had holds : Option (List ℕ)) : Type 0 where
+pub record IsTextDone (invocation : Invocation) (text : List ℕ) (output_before output_after : Option (List ℕ)) : Type 0 where
   pub output : List ℕ
   pub has : HasOneOutput invocation text output
-  pub written : Appends had holds output
+  pub written : Appends output_before output_after output

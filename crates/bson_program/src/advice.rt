@@ -1,28 +1,28 @@
 //! Which mistake a rejected text makes, and what reads it.
 ghost use Rattle.std.specs.Prelude.{◌≡◌, ◌<◌, ◌⊎◌, IfSome, length, true};
-ghost use Rattle.bson_run.specs.Place.{IsPart};
+ghost use Rattle.bson_run.specs.ErrorMessages.{IsSubslice};
 ghost use Rattle.bson_program.specs.Hints.{IsAdvice, IsAdviceFor, IsAdvisedAt, IsReadUpgraded, IsReadWithLegacy, IsSplit};
 ghost use Rattle.bson_program.specs.Hints.{advice_after, advice_at, advice_under};
 ghost use Rattle.bson_program.specs.Hints.{is_canonical, is_comment, is_name, is_not_finite, is_shell_call, is_shell_value};
-ghost use Rattle.bson_program.specs.Hints.{legacy_advice, legacy_of};
+ghost use Rattle.bson_program.specs.Hints.{legacy_advice, legacy_preprocessing};
 
 use crate::hints::{has_content, split_line, starts_text};
 use crate::invocation::{Input, Invocation};
-use crate::progress::HEAD;
-use crate::run::Stop;
+use crate::progress::FIRST_BYTES;
+use crate::run::RunFailure;
 use crate::texts::{BYTE_ORDER_MARK, reads_several};
-use crate::whole::accept;
+use crate::single_text::accept;
 use bson::extjson::{Doubles, Options};
 use bson_codec::run_end::RunFault;
-use bson_convert::converted::refuse;
+use bson_convert::conversion_attempt::refuse;
 use bson_convert::error::Error;
-use bson_convert::no_bytes::NoBytes;
+use bson_convert::encode_error::NoBytes;
 use bson_json::sequence::split_text;
 use bson_run::lines::Counts;
-use bson_run::order::{Criterion, Preprocessing, Task};
+use bson_run::task::{Criterion, Preprocessing, Task};
 use bson_run::preprocessed::preprocess_text;
 use bson_run::rule::Rule;
-use bson_run::stop;
+use bson_run::syntax_error;
 use bson_scalar::doubles::NUMBER_MESSAGE;
 use bson_tree::place::{Place, Reason};
 use std::alloc::Global;
@@ -60,31 +60,31 @@ pub enum Advice {
 pub fn advice_for(
     alloc: Global,
     invocation: &Invocation,
-    head: &[u8],
+    first_bytes: &[u8],
     has_double: bool,
-    ended: &Result<Counts, Stop<'_>>,
+    ended: &Result<Counts, RunFailure<'_>>,
 ) -> Option<Advice>
-    ensures { IfSome result (λ advice. (advice ≡ Advice.Doubles) ⊎ IsAdvice invocation.now head.now advice) }
+    ensures { IfSome result (λ advice. (advice ≡ Advice.Doubles) ⊎ IsAdvice invocation.now first_bytes.now advice) }
 {
     if has_double || ends_at_double(invocation.options, ended) {
         return Some(Advice::Doubles);
     }
     match ended {
-        Err(Stop::Text(_, _, _, _)) => {
-            first_advice(alloc, invocation, uncut(invocation.input, unmarked(head)))
+        Err(RunFailure::Text(_, _, _, _)) => {
+            first_advice(alloc, invocation, uncut(invocation.input, unmarked(first_bytes)))
         }
         _ => None,
     }
 }
 
 // Whether a run ended at a finite double that is read without `--strict`.
-fn ends_at_double(options: Options, ended: &Result<Counts, Stop<'_>>) -> bool {
+fn ends_at_double(options: Options, ended: &Result<Counts, RunFailure<'_>>) -> bool {
     if options.doubles == Doubles::Finite {
         return false;
     }
     match ended {
-        Err(Stop::Text(_, _, Error::NotExtendedJson(place), _)) => is_double(place),
-        Err(Stop::Document(_, end)) => end.fault == RunFault::FiniteDouble,
+        Err(RunFailure::Text(_, _, Error::NotExtendedJson(place), _)) => is_double(place),
+        Err(RunFailure::Document(_, end)) => end.fault == RunFault::FiniteDouble,
         _ => false,
     }
 }
@@ -98,36 +98,36 @@ fn is_double(place: &Place) -> bool {
 }
 
 // Returns the bytes after a byte order mark.
-fn unmarked(head: &[u8]) -> &[u8]
-    ensures { IsPart result.now head.now }
+fn unmarked(first_bytes: &[u8]) -> &[u8]
+    ensures { IsSubslice result.now first_bytes.now }
 {
-    if head.starts_with(BYTE_ORDER_MARK) {
-        &head[BYTE_ORDER_MARK.len()..]
+    if first_bytes.starts_with(BYTE_ORDER_MARK) {
+        &first_bytes[BYTE_ORDER_MARK.len()..]
     } else {
-        head
+        first_bytes
     }
 }
 
 // Returns the bytes without the last ones, if more may follow: whole lines, or whole characters.
-fn uncut(input: Input, head: &[u8]) -> &[u8]
-    ensures { IsPart result.now head.now }
+fn uncut(input: Input, first_bytes: &[u8]) -> &[u8]
+    ensures { IsSubslice result.now first_bytes.now }
 {
-    if head.len() < HEAD {
-        return head;
+    if first_bytes.len() < FIRST_BYTES {
+        return first_bytes;
     }
-    let last = head.iter().rev();
+    let last = first_bytes.iter().rev();
     let cut = match input {
         Input::Lines => last.take_while(|byte| **byte != b'\n').count(),
         _ => last.take_while(|byte| !byte.is_ascii()).count(),
     };
-    &head[..head.len().saturating_sub(cut)]
+    &first_bytes[..first_bytes.len().saturating_sub(cut)]
 }
 
 // Returns what helps with the first text that is rejected.
-fn first_advice(alloc: Global, invocation: &Invocation, head: &[u8]) -> Option<Advice>
-    ensures { IfSome result (IsAdvice invocation.now head.now) }
+fn first_advice(alloc: Global, invocation: &Invocation, first_bytes: &[u8]) -> Option<Advice>
+    ensures { IfSome result (IsAdvice invocation.now first_bytes.now) }
 {
-    let mut rest = head;
+    let mut rest = first_bytes;
     while !rest.is_empty() {
         let (text, next) = next_text(invocation, rest);
         if has_content(text) {
@@ -170,7 +170,7 @@ fn advice_of(alloc: Global, invocation: &Invocation, fault: &Error, text: &[u8])
 fn advice_at_stop(alloc: Global, invocation: &Invocation, text: &[u8]) -> Option<Advice>
     ensures { IfSome result (IsAdvisedAt invocation.now text.now) }
 {
-    let Ok(stop) = stop::Stop::of(alloc, text) else {
+    let Ok(stop) = syntax_error::SyntaxError::of(alloc, text) else {
         return None;
     };
     if stop.rule == Rule::TrailingData && is_canonical(invocation.task) {
@@ -286,7 +286,7 @@ fn is_name(rest: &[u8]) -> bool
 fn advice_by_trial(alloc: Global, invocation: &Invocation, text: &[u8]) -> Option<Advice>
     ensures { IfSome result (λ advice. (legacy_advice invocation.now.task ≡ advice) × IsReadWithLegacy invocation.now text.now) }
 {
-    let preprocessing = legacy_of(invocation.task)?;
+    let preprocessing = legacy_preprocessing(invocation.task)?;
     if reads_upgraded(alloc, invocation.options, preprocessing, text) {
         Some(legacy_advice(invocation.task))
     } else {
@@ -295,8 +295,8 @@ fn advice_by_trial(alloc: Global, invocation: &Invocation, text: &[u8]) -> Optio
 }
 
 // Returns what `--legacy` does before a text is read, if that is not done already.
-fn legacy_of(task: Task) -> Option<Preprocessing>
-    ensures { result ≡ legacy_of task }
+fn legacy_preprocessing(task: Task) -> Option<Preprocessing>
+    ensures { result ≡ legacy_preprocessing task }
 {
     match task {
         Task::Preprocessed(Preprocessing::Distinct, _) => Some(Preprocessing::DistinctLegacy),

@@ -2,20 +2,20 @@
 ghost use Rattle.std.specs.Prelude.{◌≡◌, ◌⊎◌, None, OnOk, IfOk, IfSome, string_bytes, if◌then◌else◌, vec_len};
 ghost use Rattle.bson_program.specs.Flags.{has_flag};
 ghost use Rattle.bson_program.specs.Invocation.{command_of, input_of, is_text, IsNamed};
-ghost use Rattle.bson_program.specs.Invocation.{IsAnswer, IsWrongRequest, IsInitial, IsValueInWord, IsNumbered, IsStored, IsParsed, Sets, AcceptsWord};
-ghost use Rattle.bson_run.specs.Words.{task_name};
+ghost use Rattle.bson_program.specs.Invocation.{IsRequestOf, IsWrongRequest, IsInitial, IsValueInArg, IsNumbered, IsStored, IsParsed, SetsOption, AcceptsArg};
+ghost use Rattle.bson_run.specs.TaskNames.{task_name};
 
-use crate::choices::{
-    awaited, doubles_of, first_preprocessed, judged, requested_order, requested_preprocessing, set,
+use crate::option_effects::{
+    option_without_value, doubles_of, first_preprocessed, with_criterion, requested_order, requested_preprocessing, set,
 };
-use crate::fits::misfit;
+use crate::allowed_options::find_option_error;
 use crate::invocation::{
-    Command, Flag, Input, Invocation, Misuse, Purpose, Request, STANDARD, Wrong,
+    Command, Flag, Input, Invocation, UsageError, Purpose, Request, STANDARD, Wrong,
 };
-use crate::values::{inputs_of, is_dashed, number, output_in};
+use crate::option_values::{inputs_of, is_dashed, number, output_in};
 use bson::extjson::Options;
 use bson_convert::mode::Mode;
-use bson_run::order::{OnRefusal, Task};
+use bson_run::task::{OnRefusal, Task};
 use std::alloc::{AllocError, Global};
 
 /// The greatest number of spaces.
@@ -26,7 +26,7 @@ const MOST_JOBS: usize = 9999;
 
 /// The meaning of the arguments so far.
 #[derive(Drop)]
-pub struct Given {
+pub struct ArgsSoFar {
     alloc: Global,
     pub task: Option<Task>,
     pub purpose: Purpose,
@@ -61,22 +61,22 @@ pub enum Next {
 
 /// The kind of an argument.
 #[derive(Clone, Copy, PartialEq, Eq)]
-pub enum Parsed {
+pub enum ParsedArg {
     /// One that is accepted.
-    Word,
+    AcceptedArg,
     Help,
     Version,
     /// One that is not accepted here.
-    Wrong(Misuse),
+    Wrong(UsageError),
 }
 
-impl Given {
+impl ArgsSoFar {
     /// Returns the state before the first argument.
-    pub fn new(alloc: Global) -> Given
+    pub fn new(alloc: Global) -> ArgsSoFar
         ensures first { IsInitial result }
         ensures inputs { vec_len result.inputs ≡ 0 }
     {
-        Given {
+        ArgsSoFar {
             alloc,
             task: None,
             purpose: Purpose::Output,
@@ -128,38 +128,38 @@ impl Given {
     }
 
     /// Accepts the next argument, or says why not.
-    pub fn take(&mut self, word: &str) -> Result<Parsed, AllocError>
-        ensures given { AcceptsWord word.now self.old self.new }
-        ensures verb { IfSome self.new.task (λ verb. ((self.old.task ≡ Some verb) × (self.new.purpose ≡ self.old.purpose)) ⊎ IsNamed word.now self.new.purpose verb) }
-        ensures parsed { IfOk result (IsParsed self.old word.now) }
+    pub fn take(&mut self, arg: &str) -> Result<ParsedArg, AllocError>
+        ensures args_so_far { AcceptsArg arg.now self.old self.new }
+        ensures named_task { IfSome self.new.task (λ named_task. ((self.old.task ≡ Some named_task) × (self.new.purpose ≡ self.old.purpose)) ⊎ IsNamed arg.now self.new.purpose named_task) }
+        ensures parsed { IfOk result (IsParsed self.old arg.now) }
     {
         match self.next {
-            Next::Any => self.take_any(word),
+            Next::Any => self.take_any(arg),
             Next::Output => {
                 self.next = Next::Any;
-                self.take_output(word)
+                self.take_output(arg)
             }
             Next::Indent => {
                 self.next = Next::Any;
-                Ok(self.take_indent(word))
+                Ok(self.take_indent(arg))
             }
             Next::Jobs => {
                 self.next = Next::Any;
-                Ok(self.take_jobs(word))
+                Ok(self.take_jobs(arg))
             }
-            Next::Name => self.take_name(word),
+            Next::Name => self.take_name(arg),
         }
     }
 
     // Accepts an argument that is not the value of an option.
-    fn take_any(&mut self, word: &str) -> Result<Parsed, AllocError>
-        ensures given { Sets word.now self.old self.new }
-        ensures verb { IfSome self.new.task (λ verb. ((self.old.task ≡ Some verb) × (self.new.purpose ≡ self.old.purpose)) ⊎ IsNamed word.now self.new.purpose verb) }
-        ensures parsed { IfOk result (IsParsed self.old word.now) }
+    fn take_any(&mut self, arg: &str) -> Result<ParsedArg, AllocError>
+        ensures args_so_far { SetsOption arg.now self.old self.new }
+        ensures named_task { IfSome self.new.task (λ named_task. ((self.old.task ≡ Some named_task) × (self.new.purpose ≡ self.old.purpose)) ⊎ IsNamed arg.now self.new.purpose named_task) }
+        ensures parsed { IfOk result (IsParsed self.old arg.now) }
     {
-        match word {
-            "--help" | "-h" => Ok(Parsed::Help),
-            "--version" | "-v" => Ok(Parsed::Version),
+        match arg {
+            "--help" | "-h" => Ok(ParsedArg::Help),
+            "--version" | "-v" => Ok(ParsedArg::Version),
             "--" => self.expect(Next::Name),
             "-o" | "--output" => self.expect(Next::Output),
             "--indent" => self.expect(Next::Indent),
@@ -171,179 +171,179 @@ impl Given {
             "--legacy" => Ok(set(&mut self.is_legacy, Flag::Legacy)),
             "--canonical" => Ok(set(&mut self.is_canonical, Flag::Canonical)),
             "--unordered" => Ok(set(&mut self.is_unordered, Flag::Unordered)),
-            "--doubles" | "--keep-order" => Ok(Parsed::Wrong(Misuse::Former)),
-            "help" => self.take_help(word),
-            STANDARD | "lines" | "decode" | "encode" | "hash" | "same" => self.take_name(word),
+            "--doubles" | "--keep-order" => Ok(ParsedArg::Wrong(UsageError::RemovedOption)),
+            "help" => self.take_help(arg),
+            STANDARD | "lines" | "decode" | "encode" | "hash" | "same" => self.take_name(arg),
             _ => {
-                if is_dashed(word) {
-                    self.take_joined(word)
+                if is_dashed(arg) {
+                    self.take_joined(arg)
                 } else {
-                    self.take_name(word)
+                    self.take_name(arg)
                 }
             }
         }
     }
 
     // Accepts `help`, which is a file after a mode.
-    fn take_help(&mut self, word: &str) -> Result<Parsed, AllocError>
-        ensures given { self.new ≡ record self.old { inputs = self.new.inputs } }
-        ensures parsed { IfOk result (λ parsed. (parsed ≡ Parsed.Word) ⊎ ((parsed ≡ Parsed.Help) × (self.old.task ≡ None))) }
+    fn take_help(&mut self, arg: &str) -> Result<ParsedArg, AllocError>
+        ensures args_so_far { self.new ≡ record self.old { inputs = self.new.inputs } }
+        ensures parsed { IfOk result (λ parsed. (parsed ≡ ParsedArg.AcceptedArg) ⊎ ((parsed ≡ ParsedArg.Help) × (self.old.task ≡ None))) }
     {
         if self.task.is_none() {
-            return Ok(Parsed::Help);
+            return Ok(ParsedArg::Help);
         }
-        self.inputs.push(String::from_str(self.alloc, word)?)?;
-        Ok(Parsed::Word)
+        self.inputs.push(String::from_str(self.alloc, arg)?)?;
+        Ok(ParsedArg::AcceptedArg)
     }
 
     // Accepts an option with its value in the same argument.
-    fn take_joined(&mut self, word: &str) -> Result<Parsed, AllocError>
-        ensures given { self.new ≡ record self.old { indent = self.new.indent; jobs = self.new.jobs; output = self.new.output } }
-        ensures parsed { IfOk result (IsValueInWord self.old word.now) }
+    fn take_joined(&mut self, arg: &str) -> Result<ParsedArg, AllocError>
+        ensures args_so_far { self.new ≡ record self.old { indent = self.new.indent; jobs = self.new.jobs; output = self.new.output } }
+        ensures parsed { IfOk result (IsValueInArg self.old arg.now) }
     {
-        if let Some(count) = word.strip_prefix("--indent=") {
+        if let Some(count) = arg.strip_prefix("--indent=") {
             return Ok(self.take_indent(count));
         }
-        if let Some(count) = word.strip_prefix("--jobs=") {
+        if let Some(count) = arg.strip_prefix("--jobs=") {
             return Ok(self.take_jobs(count));
         }
-        match output_in(word) {
+        match output_in(arg) {
             Some(name) => self.take_output(name),
-            None => Ok(Parsed::Wrong(Misuse::UnknownOption)),
+            None => Ok(ParsedArg::Wrong(UsageError::UnknownOption)),
         }
     }
 
     // Accepts a number of spaces.
-    fn take_indent(&mut self, word: &str) -> Parsed
-        ensures given { self.new ≡ record self.old { indent = self.new.indent } }
-        ensures parsed { IsNumbered Flag.Indent 16 self.old word.now result }
+    fn take_indent(&mut self, arg: &str) -> ParsedArg
+        ensures args_so_far { self.new ≡ record self.old { indent = self.new.indent } }
+        ensures parsed { IsNumbered Flag.Indent 16 self.old arg.now result }
     {
         if self.indent.is_some() {
-            return Parsed::Wrong(Misuse::Twice(Flag::Indent));
+            return ParsedArg::Wrong(UsageError::Twice(Flag::Indent));
         }
-        self.indent = number(word, MOST_SPACES);
+        self.indent = number(arg, MOST_SPACES);
         if self.indent.is_some() {
-            Parsed::Word
+            ParsedArg::AcceptedArg
         } else {
-            Parsed::Wrong(Misuse::NoValue(Flag::Indent))
+            ParsedArg::Wrong(UsageError::NoValue(Flag::Indent))
         }
     }
 
     // Accepts a number of jobs.
-    fn take_jobs(&mut self, word: &str) -> Parsed
-        ensures given { self.new ≡ record self.old { jobs = self.new.jobs } }
-        ensures parsed { IsNumbered Flag.Jobs 9999 self.old word.now result }
+    fn take_jobs(&mut self, arg: &str) -> ParsedArg
+        ensures args_so_far { self.new ≡ record self.old { jobs = self.new.jobs } }
+        ensures parsed { IsNumbered Flag.Jobs 9999 self.old arg.now result }
     {
         if self.jobs.is_some() {
-            return Parsed::Wrong(Misuse::Twice(Flag::Jobs));
+            return ParsedArg::Wrong(UsageError::Twice(Flag::Jobs));
         }
-        self.jobs = number(word, MOST_JOBS);
+        self.jobs = number(arg, MOST_JOBS);
         if self.jobs.is_some() {
-            Parsed::Word
+            ParsedArg::AcceptedArg
         } else {
-            Parsed::Wrong(Misuse::NoValue(Flag::Jobs))
+            ParsedArg::Wrong(UsageError::NoValue(Flag::Jobs))
         }
     }
 
     // Waits for the value of an option.
-    fn expect(&mut self, next: Next) -> Result<Parsed, AllocError>
-        ensures given { self.new ≡ record self.old { next = next } }
-        ensures word { result ≡ Ok Parsed.Word }
+    fn expect(&mut self, next: Next) -> Result<ParsedArg, AllocError>
+        ensures args_so_far { self.new ≡ record self.old { next = next } }
+        ensures arg { result ≡ Ok ParsedArg.AcceptedArg }
     {
         self.next = next;
-        Ok(Parsed::Word)
+        Ok(ParsedArg::AcceptedArg)
     }
 
-    fn take_output(&mut self, name: &str) -> Result<Parsed, AllocError>
-        ensures given { self.new ≡ record self.old { output = self.new.output } }
+    fn take_output(&mut self, name: &str) -> Result<ParsedArg, AllocError>
+        ensures args_so_far { self.new ≡ record self.old { output = self.new.output } }
         ensures output { OnOk result (IfSome self.new.output
             (λ file. (self.old.output ≡ Some file) ⊎ (string_bytes file ≡ name.now))) }
         ensures parsed { IfOk result (IsStored self.old) }
     {
         if self.output.is_some() {
-            return Ok(Parsed::Wrong(Misuse::Twice(Flag::Output)));
+            return Ok(ParsedArg::Wrong(UsageError::Twice(Flag::Output)));
         }
         self.output = Some(String::from_str(self.alloc, name)?);
-        Ok(Parsed::Word)
+        Ok(ParsedArg::AcceptedArg)
     }
 
     // Accepts a command or a mode, and after them files.
-    fn take_name(&mut self, word: &str) -> Result<Parsed, AllocError>
-        ensures given { self.new ≡ record self.old { task = self.new.task; purpose = self.new.purpose; input = input_of word.now self.old; inputs = self.new.inputs } }
-        ensures verb { IfSome self.new.task (λ verb. ((self.old.task ≡ Some verb) × (self.new.purpose ≡ self.old.purpose)) ⊎ IsNamed word.now self.new.purpose verb) }
-        ensures parsed { IfOk result (IsParsed self.old word.now) }
+    fn take_name(&mut self, arg: &str) -> Result<ParsedArg, AllocError>
+        ensures args_so_far { self.new ≡ record self.old { task = self.new.task; purpose = self.new.purpose; input = input_of arg.now self.old; inputs = self.new.inputs } }
+        ensures named_task { IfSome self.new.task (λ named_task. ((self.old.task ≡ Some named_task) × (self.new.purpose ≡ self.old.purpose)) ⊎ IsNamed arg.now self.new.purpose named_task) }
+        ensures parsed { IfOk result (IsParsed self.old arg.now) }
     {
         if self.task.is_some() {
-            self.inputs.push(String::from_str(self.alloc, word)?)?;
-            return Ok(Parsed::Word);
+            self.inputs.push(String::from_str(self.alloc, arg)?)?;
+            return Ok(ParsedArg::AcceptedArg);
         }
-        match word {
+        match arg {
             "lines" => Ok(self.take_command(Input::Lines, None)),
             "decode" => Ok(self.take_command(Input::Documents, None)),
             "encode" => Ok(self.take_command(Input::Lines, Some(Task::Encode))),
             "hash" => Ok(self.take_purpose(Purpose::Digests)),
             "same" => Ok(self.take_purpose(Purpose::Comparison)),
-            _ => Ok(self.take_mode(word)),
+            _ => Ok(self.take_mode(arg)),
         }
     }
 
     // Accepts the name of a command, which comes first.
-    fn take_command(&mut self, input: Input, task: Option<Task>) -> Parsed
-        ensures given { self.new ≡ record self.old { input = input; purpose = Purpose.Output; task = task } }
-        ensures parsed { result ≡ (if is_text self.old.input then Parsed.Word else Parsed.Wrong Misuse.UnknownMode) }
+    fn take_command(&mut self, input: Input, task: Option<Task>) -> ParsedArg
+        ensures args_so_far { self.new ≡ record self.old { input = input; purpose = Purpose.Output; task = task } }
+        ensures parsed { result ≡ (if is_text self.old.input then ParsedArg.AcceptedArg else ParsedArg.Wrong UsageError.UnknownMode) }
     {
         let is_first = self.input == Input::Text;
         self.input = input;
         self.purpose = Purpose::Output;
         self.task = task;
         if is_first {
-            Parsed::Word
+            ParsedArg::AcceptedArg
         } else {
-            Parsed::Wrong(Misuse::UnknownMode)
+            ParsedArg::Wrong(UsageError::UnknownMode)
         }
     }
 
     // Accepts a mode in which the sorted canonical text of each value is read.
-    fn take_purpose(&mut self, purpose: Purpose) -> Parsed
-        ensures given { self.new ≡ record self.old { task = Some (Task.Write Mode.Canonical); purpose = purpose } }
-        ensures parsed { result ≡ Parsed.Word }
+    fn take_purpose(&mut self, purpose: Purpose) -> ParsedArg
+        ensures args_so_far { self.new ≡ record self.old { task = Some (Task.Write Mode.Canonical); purpose = purpose } }
+        ensures parsed { result ≡ ParsedArg.AcceptedArg }
     {
         self.purpose = purpose;
         self.task = Some(Task::Write(Mode::Canonical));
-        Parsed::Word
+        ParsedArg::AcceptedArg
     }
 
     // Accepts a mode.
-    fn take_mode(&mut self, word: &str) -> Parsed
-        ensures given { self.new ≡ record self.old { task = self.new.task; purpose = Purpose.Output } }
-        ensures verb { IfSome self.new.task (λ verb. word.now ≡ task_name verb) }
-        ensures parsed { (result ≡ Parsed.Word) ⊎ ((result ≡ Parsed.Wrong Misuse.UnknownMode) × ((task : Task) → word.now ≡ task_name task → ⊥)) }
+    fn take_mode(&mut self, arg: &str) -> ParsedArg
+        ensures args_so_far { self.new ≡ record self.old { task = self.new.task; purpose = Purpose.Output } }
+        ensures named_task { IfSome self.new.task (λ named_task. arg.now ≡ task_name named_task) }
+        ensures parsed { (result ≡ ParsedArg.AcceptedArg) ⊎ ((result ≡ ParsedArg.Wrong UsageError.UnknownMode) × ((task : Task) → arg.now ≡ task_name task → ⊥)) }
     {
         self.purpose = Purpose::Output;
-        self.task = Task::from_name(word);
+        self.task = Task::from_name(arg);
         if self.task.is_some() {
-            Parsed::Word
+            ParsedArg::AcceptedArg
         } else {
-            Parsed::Wrong(Misuse::UnknownMode)
+            ParsedArg::Wrong(UsageError::UnknownMode)
         }
     }
 
     /// Returns what all arguments request.
     pub fn answer(self) -> Result<Request, AllocError>
-        ensures { IfOk result (IsAnswer self) }
+        ensures { IfOk result (IsRequestOf self) }
     {
         let command = self.command();
-        if let Some(flag) = awaited(self.next) {
-            return Ok(wrong(self.alloc, Misuse::NoValue(flag), command));
+        if let Some(flag) = option_without_value(self.next) {
+            return Ok(wrong(self.alloc, UsageError::NoValue(flag), command));
         }
-        let Some(verb) = self.task else {
-            return Ok(wrong(self.alloc, Misuse::NoMode, command));
+        let Some(named_task) = self.task else {
+            return Ok(wrong(self.alloc, UsageError::NoMode, command));
         };
-        let task = judged(self.is_canonical, verb);
-        if let Some(misuse) = misfit(&self, task) {
-            return Ok(wrong(self.alloc, misuse, command));
+        let task = with_criterion(self.is_canonical, named_task);
+        if let Some(usage_error) = find_option_error(&self, task) {
+            return Ok(wrong(self.alloc, usage_error, command));
         }
-        let Given {
+        let ArgsSoFar {
             alloc,
             keeps_going,
             purpose,
@@ -387,12 +387,12 @@ impl Given {
 }
 
 // Returns what is wrong with all arguments.
-fn wrong(alloc: Global, misuse: Misuse, command: Command) -> Request
-    ensures { IsWrongRequest misuse command result }
+fn wrong(alloc: Global, usage_error: UsageError, command: Command) -> Request
+    ensures { IsWrongRequest usage_error command result }
 {
     Request::Wrong(Wrong {
-        misuse,
+        usage_error,
         command,
-        word: String::new(alloc),
+        arg: String::new(alloc),
     })
 }

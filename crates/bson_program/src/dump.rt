@@ -5,11 +5,11 @@ ghost use Rattle.std.specs.Io.KnownBytes.{Appends};
 ghost use Rattle.bson_codec.specs.DumpRuns.{EndsAt, IsFaultOfDocument};
 ghost use Rattle.bson_codec.specs.Diagnostics.{diagnostic_of};
 ghost use Rattle.bson_program.specs.Dump.{IsDoneDump};
-ghost use Rattle.bson_program.specs.Stops.{document_line};
+ghost use Rattle.bson_program.specs.RunFailures.{document_line};
 
 use crate::invocation::Invocation;
-use crate::progress::{Counted, Verdicts};
-use crate::run::{Stop, write_stop};
+use crate::progress::{CountingReader, DiagnosticsWriter};
+use crate::run::{RunFailure, write_stop};
 use crate::streams::{Sink, Source};
 use bson::extjson::Form;
 use bson_codec::de::DEPTH;
@@ -17,7 +17,7 @@ use bson_codec::documents::{DocumentCounts, Line, Run, run_documents};
 use bson_codec::run_end::{RunEnd, RunFault};
 use bson_convert::mode::Mode;
 use bson_run::lines::Counts;
-use bson_run::order::{OnRefusal, Task};
+use bson_run::task::{OnRefusal, Task};
 use std::alloc::Global;
 use std::io::{BufReader, BufWriter, Read, Write};
 use std::rt::Stderr;
@@ -31,19 +31,19 @@ pub fn run_dump<'a>(
     rt: &HostRuntime,
     invocation: &'a Invocation,
     name: &'a str,
-    reader: &mut Counted<'_, Source>,
+    reader: &mut CountingReader<'_, Source>,
     sink: &mut Sink,
-    report: &mut Verdicts<'_, Stderr>,
-) -> Result<Counts, Stop<'a>> {
+    report: &mut DiagnosticsWriter<'_, Stderr>,
+) -> Result<Counts, RunFailure<'a>> {
     match in_blocks(rt.alloc(), run_of(invocation), reader, sink, report) {
         Ok(counts) => Ok(Counts {
             lines: counts.documents,
             refused: counts.refused,
         }),
         Err(end) => Err(match end.fault {
-            RunFault::CannotRead => Stop::Input(name, reader.error),
+            RunFault::CannotRead => RunFailure::Input(name, reader.error),
             RunFault::CannotWrite => write_stop(invocation, sink, report),
-            _ => Stop::Document(name, end),
+            _ => RunFailure::Document(name, end),
         }),
     }
 }
@@ -149,10 +149,10 @@ fn report_end<T: Write>(
         RunFault::Malformed { .. } | RunFault::FiniteDouble => {}
         RunFault::CannotRead | RunFault::CannotWrite | RunFault::OutOfMemory => return Err(end),
     }
-    let (Some(refused), Ok(verdict)) = (end.refused.checked_add(1), end.to_line(alloc)) else {
+    let (Some(refused), Ok(diagnostic)) = (end.refused.checked_add(1), end.to_line(alloc)) else {
         return Err(end_at_start(RunFault::OutOfMemory));
     };
-    match report.write_all(verdict.as_bytes()) {
+    match report.write_all(diagnostic.as_bytes()) {
         Ok(()) => Ok(DocumentCounts {
             documents: end.number,
             refused,

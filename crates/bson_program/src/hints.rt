@@ -1,10 +1,10 @@
 //! The actual format of a rejected input, by its first bytes.
 ghost use Rattle.std.specs.Prelude.{◌≡◌, not, reverse};
 ghost use Rattle.std.specs.List.{find};
-ghost use Rattle.bson_program.specs.Hints.{advised, after_line, compression_of, hint_of_encoding, ends_in_zero, first_line};
+ghost use Rattle.bson_program.specs.Hints.{advice_hint, after_line, compression_of, hint_of_encoding, ends_in_zero, first_line};
 ghost use Rattle.bson_program.specs.Hints.{hint_of, hint_of_dump, hint_of_lines, hint_of_texts, is_blank, is_dump};
-ghost use Rattle.bson_program.specs.Hints.{has_content, is_high_first, is_length, is_low_first};
-ghost use Rattle.bson_program.specs.Hints.{is_opening, little, opens_over_lines, starts_text};
+ghost use Rattle.bson_program.specs.Hints.{has_content, is_utf16_big_endian, is_document_length, is_utf16_little_endian};
+ghost use Rattle.bson_program.specs.Hints.{is_opening, little_endian, opens_over_lines, starts_text};
 
 use crate::advice::Advice;
 use crate::invocation::Input;
@@ -60,42 +60,42 @@ pub struct Rejected {
 }
 
 /// Returns what helps with an input that was rejected, whose first bytes these are.
-pub fn hint_for(rejected: Rejected, head: &[u8]) -> Option<Hint>
-    ensures { result ≡ hint_of rejected head.now }
+pub fn hint_for(rejected: Rejected, first_bytes: &[u8]) -> Option<Hint>
+    ensures { result ≡ hint_of rejected first_bytes.now }
 {
-    if let Some(hint) = compression_of(head) {
+    if let Some(hint) = compression_of(first_bytes) {
         return Some(hint);
     }
     match rejected.input {
-        Input::Text => match encoding_of(head) {
+        Input::Text => match encoding_of(first_bytes) {
             Some(hint) => Some(hint),
-            None => hint_for_texts(rejected, head),
+            None => hint_for_texts(rejected, first_bytes),
         },
-        Input::Lines => match encoding_of(head) {
+        Input::Lines => match encoding_of(first_bytes) {
             Some(hint) => Some(hint),
-            None => hint_for_lines(rejected, head),
+            None => hint_for_lines(rejected, first_bytes),
         },
-        Input::Documents => hint_for_dump(rejected, head),
+        Input::Documents => hint_for_dump(rejected, first_bytes),
     }
 }
 
 // Returns the hint if texts are expected.
-fn hint_for_texts(rejected: Rejected, head: &[u8]) -> Option<Hint>
-    ensures { result ≡ hint_of_texts rejected head.now }
+fn hint_for_texts(rejected: Rejected, first_bytes: &[u8]) -> Option<Hint>
+    ensures { result ≡ hint_of_texts rejected first_bytes.now }
 {
-    if rejected.is_standard && head.starts_with(b"\xef\xbb\xbf") {
+    if rejected.is_standard && first_bytes.starts_with(b"\xef\xbb\xbf") {
         return Some(Hint::Mark);
     }
-    advised(rejected.advice)
+    advice_hint(rejected.advice)
 }
 
 // Returns the hint if a text per line is expected.
-fn hint_for_lines(rejected: Rejected, head: &[u8]) -> Option<Hint>
-    ensures { result ≡ hint_of_lines rejected head.now }
+fn hint_for_lines(rejected: Rejected, first_bytes: &[u8]) -> Option<Hint>
+    ensures { result ≡ hint_of_lines rejected first_bytes.now }
 {
-    let (line, rest) = split_line(head);
+    let (line, rest) = split_line(first_bytes);
     if !opens(line) || !has_content(rest) {
-        return advised(rejected.advice);
+        return advice_hint(rejected.advice);
     }
     if rejected.encodes {
         Some(Hint::LongTextsToEncode)
@@ -105,17 +105,17 @@ fn hint_for_lines(rejected: Rejected, head: &[u8]) -> Option<Hint>
 }
 
 // Returns the hint if documents of BSON are expected.
-fn hint_for_dump(rejected: Rejected, head: &[u8]) -> Option<Hint>
-    ensures { result ≡ hint_of_dump rejected head.now }
+fn hint_for_dump(rejected: Rejected, first_bytes: &[u8]) -> Option<Hint>
+    ensures { result ≡ hint_of_dump rejected first_bytes.now }
 {
-    if starts_text(head) && !is_dump(head) {
+    if starts_text(first_bytes) && !is_dump(first_bytes) {
         return Some(Hint::Text);
     }
-    advised(rejected.advice)
+    advice_hint(rejected.advice)
 }
 
-fn advised(advice: Option<Advice>) -> Option<Hint>
-    ensures { result ≡ advised advice }
+fn advice_hint(advice: Option<Advice>) -> Option<Hint>
+    ensures { result ≡ advice_hint advice }
 {
     match advice {
         Some(advice) => Some(Hint::Advised(advice)),
@@ -124,90 +124,90 @@ fn advised(advice: Option<Advice>) -> Option<Hint>
 }
 
 // The program that packed the bytes, by the bytes with which its files begin.
-fn compression_of(head: &[u8]) -> Option<Hint>
-    ensures { result ≡ compression_of head.now }
+fn compression_of(first_bytes: &[u8]) -> Option<Hint>
+    ensures { result ≡ compression_of first_bytes.now }
 {
-    if head.starts_with(b"\x1f\x8b") {
+    if first_bytes.starts_with(b"\x1f\x8b") {
         return Some(Hint::Gzip);
     }
-    if head.starts_with(b"\x28\xb5\x2f\xfd") {
+    if first_bytes.starts_with(b"\x28\xb5\x2f\xfd") {
         return Some(Hint::Zstd);
     }
-    if head.starts_with(b"BZh") {
+    if first_bytes.starts_with(b"BZh") {
         return Some(Hint::Bzip2);
     }
-    if head.starts_with(b"\xfd7zX") {
+    if first_bytes.starts_with(b"\xfd7zX") {
         return Some(Hint::Xz);
     }
-    if head.starts_with(b"\x6d\xe2\x99\x81") {
+    if first_bytes.starts_with(b"\x6d\xe2\x99\x81") {
         return Some(Hint::Archive);
     }
     None
 }
 
 // How a text is encoded that is no UTF-8, or that it is no text.
-fn encoding_of(head: &[u8]) -> Option<Hint>
-    ensures { result ≡ hint_of_encoding head.now }
+fn encoding_of(first_bytes: &[u8]) -> Option<Hint>
+    ensures { result ≡ hint_of_encoding first_bytes.now }
 {
-    if head.starts_with(b"\xff\xfe") || head.starts_with(b"\xfe\xff") {
+    if first_bytes.starts_with(b"\xff\xfe") || first_bytes.starts_with(b"\xfe\xff") {
         return Some(Hint::Utf16);
     }
-    if is_low_first(head) {
+    if is_utf16_little_endian(first_bytes) {
         return Some(Hint::Utf16LittleEndian);
     }
-    if is_high_first(head) {
+    if is_utf16_big_endian(first_bytes) {
         return Some(Hint::Utf16BigEndian);
     }
-    if is_dump(head) {
+    if is_dump(first_bytes) {
         return Some(Hint::Dump);
     }
     None
 }
 
 // Whether a text begins there in UTF-16, the lower byte of each unit first.
-fn is_low_first(head: &[u8]) -> bool
-    ensures { result ≡ is_low_first head.now }
+fn is_utf16_little_endian(first_bytes: &[u8]) -> bool
+    ensures { result ≡ is_utf16_little_endian first_bytes.now }
 {
-    if head.len() < 4 {
+    if first_bytes.len() < 4 {
         return false;
     }
-    let is_text = is_opening(head[0]) && head[2] != 0;
-    is_text && head[1] == 0 && head[3] == 0 && (head.len() < 6 || head[5] == 0)
+    let is_text = is_opening(first_bytes[0]) && first_bytes[2] != 0;
+    is_text && first_bytes[1] == 0 && first_bytes[3] == 0 && (first_bytes.len() < 6 || first_bytes[5] == 0)
 }
 
 // The same with the higher byte first.
-fn is_high_first(head: &[u8]) -> bool
-    ensures { result ≡ is_high_first head.now }
+fn is_utf16_big_endian(first_bytes: &[u8]) -> bool
+    ensures { result ≡ is_utf16_big_endian first_bytes.now }
 {
-    if head.len() < 4 {
+    if first_bytes.len() < 4 {
         return false;
     }
-    head[0] == 0 && is_opening(head[1]) && head[2] == 0 && head[3] != 0
+    first_bytes[0] == 0 && is_opening(first_bytes[1]) && first_bytes[2] == 0 && first_bytes[3] != 0
 }
 
 // Whether a document of BSON begins there: its length, and the type of its first element; where all
 // of it is there, also the 0 byte that ends it.
-fn is_dump(head: &[u8]) -> bool
-    ensures { result ≡ is_dump head.now }
+fn is_dump(first_bytes: &[u8]) -> bool
+    ensures { result ≡ is_dump first_bytes.now }
 {
-    if head.len() < 5 {
+    if first_bytes.len() < 5 {
         return false;
     }
-    let length = little(head[0], head[1], head[2], head[3]);
-    is_length(length, head[4]) && ends_in_zero(length, head)
+    let length = little_endian(first_bytes[0], first_bytes[1], first_bytes[2], first_bytes[3]);
+    is_document_length(length, first_bytes[4]) && ends_in_zero(length, first_bytes)
 }
 
 // The number of these bytes, the lowest first.
-fn little(a: u8, b: u8, c: u8, d: u8) -> usize
-    ensures { result ≡ little a b c d }
+fn little_endian(a: u8, b: u8, c: u8, d: u8) -> usize
+    ensures { result ≡ little_endian a b c d }
 {
     let high = usize::from(c) + 256 * usize::from(d);
     usize::from(a) + 256 * (usize::from(b) + 256 * high)
 }
 
 // Whether a document of this length may begin with an element of this type.
-fn is_length(length: usize, kind: u8) -> bool
-    ensures { result ≡ is_length length kind }
+fn is_document_length(length: usize, kind: u8) -> bool
+    ensures { result ≡ is_document_length length kind }
 {
     if kind == 0 {
         return length == 5;
@@ -216,20 +216,20 @@ fn is_length(length: usize, kind: u8) -> bool
 }
 
 // Whether the last of so many bytes is 0, or not there.
-fn ends_in_zero(length: usize, head: &[u8]) -> bool
-    ensures { result ≡ ends_in_zero length head.now }
+fn ends_in_zero(length: usize, first_bytes: &[u8]) -> bool
+    ensures { result ≡ ends_in_zero length first_bytes.now }
 {
-    if length == 0 || head.len() < length {
+    if length == 0 || first_bytes.len() < length {
         return true;
     }
-    head[length - 1] == 0
+    first_bytes[length - 1] == 0
 }
 
 /// Whether the first byte that is not blank opens an array or an object.
-pub fn starts_text(head: &[u8]) -> bool
-    ensures { result ≡ starts_text head.now }
+pub fn starts_text(first_bytes: &[u8]) -> bool
+    ensures { result ≡ starts_text first_bytes.now }
 {
-    match first_content(head) {
+    match first_content(first_bytes) {
         Some(byte) => is_opening(byte),
         None => false,
     }
@@ -279,9 +279,9 @@ fn is_blank(byte: u8) -> bool
 }
 
 /// The first line, with its newline, and the bytes after it.
-pub fn split_line(head: &[u8]) -> (&[u8], &[u8])
-    ensures line { result.0.now ≡ first_line head.now }
-    ensures rest { result.1.now ≡ after_line head.now }
+pub fn split_line(first_bytes: &[u8]) -> (&[u8], &[u8])
+    ensures line { result.0.now ≡ first_line first_bytes.now }
+    ensures rest { result.1.now ≡ after_line first_bytes.now }
 {
-    head.split_at(line_len(head))
+    first_bytes.split_at(line_len(first_bytes))
 }

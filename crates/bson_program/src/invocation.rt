@@ -1,12 +1,12 @@
 //! What the arguments request.
 ghost use Rattle.std.specs.Prelude.{◌≡◌, ◌⊎◌, ◌↔◌, IfOk, IsTrue, map, string_bytes};
 ghost use Rattle.bson_program.specs.Invocation.{IsRequestedBy};
-ghost use Rattle.bson_run.specs.declared.order.Criterion.{Criterion};
-ghost use Rattle.bson_run.specs.declared.order.Preprocessing.{Preprocessing};
+ghost use Rattle.bson_run.specs.declared.task.Criterion.{Criterion};
+ghost use Rattle.bson_run.specs.declared.task.Preprocessing.{Preprocessing};
 
-use crate::arguments::{Given, Parsed};
+use crate::arguments::{ArgsSoFar, ParsedArg};
 use bson::extjson::Options;
-use bson_run::order::{OnRefusal, Task, Work};
+use bson_run::task::{OnRefusal, Task, InnerTask};
 use std::alloc::{AllocError, Global};
 
 /// The name of standard input among the files that are read, and of standard output.
@@ -44,28 +44,28 @@ pub enum Command {
 #[derive(Drop)]
 pub struct Wrong {
     /// The kind of the error.
-    pub misuse: Misuse,
+    pub usage_error: UsageError,
     /// The command that the arguments before name.
     pub command: Command,
     /// The argument that is wrong, if it is one.
-    pub word: String,
+    pub arg: String,
 }
 
 /// The kinds of errors of arguments.
 #[derive(Clone, Copy, PartialEq, Eq)]
-pub enum Misuse {
+pub enum UsageError {
     /// An argument is an option that no command has.
     UnknownOption,
     /// An argument is expected to be a command or a mode, and is not.
     UnknownMode,
     /// An argument is an option of an earlier version, which is the default now.
-    Former,
+    RemovedOption,
     /// An option occurs twice.
     Twice(Flag),
     /// An option has no value, or not one that it can have.
     NoValue(Flag),
     /// The mode does not have an option.
-    Unfit(Flag, Purpose, Task),
+    UnsupportedOption(Flag, Purpose, Task),
     /// No mode is specified.
     NoMode,
     /// A comparison needs two files.
@@ -159,37 +159,37 @@ impl Invocation {
         ensures { IsTrue result
             ↔ ((self.now.purpose ≡ Purpose.Comparison)
             ⊎ ((criterion : Criterion) × (self.now.task ≡ Task.Check criterion))
-            ⊎ ((preprocessing : Preprocessing) × (self.now.task ≡ Task.Preprocessed preprocessing Work.Check))) }
+            ⊎ ((preprocessing : Preprocessing) × (self.now.task ≡ Task.Preprocessed preprocessing InnerTask.Check))) }
     {
         self.purpose == Purpose::Comparison
             || matches!(
                 self.task,
-                Task::Check(_) | Task::Preprocessed(_, Work::Check)
+                Task::Check(_) | Task::Preprocessed(_, InnerTask::Check)
             )
     }
 }
 
 /// Returns what the arguments after the program's name request: a command, a mode, then names of files,
 /// with options anywhere before an argument `--`, each once at most.
-pub fn parse_arguments(alloc: Global, words: Vec<String>) -> Result<Request, AllocError>
-    ensures { IfOk result (λ requested. IsRequestedBy (map string_bytes words.items) requested) }
+pub fn parse_arguments(alloc: Global, args: Vec<String>) -> Result<Request, AllocError>
+    ensures { IfOk result (λ requested. IsRequestedBy (map string_bytes args.items) requested) }
 {
-    let mut given = Given::new(alloc);
-    for word in words.iter() {
-        let command = given.command();
-        match given.take(word.as_str())? {
-            Parsed::Word => {}
-            Parsed::Help => return Ok(Request::Help(command)),
-            Parsed::Version => return Ok(Request::Version),
-            Parsed::Wrong(misuse) => {
-                let word = String::from_str(alloc, word.as_str())?;
+    let mut args_so_far = ArgsSoFar::new(alloc);
+    for arg in args.iter() {
+        let command = args_so_far.command();
+        match args_so_far.take(arg.as_str())? {
+            ParsedArg::AcceptedArg => {}
+            ParsedArg::Help => return Ok(Request::Help(command)),
+            ParsedArg::Version => return Ok(Request::Version),
+            ParsedArg::Wrong(usage_error) => {
+                let arg = String::from_str(alloc, arg.as_str())?;
                 return Ok(Request::Wrong(Wrong {
-                    misuse,
+                    usage_error,
                     command,
-                    word,
+                    arg,
                 }));
             }
         }
     }
-    given.answer()
+    args_so_far.answer()
 }

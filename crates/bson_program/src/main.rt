@@ -1,43 +1,43 @@
 //! The program that `./bson` runs: it converts one document, the lines of files, or dumps, and writes
 //! dumps, as the arguments of its user request.
 //!
-//! The library `bson_run` converts. This crate has the arguments (`invocation`, `arguments`, `values`,
-//! `choices`, `fits`), the files (`run`, `streams`, `output`; `texts` for JSON texts with `whole` for
-//! each, `dump` for BSON documents), digests of lines (`digests`), comparisons (`compared`, `same`),
-//! the line of progress (`progress`), the lines on standard error (`messages`, `misuse`, `hints`,
-//! `advice`, `rejected`), the help (`words`) and the statuses.
+//! The library `bson_run` converts. This crate has the arguments (`invocation`, `arguments`, `option_values`,
+//! `option_effects`, `allowed_options`), the files (`run`, `streams`, `output`; `texts` for JSON texts with `single_text` for
+//! each, `dump` for BSON documents), digests of lines (`digests`), comparisons (`compare_files`, `compare_outputs`),
+//! the line of progress (`progress`), the lines on standard error (`messages`, `usage_error`, `hints`,
+//! `advice`, `rejection_hint`), the help (`help_text`) and the statuses.
 #![tactic(auto)]
 
 mod advice;
 mod arguments;
-mod choices;
-mod compared;
+mod option_effects;
+mod compare_files;
 mod digests;
 mod dump;
-mod fits;
+mod allowed_options;
 mod hints;
 mod invocation;
 mod messages;
-mod misuse;
+mod usage_error;
 mod output;
 mod progress;
-mod rejected;
+mod rejection_hint;
 mod run;
-mod same;
+mod compare_outputs;
 mod streams;
 mod texts;
-mod values;
-mod whole;
-mod words;
+mod option_values;
+mod single_text;
+mod help_text;
 
-use crate::compared::{compare_files, line_for};
+use crate::compare_files::{compare_files, line_for};
 use crate::invocation::{
-    Command, Invocation, Misuse, Purpose, Request, STANDARD, Wrong, parse_arguments,
+    Command, Invocation, UsageError, Purpose, Request, STANDARD, Wrong, parse_arguments,
 };
-use crate::messages::{line_of, summary};
-use crate::misuse::misuse_line;
-use crate::run::{Stop, run};
-use crate::words::{OUT_OF_MEMORY, VERSION, help_of, usage_of};
+use crate::messages::{failure_message, summary};
+use crate::usage_error::usage_error_line;
+use crate::run::{RunFailure, run};
+use crate::help_text::{OUT_OF_MEMORY, VERSION, help_of, usage_of};
 use bson_convert::fault::Fault;
 use bson_convert::program::{report_failure, words_given};
 use std::alloc::AllocError;
@@ -51,12 +51,12 @@ const NO_READER: u8 = 141;
 // on, which standard error shows. Status 2: wrong arguments, and nothing was read. Status 141:
 // nobody reads the output any more, and standard error shows nothing.
 fn main(rt: HostRuntime) -> ExitCode {
-    match read_order(&rt) {
-        Ok(Request::Run(invocation)) if invocation.purpose == Purpose::Comparison => compare_order(
+    match read_request(&rt) {
+        Ok(Request::Run(invocation)) if invocation.purpose == Purpose::Comparison => compare_invocation(
             &rt,
             &invocation,
         ),
-        Ok(Request::Run(invocation)) => run_order(&rt, &invocation),
+        Ok(Request::Run(invocation)) => run_invocation(&rt, &invocation),
         Ok(Request::Help(command)) => print_text(&rt, help_of(command)),
         Ok(Request::Version) => print_text(&rt, VERSION),
         Ok(Request::Wrong(wrong)) => reject(&rt, &wrong),
@@ -65,15 +65,15 @@ fn main(rt: HostRuntime) -> ExitCode {
 }
 
 // Returns what the arguments ask for.
-fn read_order(rt: &HostRuntime) -> Result<Request, Fault> {
-    let Some(words) = words_given(rt)? else {
+fn read_request(rt: &HostRuntime) -> Result<Request, Fault> {
+    let Some(args) = words_given(rt)? else {
         return Ok(Request::Wrong(Wrong {
-            misuse: Misuse::NotUtf8,
+            usage_error: UsageError::NotUtf8,
             command: Command::All,
-            word: String::new(rt.alloc()),
+            arg: String::new(rt.alloc()),
         }));
     };
-    match parse_arguments(rt.alloc(), words) {
+    match parse_arguments(rt.alloc(), args) {
         Ok(requested) => Ok(requested),
         Err(_) => Err(Fault::OutOfMemory),
     }
@@ -81,7 +81,7 @@ fn read_order(rt: &HostRuntime) -> Result<Request, Fault> {
 
 // Names what is wrong with the arguments, and then shows the usage.
 fn reject(rt: &HostRuntime, wrong: &Wrong) -> ExitCode {
-    match misuse_line(rt.alloc(), wrong) {
+    match usage_error_line(rt.alloc(), wrong) {
         Ok(line) => {
             let _ = rt.eprintln(&line);
             report_failure(rt, usage_of(wrong.command), 2)
@@ -91,27 +91,27 @@ fn reject(rt: &HostRuntime, wrong: &Wrong) -> ExitCode {
 }
 
 // Runs, reports the result, and prints the hints for the inputs that were rejected.
-fn run_order(rt: &HostRuntime, invocation: &Invocation) -> ExitCode {
+fn run_invocation(rt: &HostRuntime, invocation: &Invocation) -> ExitCode {
     let mut hints = Vec::new(rt.alloc());
     let status = match run(rt, invocation, &mut hints) {
         Ok(counts) if counts.refused == 0 => ExitCode::SUCCESS,
         Ok(counts) => end_with(rt, summary(rt.alloc(), invocation.input, counts), 1),
-        Err(Stop::Output(_, Some(error))) if error.kind() == ErrorKind::BrokenPipe => {
+        Err(RunFailure::Output(_, Some(error))) if error.kind() == ErrorKind::BrokenPipe => {
             ExitCode::from(NO_READER)
         }
-        Err(stop) => end_with(rt, line_of(rt.alloc(), stop), 1),
+        Err(failure) => end_with(rt, failure_message(rt.alloc(), failure), 1),
     };
     print_hints(rt, &hints);
     status
 }
 
 // Compares two files. The status is 1 if and only if their values differ.
-fn compare_order(rt: &HostRuntime, invocation: &Invocation) -> ExitCode {
+fn compare_invocation(rt: &HostRuntime, invocation: &Invocation) -> ExitCode {
     let mut hints = Vec::new(rt.alloc());
     let status = match compare_files(rt, invocation, &mut hints) {
         Ok(None) => ExitCode::SUCCESS,
         Ok(Some(difference)) => end_with(rt, line_for(rt.alloc(), invocation, difference), 1),
-        Err(stop) => end_with(rt, line_of(rt.alloc(), stop), 2),
+        Err(failure) => end_with(rt, failure_message(rt.alloc(), failure), 2),
     };
     print_hints(rt, &hints);
     status
@@ -138,7 +138,7 @@ fn print_text(rt: &HostRuntime, text: &str) -> ExitCode {
         Err(error) if error.kind() == ErrorKind::BrokenPipe => ExitCode::from(NO_READER),
         Err(error) => end_with(
             rt,
-            line_of(rt.alloc(), Stop::Output(STANDARD, Some(error))),
+            failure_message(rt.alloc(), RunFailure::Output(STANDARD, Some(error))),
             1,
         ),
     }

@@ -1,11 +1,11 @@
 //! The lines on standard error.
 ghost use Rattle.std.specs.Prelude.{◌≡◌, ◌==◌, ◌++◌, IfOk, OnOk, position, string_bytes};
-ghost use Rattle.bson_program.specs.Messages.{all_under, document_words, escaped_name, head_of};
-ghost use Rattle.bson_program.specs.Messages.{input_kind, line_head, line_len, printable, shown_name, summary_of};
-ghost use Rattle.bson_program.specs.Messages.{text_head, text_message, document_message, under, IsCause, IsLineFor};
+ghost use Rattle.bson_program.specs.Messages.{with_file_names, document_error_message, escaped_name, message_prefix};
+ghost use Rattle.bson_program.specs.Messages.{input_kind, line_location, line_len, printable, shown_name, summary_of};
+ghost use Rattle.bson_program.specs.Messages.{text_location, text_message, document_message, with_file_name, IsCause, IsFailureMessage};
 
 use crate::invocation::{Input, STANDARD};
-use crate::run::Stop;
+use crate::run::RunFailure;
 use bson_codec::run_end::{RunEnd, RunFault};
 use bson_convert::error;
 use bson_run::lines::Counts;
@@ -13,7 +13,7 @@ use std::alloc::{AllocError, Global};
 use std::io::Error;
 
 /// The beginning of a diagnostic, before its line's number.
-const HEAD: &[u8] = b"bson: line ";
+const DIAGNOSTIC_PREFIX: &[u8] = b"bson: line ";
 
 /// The error if bytes would go to a terminal.
 const TERMINAL: &str = "bson: BSON bytes are not written to a terminal; give -o FILE, or a pipe";
@@ -37,25 +37,25 @@ fn kind_of(input: Input) -> &'static str
 }
 
 /// Returns the message for what stopped the run, and where.
-pub fn line_of(alloc: Global, stop: Stop<'_>) -> Result<String, AllocError>
-    ensures { IfOk result (λ line. IsLineFor stop.entry (string_bytes line)) }
+pub fn failure_message(alloc: Global, failure: RunFailure<'_>) -> Result<String, AllocError>
+    ensures { IfOk result (λ line. IsFailureMessage failure.entry (string_bytes line)) }
 {
-    match stop {
-        Stop::Input(name, error) => {
+    match failure {
+        RunFailure::Input(name, error) => {
             let (name, cause) = (show_name(alloc, name, "input")?, cause_of(alloc, error)?);
             format!(in alloc; "bson: cannot read {name}{cause}")
         }
-        Stop::Output(name, error) => {
+        RunFailure::Output(name, error) => {
             let (name, cause) = (show_name(alloc, name, "output")?, cause_of(alloc, error)?);
             format!(in alloc; "bson: cannot write {name}{cause}")
         }
-        Stop::Both(name) => {
+        RunFailure::Both(name) => {
             let name = show_name(alloc, name, "input")?;
             format!(in alloc; "bson: {name} is both an input and the output")
         }
-        Stop::Terminal => String::from_str(alloc, TERMINAL),
-        Stop::Text(name, number, fault, place) => at_text(alloc, name, number, &fault, &place),
-        Stop::Document(name, end) => at_document(alloc, name, end),
+        RunFailure::Terminal => String::from_str(alloc, TERMINAL),
+        RunFailure::Text(name, number, fault, place) => at_text(alloc, name, number, &fault, &place),
+        RunFailure::Document(name, end) => at_document(alloc, name, end),
     }
 }
 
@@ -63,15 +63,15 @@ pub fn line_of(alloc: Global, stop: Stop<'_>) -> Result<String, AllocError>
 fn at_document(alloc: Global, name: &str, end: RunEnd) -> Result<String, AllocError>
     ensures { IfOk result (λ line. string_bytes line ≡ document_message name.now end) }
 {
-    let words = document_words(alloc, end)?;
-    let head = head_of(alloc, name)?;
-    let words = words.trim_end();
-    format!(in alloc; "{head}: {words}")
+    let message = document_error_message(alloc, end)?;
+    let prefix = message_prefix(alloc, name)?;
+    let message = message.trim_end();
+    format!(in alloc; "{prefix}: {message}")
 }
 
 // Why it stopped there; of a stream alone without the document.
-fn document_words(alloc: Global, end: RunEnd) -> Result<String, AllocError>
-    ensures { IfOk result (λ words. string_bytes words ≡ document_words end.number end.start end.fault) }
+fn document_error_message(alloc: Global, end: RunEnd) -> Result<String, AllocError>
+    ensures { IfOk result (λ message. string_bytes message ≡ document_error_message end.number end.start end.fault) }
 {
     match end.fault {
         RunFault::CannotRead | RunFault::CannotWrite => String::from_str(
@@ -92,25 +92,25 @@ fn at_text(
 ) -> Result<String, AllocError>
     ensures { IfOk result (λ line. string_bytes line ≡ text_message name.now number fault.now place.now) }
 {
-    let words = fault.message();
-    let head = text_head(alloc, name, number)?;
-    format!(in alloc; "{head}: {words}{place}")
+    let message = fault.message();
+    let prefix = text_location(alloc, name, number)?;
+    format!(in alloc; "{prefix}: {message}{place}")
 }
 
 // Returns the beginning of a message: for a text on a line with its number.
-fn text_head(alloc: Global, name: &str, number: u64) -> Result<String, AllocError>
-    ensures { IfOk result (λ head. string_bytes head ≡ text_head name.now number) }
+fn text_location(alloc: Global, name: &str, number: u64) -> Result<String, AllocError>
+    ensures { IfOk result (λ prefix. string_bytes prefix ≡ text_location name.now number) }
 {
     if number == 0 {
-        head_of(alloc, name)
+        message_prefix(alloc, name)
     } else {
-        line_head(alloc, name, number)
+        line_location(alloc, name, number)
     }
 }
 
 /// Returns the beginning of a message: the file's name, or that of the program.
-pub fn head_of(alloc: Global, name: &str) -> Result<String, AllocError>
-    ensures { IfOk result (λ head. string_bytes head ≡ head_of name.now) }
+pub fn message_prefix(alloc: Global, name: &str) -> Result<String, AllocError>
+    ensures { IfOk result (λ prefix. string_bytes prefix ≡ message_prefix name.now) }
 {
     if name == STANDARD {
         return String::from_str(alloc, "bson");
@@ -119,8 +119,8 @@ pub fn head_of(alloc: Global, name: &str) -> Result<String, AllocError>
 }
 
 // The same with the number of a line.
-fn line_head(alloc: Global, name: &str, number: u64) -> Result<String, AllocError>
-    ensures { IfOk result (λ head. string_bytes head ≡ line_head name.now number) }
+fn line_location(alloc: Global, name: &str, number: u64) -> Result<String, AllocError>
+    ensures { IfOk result (λ prefix. string_bytes prefix ≡ line_location name.now number) }
 {
     if name == STANDARD {
         return format!(in alloc; "bson: line {number}");
@@ -171,23 +171,23 @@ fn cause_of(alloc: Global, error: Option<Error>) -> Result<String, AllocError>
     let Some(error) = error else {
         return Ok(String::new(alloc));
     };
-    let words = format!(in alloc; "{error}")?;
-    match words.split_once(" (os error ") {
-        Some((words, _)) => format!(in alloc; ": {words}"),
-        None => format!(in alloc; ": {words}"),
+    let message = format!(in alloc; "{error}")?;
+    match message.split_once(" (os error ") {
+        Some((message, _)) => format!(in alloc; ": {message}"),
+        None => format!(in alloc; ": {message}"),
     }
 }
 
 /// Returns diagnostics on lines, with a file's name and the line's number in front, as editors and grep have
 /// them; on documents, with the name in front.
-pub fn name_verdicts(alloc: Global, name: &str, verdicts: &[u8]) -> Result<Vec<u8>, AllocError>
-    ensures { IfOk result (λ named. named.items ≡ all_under name.now verdicts.now) }
+pub fn add_file_name(alloc: Global, name: &str, diagnostics: &[u8]) -> Result<Vec<u8>, AllocError>
+    ensures { IfOk result (λ named. named.items ≡ with_file_names name.now diagnostics.now) }
 {
     let mut named = Vec::new(alloc);
-    let mut rest = verdicts;
+    let mut rest = diagnostics;
     while !rest.is_empty() {
-        let (verdict, others) = rest.split_at(line_len(rest));
-        push_named(&mut named, name, verdict)?;
+        let (diagnostic, others) = rest.split_at(line_len(rest));
+        push_named(&mut named, name, diagnostic)?;
         rest = others;
     }
     Ok(named)
@@ -211,14 +211,14 @@ fn newline_at(bytes: &[u8]) -> Option<usize>
 }
 
 // Appends a diagnostic after the name.
-fn push_named(named: &mut Vec<u8>, name: &str, verdict: &[u8]) -> Result<(), AllocError>
-    ensures { OnOk result (named.new.items ≡ named.old.items ++ under name.now verdict.now) }
+fn push_named(named: &mut Vec<u8>, name: &str, diagnostic: &[u8]) -> Result<(), AllocError>
+    ensures { OnOk result (named.new.items ≡ named.old.items ++ with_file_name name.now diagnostic.now) }
 {
     named.extend_from_slice(name.as_bytes())?;
-    if verdict.starts_with(HEAD) {
+    if diagnostic.starts_with(DIAGNOSTIC_PREFIX) {
         named.push(b':')?;
-        return named.extend_from_slice(&verdict[HEAD.len()..]);
+        return named.extend_from_slice(&diagnostic[DIAGNOSTIC_PREFIX.len()..]);
     }
     named.extend_from_slice(b": ")?;
-    named.extend_from_slice(verdict)
+    named.extend_from_slice(diagnostic)
 }

@@ -1,7 +1,7 @@
 //! The output of a run. A file gets it whole or not at all: it is written next to the file, and
 //! takes the file's place at the end.
 ghost use Rattle.std.specs.Prelude.{◌≡◌, codes, IfOk, IfSome, IsOk, IsOkAnd, None};
-ghost use Rattle.bson_program.specs.Stops.{IsNumberedPart};
+ghost use Rattle.bson_program.specs.RunFailures.{IsNumberedPart};
 
 use crate::invocation::STANDARD;
 use crate::streams::{Sink, Target};

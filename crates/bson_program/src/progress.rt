@@ -1,9 +1,9 @@
 //! How far a run is, on a terminal: a line that is updated in place while files are read.
 ghost use Rattle.std.specs.Prelude.{◌≡◌, ◌==◌, count_by, OnOk};
 ghost use Rattle.std.specs.Io.KnownBytes.{Appends};
-ghost use Rattle.bson_program.specs.Stops.{reported_under};
+ghost use Rattle.bson_program.specs.RunFailures.{diagnostics_of_file};
 
-use crate::messages::name_verdicts;
+use crate::messages::add_file_name;
 use std::alloc::Global;
 use std::cell::Cell;
 use std::io::{Read, Write};
@@ -32,8 +32,8 @@ pub struct Progress<'a> {
     read: Cell<u64>,
     lines: Cell<u64>,
     refused: Cell<u64>,
-    renewed: Cell<Option<Instant>>,
-    stands: Cell<bool>,
+    last_shown: Cell<Option<Instant>>,
+    is_shown: Cell<bool>,
 }
 
 impl<'a> Progress<'a> {
@@ -48,8 +48,8 @@ impl<'a> Progress<'a> {
             read: Cell::new(0),
             lines: Cell::new(0),
             refused: Cell::new(0),
-            renewed: Cell::new(None),
-            stands: Cell::new(false),
+            last_shown: Cell::new(None),
+            is_shown: Cell::new(false),
         }
     }
 
@@ -60,22 +60,22 @@ impl<'a> Progress<'a> {
                 .set(self.read.get().saturating_add(bytes.len() as u64));
             self.lines
                 .set(self.lines.get().saturating_add(newlines(bytes)));
-            self.renew(total);
+            self.show(total);
         }
     }
 
     // Writes the line anew, unless it was written a moment ago.
-    fn renew(&self, total: u64) {
+    fn show(&self, total: u64) {
         let Ok(now) = Instant::now(self.rt) else {
             return;
         };
-        if let Some(renewed) = self.renewed.get() {
-            if now.duration_since(renewed) < Duration::from_millis(LEAST_PAUSE) {
+        if let Some(last_shown) = self.last_shown.get() {
+            if now.duration_since(last_shown) < Duration::from_millis(LEAST_PAUSE) {
                 return;
             }
         }
-        self.renewed.set(Some(now));
-        self.stands.set(true);
+        self.last_shown.set(Some(now));
+        self.is_shown.set(true);
         let (read, of) = (self.read.get() / 1_000_000, total / 1_000_000);
         let refused = self.refused.get();
         if self.has_lines {
@@ -88,17 +88,17 @@ impl<'a> Progress<'a> {
 
     /// Clears the line, if it is shown.
     pub fn clear(&self) {
-        if self.stands.get() {
-            self.stands.set(false);
-            self.renewed.set(None);
+        if self.is_shown.get() {
+            self.is_shown.set(false);
+            self.last_shown.set(None);
             let _ = eprint!(self.rt; "{CLEARED}");
         }
     }
 }
 
 // Whether diagnostics mention a number that is read without `--strict`.
-fn reports_double(verdicts: &[u8]) -> bool {
-    match str::from_utf8(verdicts) {
+fn reports_double(diagnostics: &[u8]) -> bool {
+    match str::from_utf8(diagnostics) {
         Ok(text) => text.contains(NO_INTEGER) || text.contains(FINITE_DOUBLE),
         Err(_) => false,
     }
@@ -111,27 +111,27 @@ fn newlines(bytes: &[u8]) -> u64
 }
 
 /// As many first bytes of an input are kept, or a few more.
-pub const HEAD: usize = 65536;
+pub const FIRST_BYTES: usize = 65536;
 
 /// A reader whose bytes count as progress, which keeps the first bytes, and why a read failed.
 #[derive(Drop)]
-pub struct Counted<'a, R> {
+pub struct CountingReader<'a, R> {
     pub reader: R,
     pub progress: &'a Progress<'a>,
-    pub head: Vec<u8>,
+    pub first_bytes: Vec<u8>,
     pub error: Option<io::Error>,
 }
 
-impl<R> Counted<'_, R> {
+impl<R> CountingReader<'_, R> {
     // Keeps bytes that are among the first. Where memory is wanting there are fewer.
     fn keep(&mut self, bytes: &[u8]) {
-        if self.head.len() < HEAD {
-            let _ = self.head.extend_from_slice(bytes);
+        if self.first_bytes.len() < FIRST_BYTES {
+            let _ = self.first_bytes.extend_from_slice(bytes);
         }
     }
 }
 
-impl<R: Read> Read for Counted<'_, R> {
+impl<R: Read> Read for CountingReader<'_, R> {
     fn read(&mut self, buf: &mut [u8]) -> io::Result<usize> {
         match self.reader.read(buf) {
             Ok(count) => {
@@ -150,7 +150,7 @@ impl<R: Read> Read for Counted<'_, R> {
 /// A writer of diagnostics, a line for each rejected line, with the name of their file where it has
 /// one, which keeps why a write failed.
 #[derive(Drop)]
-pub struct Verdicts<'a, T> {
+pub struct DiagnosticsWriter<'a, T> {
     pub alloc: Global,
     pub writer: T,
     pub name: Option<String>,
@@ -159,23 +159,23 @@ pub struct Verdicts<'a, T> {
     pub error: Option<io::Error>,
 }
 
-impl<T: Write> Verdicts<'_, T> {
+impl<T: Write> DiagnosticsWriter<'_, T> {
     // Writes whole diagnostics.
-    fn put(&mut self, verdicts: &[u8]) -> io::Result<()>
+    fn put(&mut self, diagnostics: &[u8]) -> io::Result<()>
         ensures { OnOk result (Appends (T.contents self.old.writer) (T.contents self.new.writer)
-            (reported_under self.old.name verdicts.now)) }
+            (diagnostics_of_file self.old.name diagnostics.now)) }
     {
         match &self.name {
-            None => self.writer.write_all(verdicts),
+            None => self.writer.write_all(diagnostics),
             Some(name) => {
-                let verdicts = name_verdicts(self.alloc, name.as_str(), verdicts)?;
-                self.writer.write_all(&verdicts)
+                let diagnostics = add_file_name(self.alloc, name.as_str(), diagnostics)?;
+                self.writer.write_all(&diagnostics)
             }
         }
     }
 }
 
-impl<T: Write> Write for Verdicts<'_, T> {
+impl<T: Write> Write for DiagnosticsWriter<'_, T> {
     fn write(&mut self, buf: &[u8]) -> io::Result<usize> {
         self.progress.clear();
         self.has_double = self.has_double || reports_double(buf);

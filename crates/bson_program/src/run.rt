@@ -1,17 +1,17 @@
 //! A run over files: which files are opened, and the error if that fails.
 ghost use Rattle.std.specs.Prelude.{◌≡◌, ◌⊎◌, [], IfErr, IfOk, string_bytes};
-ghost use Rattle.bson_run.specs.Lines.{text_held};
-ghost use Rattle.bson_run.specs.Place.{IsWhere};
-ghost use Rattle.bson_program.specs.Stops.{IsTitle, IsUnread, IsUnwritten};
+ghost use Rattle.bson_run.specs.Lines.{buffered_text};
+ghost use Rattle.bson_run.specs.ErrorMessages.{IsPositionMessage};
+ghost use Rattle.bson_program.specs.RunFailures.{IsDiagnosticsPrefix, IsReadFailure, IsWriterFailure};
 
 use crate::advice::advice_for;
 use crate::digests::hasher_for;
 use crate::dump::run_dump;
 use crate::invocation::{Input, Invocation, STANDARD};
-use crate::messages::head_of;
+use crate::messages::message_prefix;
 use crate::output::Output;
-use crate::progress::{Counted, Progress, Verdicts};
-use crate::rejected::{is_rejected, rejection_help};
+use crate::progress::{CountingReader, Progress, DiagnosticsWriter};
+use crate::rejection_hint::{is_rejected, rejection_help};
 use crate::streams::{Sink, Source};
 use crate::texts::convert_texts;
 use bson_codec::run_end::RunEnd;
@@ -27,7 +27,7 @@ use std::rt::Stderr;
 /// Why a run could not go on, with the name of the file that it happened at; `-` is a standard
 /// stream.
 #[derive(Drop)]
-pub enum Stop<'a> {
+pub enum RunFailure<'a> {
     /// The file can't be read.
     Input(&'a str, Option<Error>),
     /// The file can't be written.
@@ -51,12 +51,12 @@ pub fn run<'a>(
     rt: &HostRuntime,
     invocation: &'a Invocation,
     hints: &mut Vec<String>,
-) -> Result<Counts, Stop<'a>> {
+) -> Result<Counts, RunFailure<'a>> {
     if invocation.writes_bytes()
         && invocation.output.as_str() == STANDARD
         && rt.stdout().is_terminal()
     {
-        return Err(Stop::Terminal);
+        return Err(RunFailure::Terminal);
     }
     for name in invocation.inputs.iter() {
         try_input(rt, invocation, name.as_str())?;
@@ -64,7 +64,7 @@ pub fn run<'a>(
     let name = invocation.output.as_str();
     let mut output = match Output::open(rt, name) {
         Ok(output) => output,
-        Err(error) => return Err(Stop::Output(name, Some(error))),
+        Err(error) => return Err(RunFailure::Output(name, Some(error))),
     };
     output.sink.hasher = hasher_for(rt.alloc(), invocation.purpose);
     let progress = Progress::new(
@@ -77,11 +77,11 @@ pub fn run<'a>(
     match counts {
         Ok(counts) => match output.finish(rt) {
             Ok(()) => Ok(counts),
-            Err(error) => Err(Stop::Output(name, Some(error))),
+            Err(error) => Err(RunFailure::Output(name, Some(error))),
         },
-        Err(stop) => {
+        Err(failure) => {
             output.discard(rt);
-            Err(stop)
+            Err(failure)
         }
     }
 }
@@ -92,7 +92,7 @@ fn run_all<'a>(
     sink: &mut Sink,
     progress: &Progress<'_>,
     hints: &mut Vec<String>,
-) -> Result<Counts, Stop<'a>> {
+) -> Result<Counts, RunFailure<'a>> {
     let mut all = Counts {
         lines: 0,
         refused: 0,
@@ -113,14 +113,14 @@ pub fn run_one<'a>(
     sink: &mut Sink,
     progress: &Progress<'_>,
     hints: &mut Vec<String>,
-) -> Result<Counts, Stop<'a>> {
-    let mut reader = Counted {
+) -> Result<Counts, RunFailure<'a>> {
+    let mut reader = CountingReader {
         reader: source(rt, name)?,
         progress,
-        head: Vec::new(rt.alloc()),
+        first_bytes: Vec::new(rt.alloc()),
         error: None,
     };
-    let mut report = Verdicts {
+    let mut report = DiagnosticsWriter {
         alloc: rt.alloc(),
         writer: rt.stderr(),
         name: title(rt, invocation, name)?,
@@ -137,11 +137,11 @@ pub fn run_one<'a>(
         let advice = advice_for(
             rt.alloc(),
             invocation,
-            &reader.head,
+            &reader.first_bytes,
             report.has_double,
             &ended,
         );
-        if let Some(hint) = rejection_help(rt.alloc(), invocation, name, &reader.head, advice) {
+        if let Some(hint) = rejection_help(rt.alloc(), invocation, name, &reader.first_bytes, advice) {
             let _ = hints.push(hint);
         }
     }
@@ -153,19 +153,19 @@ fn run_each<'a>(
     rt: &HostRuntime,
     invocation: &'a Invocation,
     name: &'a str,
-    reader: &mut Counted<'_, Source>,
+    reader: &mut CountingReader<'_, Source>,
     sink: &mut Sink,
-    report: &mut Verdicts<'_, Stderr>,
-) -> Result<Counts, Stop<'a>> {
+    report: &mut DiagnosticsWriter<'_, Stderr>,
+) -> Result<Counts, RunFailure<'a>> {
     let mut run = LineRun::new(rt.alloc(), invocation.task, invocation.on_refusal);
     run.options = invocation.options;
     match run.run(rt.alloc(), reader, sink, report) {
         Ok(counts) => Ok(counts),
-        Err(error::Error::CannotRead) => Err(Stop::Input(name, reader.error)),
+        Err(error::Error::CannotRead) => Err(RunFailure::Input(name, reader.error)),
         Err(error::Error::CannotWrite) => Err(write_stop(invocation, sink, report)),
         Err(fault) => {
             let place = place_in(rt.alloc(), &run, &fault);
-            Err(Stop::Text(name, run.number(), fault, place))
+            Err(RunFailure::Text(name, run.number(), fault, place))
         }
     }
 }
@@ -173,7 +173,7 @@ fn run_each<'a>(
 // Returns the position of the error in the line at which the run stopped, or nothing if memory for the message
 // is lacking.
 fn place_in(alloc: Global, run: &LineRun, fault: &error::Error) -> String
-    ensures { IsWhere (text_held run.now.collected) fault.now (string_bytes result) ⊎ (string_bytes result ≡ []) }
+    ensures { IsPositionMessage (buffered_text run.now.state) fault.now (string_bytes result) ⊎ (string_bytes result ≡ []) }
 {
     match run.place(alloc, fault) {
         Ok(place) => place,
@@ -185,13 +185,13 @@ fn place_in(alloc: Global, run: &LineRun, fault: &error::Error) -> String
 pub fn write_stop<'a>(
     invocation: &'a Invocation,
     sink: &Sink,
-    report: &Verdicts<'_, Stderr>,
-) -> Stop<'a>
-    ensures { IsUnwritten invocation.now report.now.error sink.now.error result }
+    report: &DiagnosticsWriter<'_, Stderr>,
+) -> RunFailure<'a>
+    ensures { IsWriterFailure invocation.now report.now.error sink.now.error result }
 {
     match report.error {
-        Some(error) => Stop::Output(STANDARD, Some(error)),
-        None => Stop::Output(invocation.output.as_str(), sink.error),
+        Some(error) => RunFailure::Output(STANDARD, Some(error)),
+        None => RunFailure::Output(invocation.output.as_str(), sink.error),
     }
 }
 
@@ -200,30 +200,30 @@ fn run_text<'a>(
     rt: &HostRuntime,
     invocation: &'a Invocation,
     name: &'a str,
-    reader: &mut Counted<'_, Source>,
+    reader: &mut CountingReader<'_, Source>,
     sink: &mut Sink,
-) -> Result<Counts, Stop<'a>> {
+) -> Result<Counts, RunFailure<'a>> {
     match convert_texts(rt.alloc(), invocation, name, reader, sink) {
         Ok(()) => Ok(Counts {
             lines: 1,
             refused: 0,
         }),
-        Err(Stop::Input(name, _)) => Err(Stop::Input(name, reader.error)),
-        Err(Stop::Output(name, _)) => Err(Stop::Output(name, sink.error)),
-        Err(stop) => Err(stop),
+        Err(RunFailure::Input(name, _)) => Err(RunFailure::Input(name, reader.error)),
+        Err(RunFailure::Output(name, _)) => Err(RunFailure::Output(name, sink.error)),
+        Err(failure) => Err(failure),
     }
 }
 
 // Opens the input of this name.
-fn source<'a>(rt: &HostRuntime, name: &'a str) -> Result<Source, Stop<'a>>
-    ensures { IfErr result (IsUnread name.now) }
+fn source<'a>(rt: &HostRuntime, name: &'a str) -> Result<Source, RunFailure<'a>>
+    ensures { IfErr result (IsReadFailure name.now) }
 {
     if name == STANDARD {
         return Ok(Source::Stdin(rt.stdin()));
     }
     match File::open(rt, name) {
         Ok(file) => Ok(Source::File(file)),
-        Err(error) => Err(Stop::Input(name, Some(error))),
+        Err(error) => Err(RunFailure::Input(name, Some(error))),
     }
 }
 
@@ -232,16 +232,16 @@ fn title<'a>(
     rt: &HostRuntime,
     invocation: &Invocation,
     name: &'a str,
-) -> Result<Option<String>, Stop<'a>>
-    ensures title { IfOk result (IsTitle invocation.now.input name.now) }
-    ensures stop { IfErr result (IsUnread name.now) }
+) -> Result<Option<String>, RunFailure<'a>>
+    ensures title { IfOk result (IsDiagnosticsPrefix invocation.now.input name.now) }
+    ensures failure { IfErr result (IsReadFailure name.now) }
 {
     if name == STANDARD && invocation.input != Input::Documents {
         return Ok(None);
     }
-    match head_of(rt.alloc(), name) {
+    match message_prefix(rt.alloc(), name) {
         Ok(title) => Ok(Some(title)),
-        Err(error) => Err(Stop::Input(name, Some(Error::from(error)))),
+        Err(error) => Err(RunFailure::Input(name, Some(Error::from(error)))),
     }
 }
 
@@ -250,20 +250,20 @@ pub fn try_input<'a>(
     rt: &HostRuntime,
     invocation: &Invocation,
     name: &'a str,
-) -> Result<(), Stop<'a>> {
+) -> Result<(), RunFailure<'a>> {
     let input = if name == STANDARD {
         fs::metadata(rt, "/dev/stdin")
     } else {
         match File::open(rt, name) {
             Ok(file) => file.metadata(),
-            Err(error) => return Err(Stop::Input(name, Some(error))),
+            Err(error) => return Err(RunFailure::Input(name, Some(error))),
         }
     };
     let Ok(input) = input else {
         return Ok(());
     };
     if is_written(rt, &input, "/dev/stderr") {
-        return Err(Stop::Both(name));
+        return Err(RunFailure::Both(name));
     }
     let output = invocation.output.as_str();
     let output = if output == STANDARD {
@@ -272,7 +272,7 @@ pub fn try_input<'a>(
         output
     };
     if !invocation.writes_nothing() && is_written(rt, &input, output) {
-        return Err(Stop::Both(name));
+        return Err(RunFailure::Both(name));
     }
     Ok(())
 }

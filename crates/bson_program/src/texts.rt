@@ -1,14 +1,14 @@
 //! A run over the texts of an input: one text, on any number of lines, or several, one after the other.
 ghost use Rattle.std.specs.Prelude.{◌≡◌, ℕ, List, Option, IfOk, IfErr, OnOk, false, nat_lt, length, string_bytes, true};
 ghost use Rattle.bson_json.specs.Sequence.{texts_in};
-ghost use Rattle.bson_run.specs.Place.{IsStop, IsWhere};
+ghost use Rattle.bson_run.specs.ErrorMessages.{IsSyntaxPosition, IsPositionMessage};
 ghost use Rattle.bson_program.specs.Texts.{AcceptedStops, HasLine, IsSequence, IsTextDone, StopsAt, TextStops, TextsDone, TextsStop};
 ghost use Rattle.bson_program.specs.Texts.{IsNotJson, WritesAccepted, WritesAll, content_of, is_sequence, begin_line, mark_of, reads_several};
-ghost use Rattle.bson_program.specs.Whole.{IsUngiven};
+ghost use Rattle.bson_program.specs.SingleText.{IsTextRejected};
 
 use crate::invocation::{Invocation, STANDARD};
-use crate::run::Stop;
-use crate::whole::accept;
+use crate::run::RunFailure;
+use crate::single_text::accept;
 use bson::extjson::Doubles;
 use bson_convert::error::Error;
 use bson_convert::fault::Fault;
@@ -16,8 +16,8 @@ use bson_convert::stream::read_whole;
 use bson_json::sequence::split_text;
 use bson_run::accepted::Accepted;
 use bson_run::explain::explain_under;
-use bson_run::order::{Criterion, Task};
-use bson_run::stop;
+use bson_run::task::{Criterion, Task};
+use bson_run::syntax_error;
 use std::alloc::{AllocError, Global};
 use std::io::{Read, Write};
 
@@ -26,7 +26,7 @@ pub const BYTE_ORDER_MARK: &[u8] = b"\xef\xbb\xbf";
 
 /// A text of an input.
 #[derive(Clone, Copy)]
-struct Found<'a> {
+struct InputText<'a> {
     /// All bytes of the input after a byte order mark.
     content: &'a [u8],
     /// How many of them come before the text.
@@ -34,14 +34,14 @@ struct Found<'a> {
     text: &'a [u8],
 }
 
-impl<'a> Found<'a> {
+impl<'a> InputText<'a> {
     // Returns all bytes as one text.
-    fn whole(content: &'a [u8]) -> Found<'a>
+    fn whole(content: &'a [u8]) -> InputText<'a>
         ensures content { result.content.now ≡ content.now }
         ensures start { result.start ≡ 0 }
         ensures text { result.text.now ≡ content.now }
     {
-        Found {
+        InputText {
             content,
             start: 0,
             text: content,
@@ -62,7 +62,7 @@ pub fn convert_texts<'a, R: Read, W: Write>(
     name: &'a str,
     reader: &mut R,
     writer: &mut W,
-) -> Result<(), Stop<'a>>
+) -> Result<(), RunFailure<'a>>
     ensures done { OnOk result (TextsDone invocation.now name.now (R.remaining reader.old) (R.remaining reader.new)
         (W.contents writer.old) (W.contents writer.new)) }
     ensures stops { IfErr result (λ stop. TextsStop invocation.now stop name.now (R.remaining reader.old)
@@ -70,8 +70,8 @@ pub fn convert_texts<'a, R: Read, W: Write>(
 {
     let bytes = match read_whole(alloc, reader) {
         Ok(bytes) => bytes,
-        Err(Fault::CannotRead) => return Err(Stop::Input(name, None)),
-        Err(_) => return Err(Stop::Text(name, 0, Error::OutOfMemory, String::new(alloc))),
+        Err(Fault::CannotRead) => return Err(RunFailure::Input(name, None)),
+        Err(_) => return Err(RunFailure::Text(name, 0, Error::OutOfMemory, String::new(alloc))),
     };
     let content = content_of(invocation, name, &bytes);
     let accepted = match accept(alloc, invocation, content) {
@@ -80,7 +80,7 @@ pub fn convert_texts<'a, R: Read, W: Write>(
             if has_several(invocation, &fault, content) {
                 return convert_each(alloc, invocation, name, content, writer);
             }
-            return Err(stop_at(alloc, invocation, name, fault, Found::whole(content)));
+            return Err(stop_at(alloc, invocation, name, fault, InputText::whole(content)));
         }
     };
     drop(bytes);
@@ -171,7 +171,7 @@ fn convert_each<'a, W: Write>(
     name: &'a str,
     content: &[u8],
     writer: &mut W,
-) -> Result<(), Stop<'a>>
+) -> Result<(), RunFailure<'a>>
     ensures done { OnOk result (WritesAll invocation.now content.now (W.contents writer.old) (W.contents writer.new)) }
     ensures stops { IsSequence invocation.now content.now → IfErr result (λ stop. StopsAt invocation.now stop name.now content.now
         (W.contents writer.old) (W.contents writer.new)) }
@@ -179,13 +179,13 @@ fn convert_each<'a, W: Write>(
     let mut rest = content;
     while !rest.is_empty() {
         let (text, next) = split_text(rest);
-        let found = Found {
+        let input_text = InputText {
             content,
             start: content.len() - rest.len(),
             text,
         };
         if !text.is_empty() {
-            convert_text(alloc, invocation, name, found, writer)?;
+            convert_text(alloc, invocation, name, input_text, writer)?;
         }
         rest = next;
     }
@@ -197,16 +197,16 @@ fn convert_text<'a, W: Write>(
     alloc: Global,
     invocation: &'a Invocation,
     name: &'a str,
-    found: Found<'_>,
+    input_text: InputText<'_>,
     writer: &mut W,
-) -> Result<(), Stop<'a>>
-    ensures done { OnOk result (IsTextDone invocation.now found.entry.text.now (W.contents writer.old) (W.contents writer.new)) }
-    ensures stops { IfErr result (λ stop. TextStops invocation.now stop name.now found.entry.content.now found.entry.start found.entry.text.now
+) -> Result<(), RunFailure<'a>>
+    ensures done { OnOk result (IsTextDone invocation.now input_text.entry.text.now (W.contents writer.old) (W.contents writer.new)) }
+    ensures stops { IfErr result (λ stop. TextStops invocation.now stop name.now input_text.entry.content.now input_text.entry.start input_text.entry.text.now
         (W.contents writer.old) (W.contents writer.new)) }
 {
-    match accept(alloc, invocation, found.text) {
+    match accept(alloc, invocation, input_text.text) {
         Ok(accepted) => write_accepted(alloc, invocation, name, accepted, writer),
-        Err(fault) => Err(stop_at(alloc, invocation, name, fault, found)),
+        Err(fault) => Err(stop_at(alloc, invocation, name, fault, input_text)),
     }
 }
 
@@ -217,18 +217,18 @@ fn write_accepted<'a, W: Write>(
     name: &'a str,
     accepted: Accepted,
     writer: &mut W,
-) -> Result<(), Stop<'a>>
+) -> Result<(), RunFailure<'a>>
     ensures done { OnOk result (WritesAccepted invocation.now accepted (W.contents writer.old) (W.contents writer.new)) }
     ensures stops { IfErr result (λ stop. AcceptedStops invocation.now stop name.now accepted
         (W.contents writer.old) (W.contents writer.new)) }
 {
     // (no other error is possible, since the text was accepted with these options)
     let Ok(output) = accepted.output(alloc, invocation.options) else {
-        return Err(Stop::Text(name, 0, Error::OutOfMemory, String::new(alloc)));
+        return Err(RunFailure::Text(name, 0, Error::OutOfMemory, String::new(alloc)));
     };
     match writer.write_all(&output) {
         Ok(()) => Ok(()),
-        Err(_) => Err(Stop::Output(invocation.output.as_str(), None)),
+        Err(_) => Err(RunFailure::Output(invocation.output.as_str(), None)),
     }
 }
 
@@ -238,15 +238,15 @@ fn stop_at<'a>(
     invocation: &Invocation,
     name: &'a str,
     fault: Error,
-    found: Found<'_>,
-) -> Stop<'a>
+    input_text: InputText<'_>,
+) -> RunFailure<'a>
     ensures same { IsNotJson result → fault ≡ Error.NotJson }
-    ensures stops { (had : Option (List ℕ)) → IsUngiven invocation.now.options invocation.now.task fault found.entry.text.now
-        → TextStops invocation.now result name.now found.entry.content.now found.entry.start found.entry.text.now had had }
+    ensures stops { (output_before : Option (List ℕ)) → IsTextRejected invocation.now.options invocation.now.task fault input_text.entry.text.now
+        → TextStops invocation.now result name.now input_text.entry.content.now input_text.entry.start input_text.entry.text.now output_before output_before }
 {
-    match place_of(alloc, invocation.task, &fault, found) {
-        Ok((line, place)) => Stop::Text(name, line, fault, place),
-        Err(_) => Stop::Text(name, 0, Error::OutOfMemory, String::new(alloc)),
+    match place_of(alloc, invocation.task, &fault, input_text) {
+        Ok((line, place)) => RunFailure::Text(name, line, fault, place),
+        Err(_) => RunFailure::Text(name, 0, Error::OutOfMemory, String::new(alloc)),
     }
 }
 
@@ -255,44 +255,44 @@ fn place_of(
     alloc: Global,
     task: Task,
     fault: &Error,
-    found: Found<'_>,
+    input_text: InputText<'_>,
 ) -> Result<(u64, String), AllocError>
-    ensures line { IfOk result (λ at. HasLine fault.now found.entry.content.now found.entry.start found.entry.text.now at.0) }
-    ensures place { IfOk result (λ at. IsWhere found.entry.text.now fault.now (string_bytes at.1)) }
+    ensures line { IfOk result (λ at. HasLine fault.now input_text.entry.content.now input_text.entry.start input_text.entry.text.now at.0) }
+    ensures place { IfOk result (λ at. IsPositionMessage input_text.entry.text.now fault.now (string_bytes at.1)) }
 {
     match fault {
-        Error::NotJson => syntax_place(alloc, found),
-        Error::NotCanonical(_) => Ok((1, explain_under(alloc, task, fault, found.text)?)),
+        Error::NotJson => syntax_place(alloc, input_text),
+        Error::NotCanonical(_) => Ok((1, explain_under(alloc, task, fault, input_text.text)?)),
         Error::OutOfMemory => Ok((0, String::new(alloc))),
         _ => Ok((
-            begin_line(found) as u64,
-            explain_under(alloc, task, fault, found.text)?,
+            begin_line(input_text) as u64,
+            explain_under(alloc, task, fault, input_text.text)?,
         )),
     }
 }
 
 // Returns the line on which the text is not JSON, and the message that says where.
-fn syntax_place(alloc: Global, found: Found<'_>) -> Result<(u64, String), AllocError>
-    ensures { IfOk result (λ at. IsStop found.entry.text.now (string_bytes at.1)) }
+fn syntax_place(alloc: Global, input_text: InputText<'_>) -> Result<(u64, String), AllocError>
+    ensures { IfOk result (λ at. IsSyntaxPosition input_text.entry.text.now (string_bytes at.1)) }
 {
-    let stop = stop::Stop::of(alloc, found.text)?;
-    let stop = stop::Stop {
-        offset: found.start.saturating_add(stop.offset),
+    let stop = syntax_error::SyntaxError::of(alloc, input_text.text)?;
+    let stop = syntax_error::SyntaxError {
+        offset: input_text.start.saturating_add(stop.offset),
         ..stop
     };
     Ok((
-        stop.line(found.content) as u64,
-        stop.message(alloc, found.content)?,
+        stop.line(input_text.content) as u64,
+        stop.message(alloc, input_text.content)?,
     ))
 }
 
 // Returns the line on which a text of a sequence begins; 0 for a text that is all bytes.
-fn begin_line(found: Found<'_>) -> usize
-    ensures { result ≡ begin_line found.entry.content.now found.entry.start found.entry.text.now }
+fn begin_line(input_text: InputText<'_>) -> usize
+    ensures { result ≡ begin_line input_text.entry.content.now input_text.entry.start input_text.entry.text.now }
 {
-    if found.text.len() == found.content.len() {
+    if input_text.text.len() == input_text.content.len() {
         return 0;
     }
-    let before = &found.content[..found.start.min(found.content.len())];
+    let before = &input_text.content[..input_text.start.min(input_text.content.len())];
     1 + before.iter().filter(|byte| **byte == b'\n').count()
 }

@@ -4,7 +4,7 @@ use Rattle.std.specs.Prelude.{IsUtf8}
 use Rattle.bson.specs.TextMeaning.{HasTextMeaningBy, TextMeansBy}
 use Rattle.bson.specs.View.{bson_view, document_view}
 use Rattle.bson.specs.declared.bson.Bson.{the_lemmas}
-use Rattle.bson.specs.declared.bson.Bson.TheVariants.{Document as held}
+use Rattle.bson.specs.declared.bson.Bson.TheVariants.{Document as rejected_text}
 use Rattle.bson.specs.declared.document.Document.{Document}
 use Rattle.bson.specs.declared.extjson.key_order.KeyOrder.{KeyOrder}
 use Rattle.bson.specs.declared.extjson.key_order.KeyOrder.TheVariants.{Ascending, AsGiven}
@@ -15,24 +15,24 @@ use Rattle.bson_model.specs.Value.{Value, Pairs, document}
 use Rattle.bson_model.specs.OrderedTrees.{read_in_order}
 use Rattle.bson_model.specs.OrderedMeans.{MeansInOrder}
 use Rattle.bson_codec.specs.PackedText.{IsPackedText}
-use Rattle.bson_convert.specs.Convert.{IsRefusedIn}
-use Rattle.bson_run.specs.Encode.{Encodes, FailsAlone, FailsFor, IsBytesOf, IsUnencodedBy, IsUnencodedFor}
+use Rattle.bson_convert.specs.Convert.{IsRejectedIn}
+use Rattle.bson_run.specs.Encode.{Encodes, IsWriteErrorOf, FailsFor, IsBytesOf, IsEncodeErrorBy, IsEncodeErrorFor}
 use Rattle.bson_run.specs.LinesSteps.{Options, Error, CannotRead, NotJson, NotExtendedJson, NoBytes, OutOfMemory}
 use Rattle.bson_run.specs.LinesSteps.{CannotWrite, NotCanonical}
-use Rattle.bson_convert.specs.declared.no_bytes.NoBytes.TheVariants.{NoDocument, ZeroInKey, ZeroInRegex, TooLong}
+use Rattle.bson_convert.specs.declared.encode_error.NoBytes.TheVariants.{NoDocument, ZeroInKey, ZeroInRegex, TooLong}
 
 -- ---- a value
 
 -- a document as a value is seen as the pairs of the document
-pub document_seen : (d : Document) → bson_view (held d) ≡ document (document_view d)
+pub document_seen : (d : Document) → bson_view (rejected_text d) ≡ document (document_view d)
 document_seen d = search (rules, the_lemmas)
 
 pub same_pairs : {ps qs : Pairs} → document ps ≡ document qs → ps ≡ qs
 same_pairs h = cc
 
 -- why a document that fails has no bytes
-pub fails_for : (fault : Error) (value : Value) (ps : Pairs) → value ≡ document ps → FailsAlone fault ps
-    → IsUnencodedFor (λ v. v ≡ value) fault
+pub fails_for : (fault : Error) (value : Value) (ps : Pairs) → value ≡ document ps → IsWriteErrorOf fault ps
+    → IsEncodeErrorFor (λ v. v ≡ value) fault
 fails_for CannotRead value ps is h = h
 fails_for NotJson value ps is h = h
 fails_for (NotExtendedJson place) value ps is h = h
@@ -63,7 +63,7 @@ module _ (P : Value → Type 0) (value : Value) (h : P value) where
   fails_by : (cause : Cause) → FailsFor (λ v. v ≡ value) cause → FailsFor P cause
   fails_by cause f = record { pairs = f.pairs; meaning = by_value (document f.pairs) f.meaning; fails = f.fails }
 
-  unencoded_by : (fault : Error) → IsUnencodedFor (λ v. v ≡ value) fault → IsUnencodedFor P fault
+  unencoded_by : (fault : Error) → IsEncodeErrorFor (λ v. v ≡ value) fault → IsEncodeErrorFor P fault
   unencoded_by CannotRead f = f
   unencoded_by NotJson f = f
   unencoded_by (NotExtendedJson place) f = f
@@ -123,21 +123,21 @@ module _ (k : KeyOrder) (o : Options) (text : List ℕ) where
 
   -- ---- what gives no bytes
 
-  reported : (fault : Error) → IsUnencodedFor (HasTextMeaningBy k o.doubles text) fault → IsUnencodedBy k o fault text
-  reported CannotRead f = f
-  reported NotJson f = absurd f
-  reported (NotExtendedJson place) f = absurd f
-  reported (NoBytes why) f = f
-  reported (NotCanonical column) f = f
-  reported OutOfMemory f = tt
-  reported CannotWrite f = f
+  diagnostics_before : (fault : Error) → IsEncodeErrorFor (HasTextMeaningBy k o.doubles text) fault → IsEncodeErrorBy k o fault text
+  diagnostics_before CannotRead f = f
+  diagnostics_before NotJson f = absurd f
+  diagnostics_before (NotExtendedJson place) f = absurd f
+  diagnostics_before (NoBytes why) f = f
+  diagnostics_before (NotCanonical column) f = f
+  diagnostics_before OutOfMemory f = tt
+  diagnostics_before CannotWrite f = f
 
   pub unencoded : (value : Value) (fault : Error) → HasTextMeaningBy k o.doubles text value
-      → IsUnencodedFor (λ v. v ≡ value) fault → IsUnencodedBy k o fault text
-  unencoded value fault h f = reported fault (unencoded_by (HasTextMeaningBy k o.doubles text) value h fault f)
+      → IsEncodeErrorFor (λ v. v ≡ value) fault → IsEncodeErrorBy k o fault text
+  unencoded value fault h f = diagnostics_before fault (unencoded_by (HasTextMeaningBy k o.doubles text) value h fault f)
 
   -- a text that means nothing
-  pub unread : (fault : Error) → IsRefusedIn o fault text → IsUnencodedBy k o fault text
+  pub unread : (fault : Error) → IsRejectedIn o fault text → IsEncodeErrorBy k o fault text
   unread CannotRead f = f
   unread NotJson f = f
   unread (NotExtendedJson place) f = f

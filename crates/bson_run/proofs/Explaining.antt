@@ -14,34 +14,34 @@ use Rattle.bson_tree.specs.Place.{path_text, path_of}
 use Rattle.bson_tree.specs.declared.place.Place.{Place}
 use Rattle.bson_convert.specs.declared.error.Error.{Error}
 use Rattle.bson_convert.specs.declared.error.Error.TheVariants as errors
-use Rattle.bson_run.specs.Place.{IsExplanation, IsOfNoText, IsWhere, at_difference, at_path, column_at, cut_at, shown, shown_words}
-use Rattle.bson_run.specs.Place.{words_at}
+use Rattle.bson_run.specs.ErrorMessages.{IsExplanation, IsNotTextError, IsPositionMessage, column_message, path_message, column_at, truncated, escaped_char, escaped_message}
+use Rattle.bson_run.specs.ErrorMessages.{explanation_message}
 use Rattle.bson_run.specs.declared.explain.Explanation.{Explanation}
 use Rattle.bson_run.specs.declared.explain.Explanation.TheVariants as explained
 
-at_none : (path : List ℕ) → length path ≡ 0 → at_path path ≡ []
+at_none : (path : List ℕ) → length path ≡ 0 → path_message path ≡ []
 at_none [] h = refl
 at_none (x ∷ xs) h = absurd (omega arith)
 
-at_some : (path : List ℕ) → 0 < length path → at_path path ≡ codes " at " ++ path
+at_some : (path : List ℕ) → 0 < length path → path_message path ≡ codes " at " ++ path
 at_some [] h = absurd (omega arith)
 at_some (x ∷ xs) h = refl
 
-pub placed_bare : (place : Place) (path reason words : List ℕ) → path ≡ shown_words (path_text (path_of place)) → length path ≡ 0
-    → words ≡ codes " (" ++ reason ++ codes ")"
-    → words ≡ at_path (shown_words (path_text (path_of place))) ++ codes " (" ++ reason ++ codes ")"
-placed_bare place path reason words e none is =
-    is ∙ ap (λ p. p ++ codes " (" ++ reason ++ codes ")") (sym (at_none path none) ∙ ap at_path e)
+pub placed_bare : (place : Place) (path reason full_message : List ℕ) → path ≡ escaped_message (path_text (path_of place)) → length path ≡ 0
+    → full_message ≡ codes " (" ++ reason ++ codes ")"
+    → full_message ≡ path_message (escaped_message (path_text (path_of place))) ++ codes " (" ++ reason ++ codes ")"
+placed_bare place path reason full_message e none is =
+    is ∙ ap (λ p. p ++ codes " (" ++ reason ++ codes ")") (sym (at_none path none) ∙ ap path_message e)
 
-pub placed_at : (place : Place) (path reason words : List ℕ) → path ≡ shown_words (path_text (path_of place)) → 0 < length path
-    → words ≡ codes " at " ++ path ++ codes " (" ++ reason ++ codes ")"
-    → words ≡ at_path (shown_words (path_text (path_of place))) ++ codes " (" ++ reason ++ codes ")"
-placed_at place path reason words e some is =
-    is ∙ ap (λ p. p ++ codes " (" ++ reason ++ codes ")") (sym (at_some path some) ∙ ap at_path e)
+pub placed_at : (place : Place) (path reason full_message : List ℕ) → path ≡ escaped_message (path_text (path_of place)) → 0 < length path
+    → full_message ≡ codes " at " ++ path ++ codes " (" ++ reason ++ codes ")"
+    → full_message ≡ path_message (escaped_message (path_text (path_of place))) ++ codes " (" ++ reason ++ codes ")"
+placed_at place path reason full_message e some is =
+    is ∙ ap (λ p. p ++ codes " (" ++ reason ++ codes ")") (sym (at_some path some) ∙ ap path_message e)
 
 -- ---- an explanation
 
-other_where : (text : List ℕ) (fault : Error) → IsOfNoText fault → IsWhere text fault []
+other_where : (text : List ℕ) (fault : Error) → IsNotTextError fault → IsPositionMessage text fault []
 other_where text errors.CannotRead h = refl
 other_where text errors.NotJson h = absurd h
 other_where text (errors.NotExtendedJson place) h = absurd h
@@ -51,17 +51,17 @@ other_where text errors.OutOfMemory h = refl
 other_where text errors.CannotWrite h = refl
 
 -- the message of an explanation says where the error is
-pub where_from : (text : List ℕ) (fault : Error) (e : Explanation) → IsExplanation text fault e → IsWhere text fault (words_at text e)
+pub where_from : (text : List ℕ) (fault : Error) (e : Explanation) → IsExplanation text fault e → IsPositionMessage text fault (explanation_message text e)
 where_from text fault (explained.Syntax stop) h =
-    subst (λ (f : Error). IsWhere text f (words_at text (explained.Syntax stop))) (sym h.0) (column_at stop.offset text, stop.rule, h.1, refl)
+    subst (λ (f : Error). IsPositionMessage text f (explanation_message text (explained.Syntax stop))) (sym h.0) (column_at stop.offset text, stop.rule, h.1, refl)
 where_from text fault (explained.Value place reason) h =
-    subst (λ (f : Error). IsWhere text f (words_at text (explained.Value place reason))) (sym h.0) (
+    subst (λ (f : Error). IsPositionMessage text f (explanation_message text (explained.Value place reason))) (sym h.0) (
       h.1.0,
       h.1.1,
-      ap (λ t. at_path (shown_words (path_text (path_of place.now))) ++ codes " (" ++ t ++ codes ")") h.1.2,
+      ap (λ t. path_message (escaped_message (path_text (path_of place.now))) ++ codes " (" ++ t ++ codes ")") h.1.2,
     )
 where_from text fault (explained.Difference column) h =
-    subst (λ (f : Error). IsWhere text f (at_difference column)) (sym h) refl
+    subst (λ (f : Error). IsPositionMessage text f (column_message column)) (sym h) refl
 where_from text fault explained.Other h = other_where text fault h
 
 -- ---- cut and escaped messages
@@ -73,7 +73,7 @@ added (Err x) old new text wanted e is = tt
 
 -- the escape of a control character
 pub shown_control : (c : ℕ) → c < 256 → (c == 0x2028) ≡ false → (c == 0x2029) ≡ false → is_control c ≡ true
-    → codes "\\u00" ++ padded_integral (format_spec 32 0 4 2 (2 ^ 64 - 1)) false [] (digits 16 false c) ≡ shown c
+    → codes "\\u00" ++ padded_integral (format_spec 32 0 4 2 (2 ^ 64 - 1)) false [] (digits 16 false c) ≡ escaped_char c
 shown_control c small line paragraph control =
     rw (line, paragraph, control) (ap (λ ds. codes "\\u00" ++ ds) (hex_byte false c small))
 
@@ -91,9 +91,9 @@ are_more None cs n is = elim (slice_get_cases cs n).1 [
   | inr h ↦ sym (le-ltb n (length cs) h.0)
 ]
 
-pub cut_there : (most : ℕ) (tell : ℕ → List ℕ) (words said more : List ℕ) (next : Option ℕ)
-    → said ≡ flat_map tell (take most (chars words)) → option_map (λ c. c) next ≡ slice_get (chars words) most
-    → more ≡ said ++ cond (is_some next) (codes "..") [] → more ≡ cut_at most tell words
-cut_there most tell words said more next e at is =
+pub cut_there : (max_chars : ℕ) (add_diagnostic : ℕ → List ℕ) (full_message said more : List ℕ) (next : Option ℕ)
+    → said ≡ flat_map add_diagnostic (take max_chars (chars full_message)) → option_map (λ c. c) next ≡ slice_get (chars full_message) max_chars
+    → more ≡ said ++ cond (is_some next) (codes "..") [] → more ≡ truncated max_chars add_diagnostic full_message
+cut_there max_chars add_diagnostic full_message said more next e at is =
     is ∙ ap (λ s. s ++ cond (is_some next) (codes "..") []) e
-    ∙ ap (λ b. flat_map tell (take most (chars words)) ++ cond b (codes "..") []) (are_more next (chars words) most at)
+    ∙ ap (λ b. flat_map add_diagnostic (take max_chars (chars full_message)) ++ cond b (codes "..") []) (are_more next (chars full_message) max_chars at)

@@ -15,7 +15,7 @@ use Rattle.json.proofs.Printed.Tokens.{tokens-print_spaced}
 use Rattle.json.proofs.Printed.Utf8.{IsUtf8-are_ascii}
 use Rattle.json.proofs.Printed.Trees.{ArePrintable-json_tokens}
 use Rattle.json.proofs.Unique.Spelling.{value-json_tokens_back}
-use Rattle.bson_run.specs.Indent.{line, gap, stands, leaves, spaced, indented, HasSameTokens, last_of, IsTokenLaidOut, IsWhole}
+use Rattle.bson_run.specs.Indent.{line, white_space, indent_of_token, indent_after, with_white_space, indented, HasSameTokens, last_of, IsTokenWritten, IsWholeLayout}
 use Rattle.bson_run.specs.declared.indent.Layout.{Layout}
 
 pub print_one : (t : Token) → print (t ∷ []) ≡ token_text t
@@ -51,32 +51,32 @@ regrouped : (out comma between text rest : List ℕ)
     → (out ++ (comma ++ (between ++ text))) ++ rest ≡ out ++ (comma ++ (between ++ (text ++ rest)))
 regrouped out comma between text rest = simp append_assoc
 
-pub one_more : (n : ℕ) (all left ts : List Token) (t : Token) (s u : Layout) → left ≡ t ∷ ts → (w : IsWhole n all left s)
-    → IsTokenLaidOut n w.indent s u t → IsWhole n all ts u
-unfolding print_spaced spaced
+pub one_more : (n : ℕ) (all left ts : List Token) (t : Token) (s u : Layout) → left ≡ t ∷ ts → (w : IsWholeLayout n all left s)
+    → IsTokenWritten n w.indent s u t → IsWholeLayout n all ts u
+unfolding print_spaced with_white_space
 one_more n all left ts t s u e w l =
-    let more = λ (last : Last). spaced n last (leaves n t w.indent) ts in
+    let more = λ (last : Last). with_white_space n last (indent_after n t w.indent) ts in
     let last = last_of s.before in
     record {
-      indent = leaves n t w.indent;
+      indent = indent_after n t w.indent;
       at = l.at;
       whole = ap (λ out. out ++ print_spaced (is_value (last_of u.before)) (more (last_of u.before))) l.out
-          ∙ ap (λ now. (s.out.items ++ (separator (is_value last) t ++ (gap last (begins t) (stands n t w.indent)
+          ∙ ap (λ now. (s.out.items ++ (separator (is_value last) t ++ (white_space last (begins t) (indent_of_token n t w.indent)
           ++ token_text t))) ++ print_spaced (is_value now) (more now)) l.before
-          ∙ regrouped s.out.items (separator (is_value last) t) (gap last (begins t) (stands n t w.indent)) (token_text t)
+          ∙ regrouped s.out.items (separator (is_value last) t) (white_space last (begins t) (indent_of_token n t w.indent)) (token_text t)
           (print_spaced (is_value (after t 0).0) (more (after t 0).0))
-          ∙ ap (λ b. s.out.items ++ (separator (is_value last) t ++ (gap last (begins t) (stands n t w.indent)
+          ∙ ap (λ b. s.out.items ++ (separator (is_value last) t ++ (white_space last (begins t) (indent_of_token n t w.indent)
           ++ (token_text t ++ print_spaced b (more (after t 0).0))))) (ends_value t)
-          ∙ ap (λ ts. s.out.items ++ print_spaced (is_value last) (spaced n last w.indent ts)) (sym e)
+          ∙ ap (λ ts. s.out.items ++ print_spaced (is_value last) (with_white_space n last w.indent ts)) (sym e)
           ∙ w.whole;
     }
 
-pub all_laid : (n : ℕ) (all left : List Token) (s : Layout) → left ≡ [] → IsWhole n all left s
+pub all_laid : (n : ℕ) (all left : List Token) (s : Layout) → left ≡ [] → IsWholeLayout n all left s
     → s.out.items ≡ indented n all
-unfolding print_spaced spaced
+unfolding print_spaced with_white_space
 all_laid n all left s e w =
     sym (append-nil s.out.items)
-    ∙ ap (λ ts. s.out.items ++ print_spaced (is_value (last_of s.before)) (spaced n (last_of s.before) w.indent ts)) (sym e)
+    ∙ ap (λ ts. s.out.items ++ print_spaced (is_value (last_of s.before)) (with_white_space n (last_of s.before) w.indent ts)) (sym e)
     ∙ w.whole
 
 -- ---- UTF-8
@@ -88,7 +88,7 @@ spaces_utf8 (suc n) = IsUtf8-append (32 ∷ []) (replicate n 32) (IsUtf8-are_asc
 line_utf8 : (indent : ℕ) → IsUtf8 (line indent)
 line_utf8 indent = IsUtf8-append (10 ∷ []) (replicate indent 32) (IsUtf8-are_ascii (10 ∷ []) refl) (spaces_utf8 indent)
 
-gap_utf8 : (last : Last) (begins : Bool) (indent : ℕ) → IsUtf8 (gap last begins indent)
+gap_utf8 : (last : Last) (begins : Bool) (indent : ℕ) → IsUtf8 (white_space last begins indent)
 gap_utf8 nothing begins indent = IsUtf8-nil
 gap_utf8 bracket true indent = line_utf8 indent
 gap_utf8 bracket false indent = IsUtf8-nil
@@ -100,16 +100,16 @@ comma_utf8 true = IsUtf8-are_ascii (44 ∷ []) refl
 comma_utf8 false = IsUtf8-nil
 
 -- a token more
-pub utf8_more : (n indent : ℕ) (s u : Layout) (t : Token) → IsTokenLaidOut n indent s u t → IsUtf8 (token_text t)
+pub utf8_more : (n indent : ℕ) (s u : Layout) (t : Token) → IsTokenWritten n indent s u t → IsUtf8 (token_text t)
     → IsUtf8 s.out.items → IsUtf8 u.out.items
 utf8_more n indent s u t l text before =
     let last = last_of s.before in
     let comma = separator (is_value last) t in
-    let between = gap last (begins t) (stands n t indent) in
+    let between = white_space last (begins t) (indent_of_token n t indent) in
     subst IsUtf8 (sym l.out)
     (IsUtf8-append s.out.items (comma ++ (between ++ token_text t)) before
     (IsUtf8-append comma (between ++ token_text t) (comma_utf8 (is_value last && begins t))
-    (IsUtf8-append between (token_text t) (gap_utf8 last (begins t) (stands n t indent)) text)))
+    (IsUtf8-append between (token_text t) (gap_utf8 last (begins t) (indent_of_token n t indent)) text)))
 
 pub joined : (out comma between text : List ℕ) → ((out ++ comma) ++ between) ++ text ≡ out ++ (comma ++ (between ++ text))
 joined out comma between text = simp append_assoc
@@ -123,22 +123,22 @@ spaces_are_gap (suc k) = (inl refl, spaces_are_gap k)
 line_is_gap : (indent : ℕ) → IsGap (line indent)
 line_is_gap indent = (inr refl, spaces_are_gap indent)
 
-gap_is_gap : (last : Last) (b : Bool) (indent : ℕ) → IsGap (gap last b indent)
+gap_is_gap : (last : Last) (b : Bool) (indent : ℕ) → IsGap (white_space last b indent)
 gap_is_gap nothing b indent = tt
 gap_is_gap bracket true indent = line_is_gap indent
 gap_is_gap bracket false indent = tt
 gap_is_gap name b indent = (inl refl, tt)
 gap_is_gap value b indent = line_is_gap indent
 
-spaced_gaps : (n : ℕ) (last : Last) (indent : ℕ) (ts : List Token) → AreGaps (spaced n last indent ts)
-unfolding spaced
+spaced_gaps : (n : ℕ) (last : Last) (indent : ℕ) (ts : List Token) → AreGaps (with_white_space n last indent ts)
+unfolding with_white_space
 spaced_gaps n last indent [] = tt
-spaced_gaps n last indent (t ∷ ts) = (gap_is_gap last (begins t) (stands n t indent), spaced_gaps n (after t 0).0 (leaves n t indent) ts)
+spaced_gaps n last indent (t ∷ ts) = (gap_is_gap last (begins t) (indent_of_token n t indent), spaced_gaps n (after t 0).0 (indent_after n t indent) ts)
 
-spaced_tokens : (n : ℕ) (last : Last) (indent : ℕ) (ts : List Token) → map (λ p. p.1) (spaced n last indent ts) ≡ ts
-unfolding spaced
+spaced_tokens : (n : ℕ) (last : Last) (indent : ℕ) (ts : List Token) → map (λ p. p.1) (with_white_space n last indent ts) ≡ ts
+unfolding with_white_space
 spaced_tokens n last indent [] = refl
-spaced_tokens n last indent (t ∷ ts) = ap (λ l. t ∷ l) (spaced_tokens n (after t 0).0 (leaves n t indent) ts)
+spaced_tokens n last indent (t ∷ ts) = ap (λ l. t ∷ l) (spaced_tokens n (after t 0).0 (indent_after n t indent) ts)
 
 printable : (text : List ℕ) (depth : ℕ) (tree : Json) → json_value depth (tokens text) ≡ Some (tree, [])
     → ArePrintable (tokens text)
@@ -146,9 +146,9 @@ printable text depth tree h =
     subst ArePrintable (sym (value-json_tokens_back depth (tokens text) [] tree h ∙ append-nil (json_tokens tree)))
     (ArePrintable-json_tokens tree (value-HasNumbers depth (tokens text) [] tree (ArePrintableOrBad-tokens text) h))
 
-pub same_tokens : (n : ℕ) (text laid : List ℕ) → laid ≡ indented n (tokens text) → HasSameTokens text laid
-same_tokens n text laid e = λ depth tree h.
+pub same_tokens : (n : ℕ) (text indented_text : List ℕ) → indented_text ≡ indented n (tokens text) → HasSameTokens text indented_text
+same_tokens n text indented_text e = λ depth tree h.
     let ts = tokens text in
     let back = spaced_tokens n nothing 0 ts in
-    ap tokens e ∙ tokens-print_spaced (spaced n nothing 0 ts) (spaced_gaps n nothing 0 ts)
+    ap tokens e ∙ tokens-print_spaced (with_white_space n nothing 0 ts) (spaced_gaps n nothing 0 ts)
     (subst ArePrintable (sym back) (printable text depth tree h)) ∙ back

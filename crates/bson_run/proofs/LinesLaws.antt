@@ -7,36 +7,36 @@ use Rattle.std.proofs.lemmas.List.{take_rest}
 use Rattle.std.proofs.lemmas.List.Elements.{All-append, All-head, All-tail}
 use Rattle.std.proofs.lemmas.Str.{IsUtf8-append}
 use Rattle.std.specs.Prelude.{IsUtf8}
-use Rattle.bson_run.specs.Lines.{lines, onto_first, text_held, line_text, IsDiagnostic, IsBlank, IsBadLineIn, WritesIn, WritesText, GivesIn}
-use Rattle.bson_run.specs.Lines.{blank, written, passed_over, IsStoppedIn, IsStoppedAtIn}
-use Rattle.bson_run.specs.LinesSteps.{Options, HasNoNewline, IsJudged, IsReported, HaveSameOutcomes, TakesLine}
-use Rattle.bson_run.specs.LinesSteps.{Progress, Takes, Ends, Reached, Stopped, StopsWithin, StopsLast}
+use Rattle.bson_run.specs.Lines.{lines, prepend_to_first_line, buffered_text, line_text, IsDiagnostic, IsBlank, IsRejectedLineIn, WritesIn, WritesText, HaveOutcomesIn}
+use Rattle.bson_run.specs.Lines.{blank, written, skipped, IsStoppedIn, IsStoppedAtIn}
+use Rattle.bson_run.specs.LinesSteps.{Options, HasNoNewline, IsConversionFailure, IsDiagnosticAppended, HaveSameResults, EndsLine}
+use Rattle.bson_run.specs.LinesSteps.{LineProgress, ReadsBytes, EndsLastLine, Reached, Stopped, StopsInBytes, StopsAtLastLine}
 use Rattle.bson_run.specs.LinesSteps.{Error, CannotRead, NotJson, NotExtendedJson, NoBytes, OutOfMemory}
-use Rattle.bson_run.specs.LinesSteps.{CannotWrite, Collected, NotCanonical, OnRefusal, Task}
-use Rattle.bson_run.specs.declared.order.OnRefusal.TheVariants.{Stop}
+use Rattle.bson_run.specs.LinesSteps.{CannotWrite, LineRunState, NotCanonical, OnRefusal, Task}
+use Rattle.bson_run.specs.declared.task.OnRefusal.TheVariants.{Stop}
 
 -- a newline ends the bytes before it
 lines_ended : (line more : List ℕ) → HasNoNewline line → lines (line ++ 10 ∷ more) ≡ line ∷ lines more
 lines_ended [] more h = refl
 lines_ended (x ∷ xs) more h =
-    ap (λ b. cond b ([] ∷ lines (xs ++ 10 ∷ more)) (onto_first x (lines (xs ++ 10 ∷ more))))
+    ap (λ b. cond b ([] ∷ lines (xs ++ 10 ∷ more)) (prepend_to_first_line x (lines (xs ++ 10 ∷ more))))
     (ne_eqb x 10 (All-head (λ y. y ≢ 10) x xs h))
-    ∙ ap (onto_first x) (lines_ended xs more (All-tail (λ y. y ≢ 10) x xs h))
+    ∙ ap (prepend_to_first_line x) (lines_ended xs more (All-tail (λ y. y ≢ 10) x xs h))
 
 -- a last line that no newline ends
 lines_last : (line : List ℕ) → HasNoNewline line → 0 < length line → lines line ≡ line ∷ []
 lines_last [] h some = absurd (omega arith)
-lines_last (x ∷ []) h some = ap (λ b. cond b ([] ∷ []) (onto_first x [])) (ne_eqb x 10 (All-head (λ y. y ≢ 10) x [] h))
+lines_last (x ∷ []) h some = ap (λ b. cond b ([] ∷ []) (prepend_to_first_line x [])) (ne_eqb x 10 (All-head (λ y. y ≢ 10) x [] h))
 lines_last (x ∷ y ∷ xs) h some =
-    ap (λ b. cond b ([] ∷ lines (y ∷ xs)) (onto_first x (lines (y ∷ xs))))
+    ap (λ b. cond b ([] ∷ lines (y ∷ xs)) (prepend_to_first_line x (lines (y ∷ xs))))
     (ne_eqb x 10 (All-head (λ z. z ≢ 10) x (y ∷ xs) h))
-    ∙ ap (onto_first x) (lines_last (y ∷ xs) (All-tail (λ z. z ≢ 10) x (y ∷ xs) h) (omega arith))
+    ∙ ap (prepend_to_first_line x) (lines_last (y ∷ xs) (All-tail (λ z. z ≢ 10) x (y ∷ xs) h) (omega arith))
 
 pub open_nil : HasNoNewline []
 open_nil k d h = absurd (omega arith)
 
-pub judged_bad : (o : Options) (task : Task) (fault : Error) (text : List ℕ) → IsJudged o task fault text
-    → fault ≢ OutOfMemory → IsBadLineIn o task fault text
+pub judged_bad : (o : Options) (task : Task) (fault : Error) (text : List ℕ) → IsConversionFailure o task fault text
+    → fault ≢ OutOfMemory → IsRejectedLineIn o task fault text
 judged_bad o task CannotRead text h other = h
 judged_bad o task NotJson text h other = h
 judged_bad o task (NotExtendedJson place) text h other = h
@@ -45,25 +45,25 @@ judged_bad o task (NotCanonical column) text h other = h
 judged_bad o task OutOfMemory text h other = absurd (other refl)
 judged_bad o task CannotWrite text h other = h
 
-stopped_at : (o : Options) (task : Task) (on_refusal : OnRefusal) (fault : Error) (held : List ℕ) (n : ℕ) (line : List ℕ)
-    (others : List (List ℕ)) → held ≡ line_text n line → IsStoppedIn o task on_refusal fault held
-    → IsStoppedAtIn o task on_refusal fault held n (line ∷ others)
-stopped_at o task on_refusal CannotRead held n line others is h = h
-stopped_at o task on_refusal NotJson held n line others is h = (is, h)
-stopped_at o task on_refusal (NotExtendedJson place) held n line others is h = (is, h)
-stopped_at o task on_refusal (NoBytes why) held n line others is h = (is, h)
-stopped_at o task on_refusal (NotCanonical column) held n line others is h = (is, h)
-stopped_at o task on_refusal OutOfMemory held n line others is h = h
-stopped_at o task on_refusal CannotWrite held n line others is h = h
+stopped_at : (o : Options) (task : Task) (on_refusal : OnRefusal) (fault : Error) (rejected_text : List ℕ) (n : ℕ) (line : List ℕ)
+    (others : List (List ℕ)) → rejected_text ≡ line_text n line → IsStoppedIn o task on_refusal fault rejected_text
+    → IsStoppedAtIn o task on_refusal fault rejected_text n (line ∷ others)
+stopped_at o task on_refusal CannotRead rejected_text n line others is h = h
+stopped_at o task on_refusal NotJson rejected_text n line others is h = (is, h)
+stopped_at o task on_refusal (NotExtendedJson place) rejected_text n line others is h = (is, h)
+stopped_at o task on_refusal (NoBytes why) rejected_text n line others is h = (is, h)
+stopped_at o task on_refusal (NotCanonical column) rejected_text n line others is h = (is, h)
+stopped_at o task on_refusal OutOfMemory rejected_text n line others is h = h
+stopped_at o task on_refusal CannotWrite rejected_text n line others is h = h
 
 -- a refused text stops the run, where refusals do
-pub refused_stops : (o : Options) (task : Task) (on_refusal : OnRefusal) (fault e : Error) (text : List ℕ) → IsJudged o task fault text
+pub refused_stops : (o : Options) (task : Task) (on_refusal : OnRefusal) (fault e : Error) (text : List ℕ) → IsConversionFailure o task fault text
     → (e ≡ OutOfMemory) ⊎ ((on_refusal ≡ Stop) × (e ≡ fault)) → IsStoppedIn o task on_refusal e text
 refused_stops o task on_refusal fault e text h (inl is) = subst (λ f. IsStoppedIn o task on_refusal f text) (sym is) tt
 refused_stops o task on_refusal fault e text h (inr p) =
     subst (λ f. IsStoppedIn o task on_refusal f text) (sym p.1) (of_fault fault h)
   where
-    of_fault : (f : Error) → IsJudged o task f text → IsStoppedIn o task on_refusal f text
+    of_fault : (f : Error) → IsConversionFailure o task f text → IsStoppedIn o task on_refusal f text
     of_fault CannotRead h = tt
     of_fault NotJson h = (p.0, h)
     of_fault (NotExtendedJson place) h = (p.0, h)
@@ -76,14 +76,14 @@ lines_none : (line : List ℕ) → length line ≡ 0 → lines line ≡ []
 lines_none [] none = refl
 lines_none (x ∷ xs) none = absurd (omega arith)
 
-by_memory : (o : Options) (task : Task) (on_refusal : OnRefusal) (fault : Error) (held : List ℕ) (n : ℕ)
-    (others : List (List ℕ)) → fault ≡ OutOfMemory → IsStoppedAtIn o task on_refusal fault held n others
-by_memory o task on_refusal fault held n others e =
-    subst (λ f. IsStoppedAtIn o task on_refusal f held n others) (sym e) tt
+by_memory : (o : Options) (task : Task) (on_refusal : OnRefusal) (fault : Error) (rejected_text : List ℕ) (n : ℕ)
+    (others : List (List ℕ)) → fault ≡ OutOfMemory → IsStoppedAtIn o task on_refusal fault rejected_text n others
+by_memory o task on_refusal fault rejected_text n others e =
+    subst (λ f. IsStoppedAtIn o task on_refusal f rejected_text n others) (sym e) tt
 
 -- the text of a line that is still buffered
-same_text : (s t : Collected) → HaveSameOutcomes s t → t.line ≡ s.line → text_held t ≡ text_held s
-same_text s t same held = ap (λ n. line_text n t.line.items) same.lines ∙ ap (λ (v : Vec ℕ Global). line_text s.lines v.items) held
+same_text : (s t : LineRunState) → HaveSameResults s t → t.line ≡ s.line → buffered_text t ≡ buffered_text s
+same_text s t same rejected_text = ap (λ n. line_text n t.line.items) same.lines ∙ ap (λ (v : Vec ℕ Global). line_text s.lines v.items) rejected_text
 
 -- a newline among bytes
 at_newline : (rest : List ℕ) (n : ℕ) → n < length rest → get_or rest n 0 ≡ 10
@@ -124,214 +124,214 @@ oks (Err e) p f = tt
 module _ {o : Options} {task : Task} {on_refusal : OnRefusal} where
   -- ---- what a line gives
 
-  pub blank_taken : (s t : Collected) → t.line.items ≡ [] → t.lines ≡ s.lines + 1 → t.output.items ≡ s.output.items
-      → t.reported.items ≡ s.reported.items → t.refused ≡ s.refused
-      → IsBlank (line_text s.lines s.line.items) → TakesLine o task on_refusal s t
-  blank_taken s t line number output reported refused h = record {
+  pub blank_taken : (s t : LineRunState) → t.line.items ≡ [] → t.lines ≡ s.lines + 1 → t.output.items ≡ s.output.items
+      → t.diagnostics.items ≡ s.diagnostics.items → t.refused ≡ s.refused
+      → IsBlank (line_text s.lines s.line.items) → EndsLine o task on_refusal s t
+  blank_taken s t line number output diagnostics_before refused h = record {
     line = line;
     lines = number;
     outcomes =
-        λ before written verdicts e p. rw (output, reported, refused) (record {
+        λ before written diagnostics e p. rw (output, diagnostics_before, refused) (record {
           outcomes = blank s.line.items p.outcomes (subst (λ n. IsBlank (line_text n s.line.items)) e h);
           utf8 = p.utf8;
           diagnostic_utf8 = p.diagnostic_utf8;
         });
   }
 
-  pub written_taken : (s t : Collected) (more : List ℕ) → t.line.items ≡ [] → t.lines ≡ s.lines + 1
-      → t.output.items ≡ s.output.items ++ more → t.reported.items ≡ s.reported.items → t.refused ≡ s.refused
+  pub written_taken : (s t : LineRunState) (more : List ℕ) → t.line.items ≡ [] → t.lines ≡ s.lines + 1
+      → t.output.items ≡ s.output.items ++ more → t.diagnostics.items ≡ s.diagnostics.items → t.refused ≡ s.refused
       → WritesIn o task (line_text s.lines s.line.items) more → (WritesText task → IsUtf8 more)
-      → TakesLine o task on_refusal s t
-  written_taken s t more line number grown reported refused h utf8 = record {
+      → EndsLine o task on_refusal s t
+  written_taken s t more line number grown diagnostics_before refused h utf8 = record {
     line = line;
     lines = number;
     outcomes =
-        λ before output verdicts e p. rw (grown, reported, refused, ← append_assoc output s.output.items more) (record {
+        λ before output diagnostics e p. rw (grown, diagnostics_before, refused, ← append_assoc output s.output.items more) (record {
           outcomes = written s.line.items more p.outcomes (subst (λ n. WritesIn o task (line_text n s.line.items) more) e h);
           utf8 = λ w. IsUtf8-append (output ++ s.output.items) more (p.utf8 w) (utf8 w);
           diagnostic_utf8 = p.diagnostic_utf8;
         });
   }
 
-  pub told_taken : (s t : Collected) (fault : Error) → t.line.items ≡ [] → t.lines ≡ s.lines + 1
+  pub told_taken : (s t : LineRunState) (fault : Error) → t.line.items ≡ [] → t.lines ≡ s.lines + 1
       → t.output.items ≡ s.output.items → t.refused ≡ s.refused + 1 → on_refusal ≢ Stop
-      → IsBadLineIn o task fault (line_text s.lines s.line.items)
-      → IsReported o task (s.lines + 1) fault (line_text s.lines s.line.items) s.reported.items t.reported.items
-      → TakesLine o task on_refusal s t
-  told_taken s t fault line number output refused goes h reported = record {
+      → IsRejectedLineIn o task fault (line_text s.lines s.line.items)
+      → IsDiagnosticAppended o task (s.lines + 1) fault (line_text s.lines s.line.items) s.diagnostics.items t.diagnostics.items
+      → EndsLine o task on_refusal s t
+  told_taken s t fault line number output refused goes h diagnostics_before = record {
     line = line;
     lines = number;
-    outcomes = λ before written verdicts e p.
-        rw (output, reported.2, refused, ← append_assoc verdicts s.reported.items reported.0) (record {
-          outcomes = passed_over s.line.items fault reported.0 p.outcomes goes
-              (subst (λ n. IsBadLineIn o task fault (line_text n s.line.items)) e h)
-              (subst (λ n. IsDiagnostic (n + 1) fault (line_text n s.line.items) reported.0) e (reported.1 h));
+    outcomes = λ before written diagnostics e p.
+        rw (output, diagnostics_before.2, refused, ← append_assoc diagnostics s.diagnostics.items diagnostics_before.0) (record {
+          outcomes = skipped s.line.items fault diagnostics_before.0 p.outcomes goes
+              (subst (λ n. IsRejectedLineIn o task fault (line_text n s.line.items)) e h)
+              (subst (λ n. IsDiagnostic (n + 1) fault (line_text n s.line.items) diagnostics_before.0) e (diagnostics_before.1 h));
           utf8 = p.utf8;
-          diagnostic_utf8 = IsUtf8-append (verdicts ++ s.reported.items) reported.0 p.diagnostic_utf8 reported.3;
+          diagnostic_utf8 = IsUtf8-append (diagnostics ++ s.diagnostics.items) diagnostics_before.0 p.diagnostic_utf8 diagnostics_before.3;
         });
   }
 
   -- ---- taking bytes
 
-  pub take_nothing : (s : Collected) → Takes o task on_refusal [] s s
-  take_nothing s before output reported p =
-      subst (λ l. Progress o task on_refusal l output reported s) (sym (append-nil before)) p
+  pub take_nothing : (s : LineRunState) → ReadsBytes o task on_refusal [] s s
+  take_nothing s before output diagnostics_before p =
+      subst (λ l. LineProgress o task on_refusal l output diagnostics_before s) (sym (append-nil before)) p
 
-  pub take_more : (xs ys : List ℕ) (s t u : Collected) → Takes o task on_refusal xs s t → Takes o task on_refusal ys t u
-      → Takes o task on_refusal (xs ++ ys) s u
-  take_more xs ys s t u f g before output reported p =
-      subst (λ l. Progress o task on_refusal l output reported u) (append_assoc before xs ys)
-      (g (before ++ xs) output reported (f before output reported p))
+  pub take_more : (xs ys : List ℕ) (s t u : LineRunState) → ReadsBytes o task on_refusal xs s t → ReadsBytes o task on_refusal ys t u
+      → ReadsBytes o task on_refusal (xs ++ ys) s u
+  take_more xs ys s t u f g before output diagnostics_before p =
+      subst (λ l. LineProgress o task on_refusal l output diagnostics_before u) (append_assoc before xs ys)
+      (g (before ++ xs) output diagnostics_before (f before output diagnostics_before p))
 
   -- some bytes of the line
-  pub span_taken : (span : List ℕ) (s t : Collected) → HasNoNewline span → t.line.items ≡ s.line.items ++ span
-      → HaveSameOutcomes s t → Takes o task on_refusal span s t
-  span_taken span s t h e same before output reported p = record {
+  pub span_taken : (span : List ℕ) (s t : LineRunState) → HasNoNewline span → t.line.items ≡ s.line.items ++ span
+      → HaveSameResults s t → ReadsBytes o task on_refusal span s t
+  span_taken span s t h e same before output diagnostics_before p = record {
     done = p.done;
     whole = λ more. ap lines (append_assoc before span more) ∙ p.whole (span ++ more)
         ∙ ap (λ l. p.done ++ lines l) (sym (append_assoc s.line.items span more) ∙ ap (λ l. l ++ more) (sym e));
-    unbroken = subst HasNoNewline (sym e) (open_both s.line.items span p.unbroken h);
+    has_no_newline = subst HasNoNewline (sym e) (open_both s.line.items span p.has_no_newline h);
     counted = same.lines ∙ p.counted;
-    outcomes = rw (same.output, same.reported, same.refused) p.outcomes;
+    outcomes = rw (same.output, same.diagnostics_before, same.refused) p.outcomes;
   }
     where
       open_both : (xs ys : List ℕ) → HasNoNewline xs → HasNoNewline ys → HasNoNewline (xs ++ ys)
       open_both xs ys f g = All-append (λ y. y ≢ 10) xs ys f g
 
   -- the newline that ends it
-  pub newline_taken : (s t : Collected) → TakesLine o task on_refusal s t → Takes o task on_refusal (10 ∷ []) s t
-  newline_taken s t taken before output reported p = record {
+  pub newline_taken : (s t : LineRunState) → EndsLine o task on_refusal s t → ReadsBytes o task on_refusal (10 ∷ []) s t
+  newline_taken s t taken before output diagnostics_before p = record {
     done = p.done ++ s.line.items ∷ [];
     whole = λ more. ap lines (append_assoc before (10 ∷ []) more) ∙ p.whole (10 ∷ more)
-        ∙ ap (λ l. p.done ++ l) (lines_ended s.line.items more p.unbroken)
+        ∙ ap (λ l. p.done ++ l) (lines_ended s.line.items more p.has_no_newline)
         ∙ sym (append_assoc p.done (s.line.items ∷ []) (lines more))
         ∙ ap (λ l. (p.done ++ s.line.items ∷ []) ++ lines (l ++ more)) (sym taken.line);
-    unbroken = subst HasNoNewline (sym taken.line) open_nil;
+    has_no_newline = subst HasNoNewline (sym taken.line) open_nil;
     counted = taken.lines ∙ ap (λ n. n + 1) p.counted ∙ sym (length-append p.done (s.line.items ∷ []));
-    outcomes = taken.outcomes p.done output reported p.counted p.outcomes;
+    outcomes = taken.outcomes p.done output diagnostics_before p.counted p.outcomes;
   }
 
   -- ---- stopping
 
-  pub reached : {bytes output reported : List ℕ} {s : Collected} (t : Collected) (more : List ℕ) → HaveSameOutcomes s t
-      → Progress o task on_refusal bytes output reported s → Reached o task on_refusal (bytes ++ more) output reported t
+  pub reached : {bytes output diagnostics_before : List ℕ} {s : LineRunState} (t : LineRunState) (more : List ℕ) → HaveSameResults s t
+      → LineProgress o task on_refusal bytes output diagnostics_before s → Reached o task on_refusal (bytes ++ more) output diagnostics_before t
   reached {s} t more same p = record {
     done = p.done;
     others = lines (s.line.items ++ more);
     whole = p.whole more;
     counted = same.lines ∙ p.counted;
-    outcomes = rw (same.output, same.reported, same.refused) p.outcomes;
+    outcomes = rw (same.output, same.diagnostics_before, same.refused) p.outcomes;
   }
 
-  pub stops_after : (xs ys : List ℕ) (fault : Error) (s t u : Collected) → Takes o task on_refusal xs s t
-      → StopsWithin o task on_refusal ys fault t u → StopsWithin o task on_refusal (xs ++ ys) fault s u
-  stops_after xs ys fault s t u f g before output reported more p =
-      subst (λ l. Stopped o task on_refusal (l ++ more) output reported fault u) (append_assoc before xs ys)
-      (g (before ++ xs) output reported more (f before output reported p))
+  pub stops_after : (xs ys : List ℕ) (fault : Error) (s t u : LineRunState) → ReadsBytes o task on_refusal xs s t
+      → StopsInBytes o task on_refusal ys fault t u → StopsInBytes o task on_refusal (xs ++ ys) fault s u
+  stops_after xs ys fault s t u f g before output diagnostics_before more p =
+      subst (λ l. Stopped o task on_refusal (l ++ more) output diagnostics_before fault u) (append_assoc before xs ys)
+      (g (before ++ xs) output diagnostics_before more (f before output diagnostics_before p))
 
-  pub memory_stops : (bytes : List ℕ) (fault : Error) (s t : Collected) → fault ≡ OutOfMemory → HaveSameOutcomes s t
-      → StopsWithin o task on_refusal bytes fault s t
-  memory_stops bytes fault s t e same before output reported more p = record {
+  pub memory_stops : (bytes : List ℕ) (fault : Error) (s t : LineRunState) → fault ≡ OutOfMemory → HaveSameResults s t
+      → StopsInBytes o task on_refusal bytes fault s t
+  memory_stops bytes fault s t e same before output diagnostics_before more p = record {
     reached = record {
       done = p.done;
       others = lines (s.line.items ++ (bytes ++ more));
       whole = ap lines (append_assoc before bytes more) ∙ p.whole (bytes ++ more);
       counted = same.lines ∙ p.counted;
-      outcomes = rw (same.output, same.reported, same.refused) p.outcomes;
+      outcomes = rw (same.output, same.diagnostics_before, same.refused) p.outcomes;
     };
-    reason = by_memory o task on_refusal fault (text_held t) (length p.done) (lines (s.line.items ++ (bytes ++ more))) e;
+    reason = by_memory o task on_refusal fault (buffered_text t) (length p.done) (lines (s.line.items ++ (bytes ++ more))) e;
   }
 
-  pub line_stops : (bytes : List ℕ) (fault : Error) (s t : Collected)
-      → IsStoppedIn o task on_refusal fault (text_held s) → HaveSameOutcomes s t → t.line ≡ s.line
-      → StopsWithin o task on_refusal (10 ∷ bytes) fault s t
-  line_stops bytes fault s t h same held before output reported more p = record {
+  pub line_stops : (bytes : List ℕ) (fault : Error) (s t : LineRunState)
+      → IsStoppedIn o task on_refusal fault (buffered_text s) → HaveSameResults s t → t.line ≡ s.line
+      → StopsInBytes o task on_refusal (10 ∷ bytes) fault s t
+  line_stops bytes fault s t h same rejected_text before output diagnostics_before more p = record {
     reached = record {
       done = p.done;
       others = s.line.items ∷ lines (bytes ++ more);
       whole = ap lines (append_assoc before (10 ∷ bytes) more) ∙ p.whole (10 ∷ bytes ++ more)
-          ∙ ap (λ l. p.done ++ l) (lines_ended s.line.items (bytes ++ more) p.unbroken);
+          ∙ ap (λ l. p.done ++ l) (lines_ended s.line.items (bytes ++ more) p.has_no_newline);
       counted = same.lines ∙ p.counted;
-      outcomes = rw (same.output, same.reported, same.refused) p.outcomes;
+      outcomes = rw (same.output, same.diagnostics_before, same.refused) p.outcomes;
     };
     reason =
-        stopped_at o task on_refusal fault (text_held t) (length p.done) s.line.items (lines (bytes ++ more))
-        (same_text s t same held ∙ ap (λ k. line_text k s.line.items) p.counted)
-        (subst (IsStoppedIn o task on_refusal fault) (sym (same_text s t same held)) h);
+        stopped_at o task on_refusal fault (buffered_text t) (length p.done) s.line.items (lines (bytes ++ more))
+        (same_text s t same rejected_text ∙ ap (λ k. line_text k s.line.items) p.counted)
+        (subst (IsStoppedIn o task on_refusal fault) (sym (same_text s t same rejected_text)) h);
   }
 
   -- ---- the last line
 
-  last_whole : {bytes output reported : List ℕ} {s : Collected} → (p : Progress o task on_refusal bytes output reported s)
+  last_whole : {bytes output diagnostics_before : List ℕ} {s : LineRunState} → (p : LineProgress o task on_refusal bytes output diagnostics_before s)
       → lines bytes ≡ p.done ++ lines s.line.items
   last_whole {bytes} {s} p =
       ap lines (sym (append-nil bytes)) ∙ p.whole [] ∙ ap (λ l. p.done ++ lines l) (append-nil s.line.items)
 
-  pub no_last : (s : Collected) → length s.line.items ≡ 0 → Ends o task on_refusal s s
-  no_last s none before output reported p =
+  pub no_last : (s : LineRunState) → length s.line.items ≡ 0 → EndsLastLine o task on_refusal s s
+  no_last s none before output diagnostics_before p =
       let all : lines before ≡ p.done =
       last_whole p ∙ ap (λ l. p.done ++ l) (lines_none s.line.items none) ∙ append-nil p.done in
       record {
         counted = p.counted ∙ ap length (sym all);
         outcomes =
-            subst (λ l. GivesIn o task on_refusal l (output ++ s.output.items) (reported ++ s.reported.items) s.refused)
+            subst (λ l. HaveOutcomesIn o task on_refusal l (output ++ s.output.items) (diagnostics_before ++ s.diagnostics.items) s.refused)
             (sym all) p.outcomes;
       }
 
-  pub last_taken : (s t : Collected) → 0 < length s.line.items → TakesLine o task on_refusal s t
-      → Ends o task on_refusal s t
-  last_taken s t some taken before output reported p =
+  pub last_taken : (s t : LineRunState) → 0 < length s.line.items → EndsLine o task on_refusal s t
+      → EndsLastLine o task on_refusal s t
+  last_taken s t some taken before output diagnostics_before p =
       let all : lines before ≡ p.done ++ s.line.items ∷ [] =
-      last_whole p ∙ ap (λ l. p.done ++ l) (lines_last s.line.items p.unbroken some) in
+      last_whole p ∙ ap (λ l. p.done ++ l) (lines_last s.line.items p.has_no_newline some) in
       record {
         counted = taken.lines ∙ ap (λ n. n + 1) p.counted ∙ sym (length-append p.done (s.line.items ∷ []))
             ∙ ap length (sym all);
         outcomes =
-            subst (λ l. GivesIn o task on_refusal l (output ++ t.output.items) (reported ++ t.reported.items) t.refused)
-            (sym all) (taken.outcomes p.done output reported p.counted p.outcomes);
+            subst (λ l. HaveOutcomesIn o task on_refusal l (output ++ t.output.items) (diagnostics_before ++ t.diagnostics.items) t.refused)
+            (sym all) (taken.outcomes p.done output diagnostics_before p.counted p.outcomes);
       }
 
-  pub last_stops : (fault : Error) (s t : Collected) → 0 < length s.line.items
-      → IsStoppedIn o task on_refusal fault (text_held s) → HaveSameOutcomes s t → t.line ≡ s.line
-      → StopsLast o task on_refusal fault s t
-  last_stops fault s t some h same held before output reported p = record {
+  pub last_stops : (fault : Error) (s t : LineRunState) → 0 < length s.line.items
+      → IsStoppedIn o task on_refusal fault (buffered_text s) → HaveSameResults s t → t.line ≡ s.line
+      → StopsAtLastLine o task on_refusal fault s t
+  last_stops fault s t some h same rejected_text before output diagnostics_before p = record {
     reached = record {
       done = p.done;
       others = s.line.items ∷ [];
-      whole = last_whole p ∙ ap (λ l. p.done ++ l) (lines_last s.line.items p.unbroken some);
+      whole = last_whole p ∙ ap (λ l. p.done ++ l) (lines_last s.line.items p.has_no_newline some);
       counted = same.lines ∙ p.counted;
-      outcomes = rw (same.output, same.reported, same.refused) p.outcomes;
+      outcomes = rw (same.output, same.diagnostics_before, same.refused) p.outcomes;
     };
     reason =
-        stopped_at o task on_refusal fault (text_held t) (length p.done) s.line.items []
-        (same_text s t same held ∙ ap (λ k. line_text k s.line.items) p.counted)
-        (subst (IsStoppedIn o task on_refusal fault) (sym (same_text s t same held)) h);
+        stopped_at o task on_refusal fault (buffered_text t) (length p.done) s.line.items []
+        (same_text s t same rejected_text ∙ ap (λ k. line_text k s.line.items) p.counted)
+        (subst (IsStoppedIn o task on_refusal fault) (sym (same_text s t same rejected_text)) h);
   }
 
   -- ---- a line that ends among bytes
 
-  pub line_taken : (front : List ℕ) (s t u : Collected) → HasNoNewline front → t.line.items ≡ s.line.items ++ front
-      → HaveSameOutcomes s t → TakesLine o task on_refusal t u → Takes o task on_refusal (front ++ 10 ∷ []) s u
+  pub line_taken : (front : List ℕ) (s t u : LineRunState) → HasNoNewline front → t.line.items ≡ s.line.items ++ front
+      → HaveSameResults s t → EndsLine o task on_refusal t u → ReadsBytes o task on_refusal (front ++ 10 ∷ []) s u
   line_taken front s t u h e same taken =
       take_more front (10 ∷ []) s t u (span_taken front s t h e same) (newline_taken t u taken)
 
-  pub line_stops_in : (rest : List ℕ) (n : ℕ) (fault : Error) (s t u : Collected) → n < length rest
+  pub line_stops_in : (rest : List ℕ) (n : ℕ) (fault : Error) (s t u : LineRunState) → n < length rest
       → HasNoNewline (take n rest) → get_or rest n 0 ≡ 10
-      → t.line.items ≡ s.line.items ++ take n rest → HaveSameOutcomes s t
-      → IsStoppedIn o task on_refusal fault (text_held t) → HaveSameOutcomes t u → u.line ≡ t.line
-      → StopsWithin o task on_refusal rest fault s u
-  line_stops_in rest n fault s t u within h is e same stops kept held =
-      subst (λ l. StopsWithin o task on_refusal l fault s u) (sym (at_newline rest n within is))
+      → t.line.items ≡ s.line.items ++ take n rest → HaveSameResults s t
+      → IsStoppedIn o task on_refusal fault (buffered_text t) → HaveSameResults t u → u.line ≡ t.line
+      → StopsInBytes o task on_refusal rest fault s u
+  line_stops_in rest n fault s t u within h is e same stops kept rejected_text =
+      subst (λ l. StopsInBytes o task on_refusal l fault s u) (sym (at_newline rest n within is))
       (stops_after (take n rest) (10 ∷ drop (n + 1) rest) fault s t u (span_taken (take n rest) s t h e same)
-      (line_stops (drop (n + 1) rest) fault t u stops kept held))
+      (line_stops (drop (n + 1) rest) fault t u stops kept rejected_text))
 
-  pub whole_stops : (bytes taken rest : List ℕ) (fault : Error) (s t u : Collected) → bytes ≡ taken ++ rest
-      → Takes o task on_refusal taken s t → StopsWithin o task on_refusal rest fault t u
-      → StopsWithin o task on_refusal bytes fault s u
+  pub whole_stops : (bytes taken rest : List ℕ) (fault : Error) (s t u : LineRunState) → bytes ≡ taken ++ rest
+      → ReadsBytes o task on_refusal taken s t → StopsInBytes o task on_refusal rest fault t u
+      → StopsInBytes o task on_refusal bytes fault s u
   whole_stops bytes taken rest fault s t u e f g =
-      subst (λ l. StopsWithin o task on_refusal l fault s u) (sym e) (stops_after taken rest fault s t u f g)
+      subst (λ l. StopsInBytes o task on_refusal l fault s u) (sym e) (stops_after taken rest fault s t u f g)
 
-  pub whole_taken : (bytes taken rest : List ℕ) (s t u : Collected) → bytes ≡ taken ++ rest
-      → Takes o task on_refusal taken s t → Takes o task on_refusal rest t u → Takes o task on_refusal bytes s u
+  pub whole_taken : (bytes taken rest : List ℕ) (s t u : LineRunState) → bytes ≡ taken ++ rest
+      → ReadsBytes o task on_refusal taken s t → ReadsBytes o task on_refusal rest t u → ReadsBytes o task on_refusal bytes s u
   whole_taken bytes taken rest s t u e f g =
-      subst (λ l. Takes o task on_refusal l s u) (sym e) (take_more taken rest s t u f g)
+      subst (λ l. ReadsBytes o task on_refusal l s u) (sym e) (take_more taken rest s t u f g)

@@ -4,11 +4,11 @@ use Rattle.std.proofs.Common.{subst, ◌∙◌, append_assoc, append-nil, length
 use Rattle.bson.specs.declared.extjson.options.Options.{Options}
 use Rattle.bson_convert.specs.declared.error.Error.{Error}
 use Rattle.bson_run.proofs.OneText.{Decided}
-use Rattle.bson_run.specs.Lines.{line_text, IsBadLineIn, IsBlank, OutcomesIn, none, blank, written, passed_over, IsDiagnostic, WritesIn}
-use Rattle.bson_run.specs.Outcomes.{AreAlike, silent, also, IsSameFault, StopsInside}
-use Rattle.bson_run.specs.declared.order.OnRefusal.{OnRefusal}
-use Rattle.bson_run.specs.declared.order.OnRefusal.TheVariants.{Stop}
-use Rattle.bson_run.specs.declared.order.Task.{Task}
+use Rattle.bson_run.specs.Lines.{line_text, IsRejectedLineIn, IsBlank, OutcomesIn, none, blank, written, skipped, IsDiagnostic, WritesIn}
+use Rattle.bson_run.specs.Outcomes.{AreSameDiagnostics, silent, also, IsSameFault, StopsInside}
+use Rattle.bson_run.specs.declared.task.OnRefusal.{OnRefusal}
+use Rattle.bson_run.specs.declared.task.OnRefusal.TheVariants.{Stop}
+use Rattle.bson_run.specs.declared.task.Task.{Task}
 
 -- ---- lists
 
@@ -60,34 +60,34 @@ module _ (o : Options) (task : Task) (on_refusal : OnRefusal) (only : Decided o 
   Step n line more said over =
       (IsBlank (line_text n line) × (more ≡ []) × (said ≡ []) × (over ≡ 0))
       ⊎ ((WritesIn o task (line_text n line) more × (said ≡ []) × (over ≡ 0))
-      ⊎ ((fault : Error) × (on_refusal ≢ Stop) × IsBadLineIn o task fault (line_text n line)
+      ⊎ ((fault : Error) × (on_refusal ≢ Stop) × IsRejectedLineIn o task fault (line_text n line)
       × IsDiagnostic (n + 1) fault (line_text n line) said × (more ≡ []) × (over ≡ 1)))
 
-  record Last (all : List (List ℕ)) (output reported : List ℕ) (refused : ℕ) : Type 0 where
+  record Last (all : List (List ℕ)) (output diagnostics_before : List ℕ) (refused : ℕ) : Type 0 where
     before : List (List ℕ)
     line : List ℕ
     out : List ℕ
     more : List ℕ
-    reports : List ℕ
+    diagnostics_after : List ℕ
     said : List ℕ
     left : ℕ
     over : ℕ
-    outcomes : OutcomesIn o task on_refusal before out reports left
+    outcomes : OutcomesIn o task on_refusal before out diagnostics_after left
     step : Step (length before) line more said over
     lines_are : all ≡ before ++ line ∷ []
     output_is : output ≡ out ++ more
-    told_is : reported ≡ reports ++ said
+    told_is : diagnostics_before ≡ diagnostics_after ++ said
     refused_are : refused ≡ left + over
 
-  last_of : {all : List (List ℕ)} {output reported : List ℕ} {refused : ℕ}
-      → OutcomesIn o task on_refusal all output reported refused → 0 < length all → Last all output reported refused
+  last_of : {all : List (List ℕ)} {output diagnostics_before : List ℕ} {refused : ℕ}
+      → OutcomesIn o task on_refusal all output diagnostics_before refused → 0 < length all → Last all output diagnostics_before refused
   last_of none some = absurd (omega (arith, some))
-  last_of (blank {before = before} {output = output} {reported = reported} {refused = refused} line d is) some = record {
+  last_of (blank {before = before} {output = output} {diagnostics_before = diagnostics_before} {refused = refused} line d is) some = record {
     before = before;
     line = line;
     out = output;
     more = [];
-    reports = reported;
+    diagnostics_after = diagnostics_before;
     said = [];
     left = refused;
     over = 0;
@@ -95,15 +95,15 @@ module _ (o : Options) (task : Task) (on_refusal : OnRefusal) (only : Decided o 
     step = inl (is, refl, refl, refl);
     lines_are = refl;
     output_is = sym (append-nil output);
-    told_is = sym (append-nil reported);
+    told_is = sym (append-nil diagnostics_before);
     refused_are = omega arith;
   }
-  last_of (written {before = before} {output = output} {reported = reported} {refused = refused} line more d is) some = record {
+  last_of (written {before = before} {output = output} {diagnostics_before = diagnostics_before} {refused = refused} line more d is) some = record {
     before = before;
     line = line;
     out = output;
     more = more;
-    reports = reported;
+    diagnostics_after = diagnostics_before;
     said = [];
     left = refused;
     over = 0;
@@ -111,81 +111,81 @@ module _ (o : Options) (task : Task) (on_refusal : OnRefusal) (only : Decided o 
     step = inr (inl (is, refl, refl));
     lines_are = refl;
     output_is = refl;
-    told_is = sym (append-nil reported);
+    told_is = sym (append-nil diagnostics_before);
     refused_are = omega arith;
   }
-  last_of (passed_over {before = before} {output = output} {reported = reported} {refused = refused} line fault said d goes bad reports) some = record {
+  last_of (skipped {before = before} {output = output} {diagnostics_before = diagnostics_before} {refused = refused} line fault said d goes bad diagnostics_after) some = record {
     before = before;
     line = line;
     out = output;
     more = [];
-    reports = reported;
+    diagnostics_after = diagnostics_before;
     said = said;
     left = refused;
     over = 1;
     outcomes = d;
-    step = inr (inr (fault, goes, bad, reports, refl, refl));
+    step = inr (inr (fault, goes, bad, diagnostics_after, refl, refl));
     lines_are = refl;
     output_is = sym (append-nil output);
     told_is = refl;
     refused_are = refl;
   }
 
-  none_of : {all : List (List ℕ)} {output reported : List ℕ} {refused : ℕ}
-      → OutcomesIn o task on_refusal all output reported refused → length all ≡ 0
-      → (output ≡ []) × (reported ≡ []) × (refused ≡ 0)
+  none_of : {all : List (List ℕ)} {output diagnostics_before : List ℕ} {refused : ℕ}
+      → OutcomesIn o task on_refusal all output diagnostics_before refused → length all ≡ 0
+      → (output ≡ []) × (diagnostics_before ≡ []) × (refused ≡ 0)
   none_of none e = (refl, refl, refl)
   none_of (blank {before = before} line d is) e = absurd (omega (arith, e, length-append before (line ∷ [])))
   none_of (written {before = before} line more d is) e = absurd (omega (arith, e, length-append before (line ∷ [])))
-  none_of (passed_over {before = before} line fault said d goes bad reports) e =
+  none_of (skipped {before = before} line fault said d goes bad diagnostics_after) e =
       absurd (omega (arith, e, length-append before (line ∷ [])))
 
   -- ---- outcomes of the same lines
 
-  record Same (output other reported reports : List ℕ) (refused left : ℕ) : Type 0 where
+  record Same (output other diagnostics_before diagnostics_after : List ℕ) (refused left : ℕ) : Type 0 where
     outputs : output ≡ other
-    alike : AreAlike reported reports
+    alike : AreSameDiagnostics diagnostics_before diagnostics_after
     counts : refused ≡ left
 
-  one_more : (n : ℕ) (line a b reported reports said says : List ℕ) (over count : ℕ) → AreAlike reported reports
-      → Step n line a said over → Step n line b says count → Same a b (reported ++ said) (reports ++ says) over count
-  one_more n line a b reported reports said says over count alike (inl (is, m, s, c)) (inl (also_is, k, t, e)) = record {
+  one_more : (n : ℕ) (line a b diagnostics_before diagnostics_after said says : List ℕ) (over count : ℕ) → AreSameDiagnostics diagnostics_before diagnostics_after
+      → Step n line a said over → Step n line b says count → Same a b (diagnostics_before ++ said) (diagnostics_after ++ says) over count
+  one_more n line a b diagnostics_before diagnostics_after said says over count alike (inl (is, m, s, c)) (inl (also_is, k, t, e)) = record {
     outputs = m ∙ sym k;
-    alike = silently reported reports said says alike s t;
+    alike = silently diagnostics_before diagnostics_after said says alike s t;
     counts = c ∙ sym e;
   }
     where
-      silently : (reported reports said says : List ℕ) → AreAlike reported reports → said ≡ [] → says ≡ []
-          → AreAlike (reported ++ said) (reports ++ says)
-      silently reported reports said says alike s t = rw (s, t, append-nil reported, append-nil reports) alike
-  one_more n line a b reported reports said says over count alike (inl (is, m, s, c)) (inr (inl (w, t, e))) =
+      silently : (diagnostics_before diagnostics_after said says : List ℕ) → AreSameDiagnostics diagnostics_before diagnostics_after → said ≡ [] → says ≡ []
+          → AreSameDiagnostics (diagnostics_before ++ said) (diagnostics_after ++ says)
+      silently diagnostics_before diagnostics_after said says alike s t = rw (s, t, append-nil diagnostics_before, append-nil diagnostics_after) alike
+  one_more n line a b diagnostics_before diagnostics_after said says over count alike (inl (is, m, s, c)) (inr (inl (w, t, e))) =
       absurd (only.written_blank (line_text n line) b w is)
-  one_more n line a b reported reports said says over count alike (inl (is, m, s, c)) (inr (inr (f, g, bad, t, k, e))) =
+  one_more n line a b diagnostics_before diagnostics_after said says over count alike (inl (is, m, s, c)) (inr (inr (f, g, bad, t, k, e))) =
       absurd (only.blank_bad (line_text n line) f is bad)
-  one_more n line a b reported reports said says over count alike (inr (inl (w, s, c))) (inl (is, k, t, e)) =
+  one_more n line a b diagnostics_before diagnostics_after said says over count alike (inr (inl (w, s, c))) (inl (is, k, t, e)) =
       absurd (only.written_blank (line_text n line) a w is)
-  one_more n line a b reported reports said says over count alike (inr (inl (w, s, c))) (inr (inl (v, t, e))) = record {
+  one_more n line a b diagnostics_before diagnostics_after said says over count alike (inr (inl (w, s, c))) (inr (inl (v, t, e))) = record {
     outputs = only.one_text (line_text n line) a b w v;
-    alike = rw (s, t, append-nil reported, append-nil reports) alike;
+    alike = rw (s, t, append-nil diagnostics_before, append-nil diagnostics_after) alike;
     counts = c ∙ sym e;
   }
-  one_more n line a b reported reports said says over count alike (inr (inl (w, s, c))) (inr (inr (f, g, bad, t, k, e))) =
+  one_more n line a b diagnostics_before diagnostics_after said says over count alike (inr (inl (w, s, c))) (inr (inr (f, g, bad, t, k, e))) =
       absurd (only.written_bad (line_text n line) a f w bad)
-  one_more n line a b reported reports said says over count alike (inr (inr (f, g, bad, s, m, c))) (inl (is, k, t, e)) =
+  one_more n line a b diagnostics_before diagnostics_after said says over count alike (inr (inr (f, g, bad, s, m, c))) (inl (is, k, t, e)) =
       absurd (only.blank_bad (line_text n line) f is bad)
-  one_more n line a b reported reports said says over count alike (inr (inr (f, g, bad, s, m, c))) (inr (inl (v, t, e))) =
+  one_more n line a b diagnostics_before diagnostics_after said says over count alike (inr (inr (f, g, bad, s, m, c))) (inr (inl (v, t, e))) =
       absurd (only.written_bad (line_text n line) b f v bad)
-  one_more n line a b reported reports said says over count alike (inr (inr (f, g, bad, s, m, c)))
+  one_more n line a b diagnostics_before diagnostics_after said says over count alike (inr (inr (f, g, bad, s, m, c)))
       (inr (inr (h, i, worse, t, k, e))) = record {
         outputs = m ∙ sym k;
         alike = also (n + 1) f h (line_text n line) said says alike (only.same_fault (line_text n line) f h bad worse) s t;
         counts = c ∙ sym e;
       }
 
-  same : (n : ℕ) (xs ys : List (List ℕ)) (output other reported reports : List ℕ) (refused left : ℕ) → length xs ≡ n
-      → xs ≡ ys → OutcomesIn o task on_refusal xs output reported refused → OutcomesIn o task on_refusal ys other reports left
-      → Same output other reported reports refused left
-  same zero xs ys output other reported reports refused left size is d e =
+  same : (n : ℕ) (xs ys : List (List ℕ)) (output other diagnostics_before diagnostics_after : List ℕ) (refused left : ℕ) → length xs ≡ n
+      → xs ≡ ys → OutcomesIn o task on_refusal xs output diagnostics_before refused → OutcomesIn o task on_refusal ys other diagnostics_after left
+      → Same output other diagnostics_before diagnostics_after refused left
+  same zero xs ys output other diagnostics_before diagnostics_after refused left size is d e =
       let i = none_of d size in
       let j = none_of e (ap length (sym is) ∙ size) in
       record {
@@ -193,18 +193,18 @@ module _ (o : Options) (task : Task) (on_refusal : OnRefusal) (only : Decided o 
         alike = rw (i.1, j.1) silent;
         counts = i.2 ∙ sym j.2;
       }
-  same (suc n) xs ys output other reported reports refused left size is d e =
+  same (suc n) xs ys output other diagnostics_before diagnostics_after refused left size is d e =
       let i = last_of d (omega (arith, size)) in
       let j = last_of e (omega (arith, size, ap length is)) in
       let ends = both_ends i.before j.before i.line j.line (sym i.lines_are ∙ is ∙ j.lines_are) in
       let fewer : length i.before ≡ n =
       omega (arith, size, ap length i.lines_are, length-append i.before (i.line ∷ [])) in
-      let k = same n i.before j.before i.out j.out i.reports j.reports i.left j.left fewer ends.0 i.outcomes j.outcomes in
+      let k = same n i.before j.before i.out j.out i.diagnostics_after j.diagnostics_after i.left j.left fewer ends.0 i.outcomes j.outcomes in
       let placed : Step (length i.before) j.line j.more j.said j.over =
       subst (λ (l : List (List ℕ)). Step (length l) j.line j.more j.said j.over) (sym ends.0) j.step in
       let moved : Step (length i.before) i.line j.more j.said j.over =
       subst (λ (l : List ℕ). Step (length i.before) l j.more j.said j.over) (sym ends.1) placed in
-      let s = one_more (length i.before) i.line i.more j.more i.reports j.reports i.said j.said i.over j.over k.alike i.step
+      let s = one_more (length i.before) i.line i.more j.more i.diagnostics_after j.diagnostics_after i.said j.said i.over j.over k.alike i.step
       moved in
       record {
         outputs = let u = k.outputs in let v = s.outputs in let w = i.output_is in let z = j.output_is in cc;
@@ -212,95 +212,95 @@ module _ (o : Options) (task : Task) (on_refusal : OnRefusal) (only : Decided o 
         counts = omega (arith, k.counts, s.counts, i.refused_are, j.refused_are);
       }
 
-  pub one_outcome : (all : List (List ℕ)) (output other reported reports : List ℕ) (refused left : ℕ)
-      → OutcomesIn o task on_refusal all output reported refused → OutcomesIn o task on_refusal all other reports left
-      → (output ≡ other) × AreAlike reported reports × (refused ≡ left)
-  one_outcome all output other reported reports refused left d e =
-      let s = same (length all) all all output other reported reports refused left refl refl d e in
+  pub one_outcome : (all : List (List ℕ)) (output other diagnostics_before diagnostics_after : List ℕ) (refused left : ℕ)
+      → OutcomesIn o task on_refusal all output diagnostics_before refused → OutcomesIn o task on_refusal all other diagnostics_after left
+      → (output ≡ other) × AreSameDiagnostics diagnostics_before diagnostics_after × (refused ≡ left)
+  one_outcome all output other diagnostics_before diagnostics_after refused left d e =
+      let s = same (length all) all all output other diagnostics_before diagnostics_after refused left refl refl d e in
       (s.outputs, s.alike, s.counts)
 
   -- ---- the first lines
 
   record Front (xs : List (List ℕ)) : Type 0 where
     output : List ℕ
-    reported : List ℕ
+    diagnostics_before : List ℕ
     refused : ℕ
-    outcomes : OutcomesIn o task on_refusal xs output reported refused
+    outcomes : OutcomesIn o task on_refusal xs output diagnostics_before refused
 
-  first_of : (n : ℕ) (all xs ys : List (List ℕ)) (output reported : List ℕ) (refused : ℕ) → length ys ≡ n → all ≡ xs ++ ys
-      → OutcomesIn o task on_refusal all output reported refused → Front xs
-  first_of n all xs [] output reported refused size is d = record {
+  first_of : (n : ℕ) (all xs ys : List (List ℕ)) (output diagnostics_before : List ℕ) (refused : ℕ) → length ys ≡ n → all ≡ xs ++ ys
+      → OutcomesIn o task on_refusal all output diagnostics_before refused → Front xs
+  first_of n all xs [] output diagnostics_before refused size is d = record {
     output = output;
-    reported = reported;
+    diagnostics_before = diagnostics_before;
     refused = refused;
-    outcomes = subst (λ (l : List (List ℕ)). OutcomesIn o task on_refusal l output reported refused) (is ∙ append-nil xs) d;
+    outcomes = subst (λ (l : List (List ℕ)). OutcomesIn o task on_refusal l output diagnostics_before refused) (is ∙ append-nil xs) d;
   }
-  first_of zero all xs (y ∷ ys) output reported refused size is d = absurd (omega (arith, size))
-  first_of (suc n) all xs (y ∷ ys) output reported refused size is d =
+  first_of zero all xs (y ∷ ys) output diagnostics_before refused size is d = absurd (omega (arith, size))
+  first_of (suc n) all xs (y ∷ ys) output diagnostics_before refused size is d =
       let u = last_one y ys in
       let whole : all ≡ (xs ++ u.0) ++ u.1 ∷ [] =
       is ∙ ap (λ l. xs ++ l) u.2 ∙ sym (append_assoc xs u.0 (u.1 ∷ [])) in
       let i = last_of d (omega (arith, ap length whole, length-append (xs ++ u.0) (u.1 ∷ []))) in
       let ends = both_ends i.before (xs ++ u.0) i.line u.1 (sym i.lines_are ∙ whole) in
-      first_of n i.before xs u.0 i.out i.reports i.left
+      first_of n i.before xs u.0 i.out i.diagnostics_after i.left
       (omega (arith, size, ap length u.2, length-append u.0 (u.1 ∷ []))) ends.0 i.outcomes
 
   -- ---- where a run stops
 
   refused_step : (n : ℕ) (line more said : List ℕ) (over : ℕ) (fault : Error) → on_refusal ≡ Stop
-      → IsBadLineIn o task fault (line_text n line) → Step n line more said over → ⊥
+      → IsRejectedLineIn o task fault (line_text n line) → Step n line more said over → ⊥
   refused_step n line more said over fault stops bad (inl (is, m, s, c)) = only.blank_bad (line_text n line) fault is bad
   refused_step n line more said over fault stops bad (inr (inl (w, s, c))) = only.written_bad (line_text n line) more fault w bad
   refused_step n line more said over fault stops bad (inr (inr (f, goes, worse, t, k, e))) = goes stops
 
   -- a line at which a run stops is none of lines that are done
-  stuck : (done others : List (List ℕ)) (line : List ℕ) (fault : Error) (output reported : List ℕ) (refused : ℕ)
-      → on_refusal ≡ Stop → IsBadLineIn o task fault (line_text (length done) line)
-      → OutcomesIn o task on_refusal (done ++ line ∷ others) output reported refused → ⊥
-  stuck done others line fault output reported refused stops bad d =
-      let f = first_of (length others) (done ++ line ∷ others) (done ++ line ∷ []) others output reported refused refl
+  stuck : (done others : List (List ℕ)) (line : List ℕ) (fault : Error) (output diagnostics_before : List ℕ) (refused : ℕ)
+      → on_refusal ≡ Stop → IsRejectedLineIn o task fault (line_text (length done) line)
+      → OutcomesIn o task on_refusal (done ++ line ∷ others) output diagnostics_before refused → ⊥
+  stuck done others line fault output diagnostics_before refused stops bad d =
+      let f = first_of (length others) (done ++ line ∷ others) (done ++ line ∷ []) others output diagnostics_before refused refl
       (sym (append_assoc done (line ∷ []) others)) d in
       let i = last_of f.outcomes (omega (arith, length-append done (line ∷ []))) in
       let ends = both_ends done i.before line i.line i.lines_are in
-      let here : IsBadLineIn o task fault (line_text (length i.before) i.line) =
-      subst (λ (l : List ℕ). IsBadLineIn o task fault (line_text (length i.before) l)) ends.1
-      (subst (λ (l : List (List ℕ)). IsBadLineIn o task fault (line_text (length l) line)) ends.0 bad) in
+      let here : IsRejectedLineIn o task fault (line_text (length i.before) i.line) =
+      subst (λ (l : List ℕ). IsRejectedLineIn o task fault (line_text (length i.before) l)) ends.1
+      (subst (λ (l : List (List ℕ)). IsRejectedLineIn o task fault (line_text (length l) line)) ends.0 bad) in
       refused_step (length i.before) i.line i.more i.said i.over fault stops here i.step
 
-  pub either : (all : List (List ℕ)) (output other reported reports : List ℕ) (refused number : ℕ) (fault : Error)
-      → OutcomesIn o task on_refusal all other reports refused
-      → StopsInside o task on_refusal all output reported fault number → ⊥
-  either all output other reported reports refused number fault d h =
-      stuck h.done h.others h.line fault other reports refused h.stops h.reason
-      (subst (λ (l : List (List ℕ)). OutcomesIn o task on_refusal l other reports refused) h.parts d)
+  pub either : (all : List (List ℕ)) (output other diagnostics_before diagnostics_after : List ℕ) (refused number : ℕ) (fault : Error)
+      → OutcomesIn o task on_refusal all other diagnostics_after refused
+      → StopsInside o task on_refusal all output diagnostics_before fault number → ⊥
+  either all output other diagnostics_before diagnostics_after refused number fault d h =
+      stuck h.done h.others h.line fault other diagnostics_after refused h.stops h.reason
+      (subst (λ (l : List (List ℕ)). OutcomesIn o task on_refusal l other diagnostics_after refused) h.parts d)
 
-  one_of : (all : List (List ℕ)) (output other reported reports : List ℕ) (number count : ℕ) (fault cause : Error)
-      → (h : StopsInside o task on_refusal all output reported fault number)
-      → (k : StopsInside o task on_refusal all other reports cause count)
+  one_of : (all : List (List ℕ)) (output other diagnostics_before diagnostics_after : List ℕ) (number count : ℕ) (fault cause : Error)
+      → (h : StopsInside o task on_refusal all output diagnostics_before fault number)
+      → (k : StopsInside o task on_refusal all other diagnostics_after cause count)
       → Parts h.done k.done h.line k.line h.others k.others
-      → (output ≡ other) × AreAlike reported reports × IsSameFault fault cause × (number ≡ count)
-  one_of all output other reported reports number count fault cause h k (inl (done, line)) =
-      let s = same (length h.done) h.done k.done output other reported reports h.refused k.refused refl done h.outcomes
+      → (output ≡ other) × AreSameDiagnostics diagnostics_before diagnostics_after × IsSameFault fault cause × (number ≡ count)
+  one_of all output other diagnostics_before diagnostics_after number count fault cause h k (inl (done, line)) =
+      let s = same (length h.done) h.done k.done output other diagnostics_before diagnostics_after h.refused k.refused refl done h.outcomes
       k.outcomes in
-      let there : IsBadLineIn o task cause (line_text (length h.done) h.line) =
-      subst (λ (l : List ℕ). IsBadLineIn o task cause (line_text (length h.done) l)) (sym line)
-      (subst (λ (l : List (List ℕ)). IsBadLineIn o task cause (line_text (length l) k.line)) (sym done) k.reason) in (
+      let there : IsRejectedLineIn o task cause (line_text (length h.done) h.line) =
+      subst (λ (l : List ℕ). IsRejectedLineIn o task cause (line_text (length h.done) l)) (sym line)
+      (subst (λ (l : List (List ℕ)). IsRejectedLineIn o task cause (line_text (length l) k.line)) (sym done) k.reason) in (
         s.outputs,
         s.alike,
         only.same_fault (line_text (length h.done) h.line) fault cause h.reason there,
         h.counted ∙ ap (λ (l : List (List ℕ)). length l + 1) done ∙ sym k.counted,
       )
-  one_of all output other reported reports number count fault cause h k (inr (inl (rest, is))) =
-      absurd (stuck h.done rest h.line fault other reports k.refused h.stops h.reason
-      (subst (λ (l : List (List ℕ)). OutcomesIn o task on_refusal l other reports k.refused) is k.outcomes))
-  one_of all output other reported reports number count fault cause h k (inr (inr (rest, is))) =
-      absurd (stuck k.done rest k.line cause output reported h.refused k.stops k.reason
-      (subst (λ (l : List (List ℕ)). OutcomesIn o task on_refusal l output reported h.refused) is h.outcomes))
+  one_of all output other diagnostics_before diagnostics_after number count fault cause h k (inr (inl (rest, is))) =
+      absurd (stuck h.done rest h.line fault other diagnostics_after k.refused h.stops h.reason
+      (subst (λ (l : List (List ℕ)). OutcomesIn o task on_refusal l other diagnostics_after k.refused) is k.outcomes))
+  one_of all output other diagnostics_before diagnostics_after number count fault cause h k (inr (inr (rest, is))) =
+      absurd (stuck k.done rest k.line cause output diagnostics_before h.refused k.stops k.reason
+      (subst (λ (l : List (List ℕ)). OutcomesIn o task on_refusal l output diagnostics_before h.refused) is h.outcomes))
 
-  pub one_stop : (all : List (List ℕ)) (output other reported reports : List ℕ) (number count : ℕ) (fault cause : Error)
-      → StopsInside o task on_refusal all output reported fault number
-      → StopsInside o task on_refusal all other reports cause count
-      → (output ≡ other) × AreAlike reported reports × IsSameFault fault cause × (number ≡ count)
-  one_stop all output other reported reports number count fault cause h k =
-      one_of all output other reported reports number count fault cause h k
+  pub one_stop : (all : List (List ℕ)) (output other diagnostics_before diagnostics_after : List ℕ) (number count : ℕ) (fault cause : Error)
+      → StopsInside o task on_refusal all output diagnostics_before fault number
+      → StopsInside o task on_refusal all other diagnostics_after cause count
+      → (output ≡ other) × AreSameDiagnostics diagnostics_before diagnostics_after × IsSameFault fault cause × (number ≡ count)
+  one_stop all output other diagnostics_before diagnostics_after number count fault cause h k =
+      one_of all output other diagnostics_before diagnostics_after number count fault cause h k
       (parts h.done k.done h.line k.line h.others k.others (sym h.parts ∙ k.parts))

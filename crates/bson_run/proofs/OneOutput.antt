@@ -18,55 +18,55 @@ use Rattle.bson_tree.specs.Place.{FaultAtIn, path_of}
 use Rattle.bson_tree.specs.declared.place.Place.{Place}
 use Rattle.bson_scalar.specs.TreeText.{tree_text}
 use Rattle.bson_scalar.specs.declared.form.Form.TheVariants as form
-use Rattle.bson_convert.specs.Convert.{ConvertsIn, IsAccepted, IsOutputIn, IsRefusedIn, newline}
+use Rattle.bson_convert.specs.Convert.{ConvertsIn, IsAccepted, IsOutputIn, IsRejectedIn, newline}
 use Rattle.bson_convert.proofs.Offered.{no_difference, one_difference}
 use Rattle.bson_convert.specs.Difference.{IsFirstDifferenceAt}
 use Rattle.bson_convert.specs.declared.error.Error.TheVariants.{NotExtendedJson, NoBytes}
 use Rattle.bson_convert.specs.declared.mode.Mode.{Mode}
 use Rattle.bson_convert.specs.declared.mode.Mode.TheVariants.{Canonical, Relaxed, Show}
-use Rattle.bson_convert.specs.declared.no_bytes.NoBytes as without
-use Rattle.bson_convert.specs.declared.no_bytes.NoBytes.TheVariants.{NoDocument, ZeroInKey, ZeroInRegex, TooLong}
+use Rattle.bson_convert.specs.declared.encode_error.NoBytes as without
+use Rattle.bson_convert.specs.declared.encode_error.NoBytes.TheVariants.{NoDocument, ZeroInKey, ZeroInRegex, TooLong}
 use Rattle.bson_run.proofs.EncodeLaws.{encoded_one, same_pairs, value_one}
 use Rattle.bson_run.proofs.OneRead.{blank_taken, blank_turned, one_taken}
 use Rattle.bson_run.specs.Encode.{FailsFor, HasNoBytesFor, IsBytesOf, IsNoDocument}
 use Rattle.bson_run.specs.InOrder.{ConvertsBy, ConvertsInOrder, IsOutputInOrder}
-use Rattle.bson_run.specs.Lines.{ChecksIn, IsBlank, IsUncanonicalFor, IsWithoutBytes, WorksIn, WritesIn}
-use Rattle.bson_run.specs.Preprocessed.{IsPreprocessedAs, IsRejectedBefore}
-use Rattle.bson_run.specs.declared.order.Criterion.{Criterion}
-use Rattle.bson_run.specs.declared.order.Criterion.TheVariants as criterion
-use Rattle.bson_run.specs.declared.order.Criterion.TheVariants.{Valid}
-use Rattle.bson_run.specs.declared.order.Task.{Task}
-use Rattle.bson_run.specs.declared.order.Task.TheVariants.{Write, Check, Encode, Preprocessed}
-use Rattle.bson_run.specs.declared.order.Work.{Work}
-use Rattle.bson_run.specs.declared.order.Work.TheVariants as work
+use Rattle.bson_run.specs.Lines.{ChecksIn, IsBlank, IsUncanonicalFor, HasNoBytesForTask, WritesPreprocessedIn, WritesIn}
+use Rattle.bson_run.specs.Preprocessed.{IsPreprocessedAs, IsRejectedByPreprocessing}
+use Rattle.bson_run.specs.declared.task.Criterion.{Criterion}
+use Rattle.bson_run.specs.declared.task.Criterion.TheVariants as criterion
+use Rattle.bson_run.specs.declared.task.Criterion.TheVariants.{Valid}
+use Rattle.bson_run.specs.declared.task.Task.{Task}
+use Rattle.bson_run.specs.declared.task.Task.TheVariants.{Write, Check, Encode, Preprocessed}
+use Rattle.bson_run.specs.declared.task.InnerTask.{InnerTask}
+use Rattle.bson_run.specs.declared.task.InnerTask.TheVariants as inner_task
 
 -- ---- what is read in the place of a text
 
 abbrev pub Reads : Task → (text read : List ℕ) → Type 0
-Reads (Preprocessed preprocessing work) text read = IsPreprocessedAs preprocessing text read
+Reads (Preprocessed preprocessing inner_task) text read = IsPreprocessedAs preprocessing text read
 Reads task text read = read ≡ text
 
 abbrev pub Turned : Task → Place → List ℕ → Type 0
-Turned (Preprocessed preprocessing work) place text = IsRejectedBefore preprocessing place text
+Turned (Preprocessed preprocessing inner_task) place text = IsRejectedByPreprocessing preprocessing place text
 Turned task place text = ⊥
 
 pub one_read : (task : Task) (text a b : List ℕ) → Reads task text a → Reads task text b → a ≡ b
 one_read (Write mode) text a b x y = x ∙ sym y
 one_read (Check criterion) text a b x y = x ∙ sym y
 one_read Encode text a b x y = x ∙ sym y
-one_read (Preprocessed preprocessing work) text a b x y = one_taken preprocessing text a b x y
+one_read (Preprocessed preprocessing inner_task) text a b x y = one_taken preprocessing text a b x y
 
 pub blank_read : (task : Task) (text a : List ℕ) → IsBlank text → Reads task text a → a ≡ text
 blank_read (Write mode) text a h x = x
 blank_read (Check criterion) text a h x = x
 blank_read Encode text a h x = x
-blank_read (Preprocessed preprocessing work) text a h x = blank_taken preprocessing text a h x
+blank_read (Preprocessed preprocessing inner_task) text a h x = blank_taken preprocessing text a h x
 
 pub turned_blank : (task : Task) (place : Place) (text : List ℕ) → IsBlank text → Turned task place text → ⊥
 turned_blank (Write mode) place text h x = x
 turned_blank (Check criterion) place text h x = x
 turned_blank Encode place text h x = x
-turned_blank (Preprocessed preprocessing work) place text h x = blank_turned preprocessing place text h x
+turned_blank (Preprocessed preprocessing inner_task) place text h x = blank_turned preprocessing place text h x
 
 -- ---- causes
 
@@ -130,24 +130,24 @@ module _ (o : Options) where
   checks Valid text x = converts Canonical text x.0 x.1
   checks criterion.Canonical text x = converts Canonical text (text ++ newline) x
 
-  works : (it : Work) (text out : List ℕ) → WorksIn o it text out → IsAccepted o text
-  works (work.Write mode) text out x = converts_by o.key_order mode text out x
-  works work.Check text out x = checks Valid text x.0
+  works : (it : InnerTask) (text out : List ℕ) → WritesPreprocessedIn o it text out → IsAccepted o text
+  works (inner_task.Write mode) text out x = converts_by o.key_order mode text out x
+  works inner_task.Check text out x = checks Valid text x.0
 
   pub no_text : (text : List ℕ) → IsAccepted o text → IsNotJsonText text → ⊥
   no_text text (t, v, is, m) h =
       let none : read text ≡ None = h is.utf8 in let some : read text ≡ Some t = is.tree_read in cc
 
-  pub no_fault : (text : List ℕ) (place : Place) → IsAccepted o text → IsRefusedIn o (NotExtendedJson place) text → ⊥
+  pub no_fault : (text : List ℕ) (place : Place) → IsAccepted o text → IsRejectedIn o (NotExtendedJson place) text → ⊥
   no_fault text place (t, v, is, m) h =
       h.2.nothing v (subst (λ u. MeansIn o.doubles u v) (tree_one text t h.0 is h.1) m)
 
-  pub fault_text : (text : List ℕ) (place : Place) → IsRefusedIn o (NotExtendedJson place) text → IsNotJsonText text → ⊥
+  pub fault_text : (text : List ℕ) (place : Place) → IsRejectedIn o (NotExtendedJson place) text → IsNotJsonText text → ⊥
   fault_text text place (t, is, first) h =
       let none : read text ≡ None = h is.utf8 in let some : read text ≡ Some t = is.tree_read in cc
 
-  pub same_path : (text : List ℕ) (place other : Place) → IsRefusedIn o (NotExtendedJson place) text
-      → IsRefusedIn o (NotExtendedJson other) text → path_of place ≡ path_of other
+  pub same_path : (text : List ℕ) (place other : Place) → IsRejectedIn o (NotExtendedJson place) text
+      → IsRejectedIn o (NotExtendedJson other) text → path_of place ≡ path_of other
   same_path text place other (t, is, x) (u, also, y) =
       let trees : u ≡ t = tree_one text u t also is in
       one_path o.doubles x.path (subst (λ d. FaultAtIn o.doubles y.fault d (path_of other)) trees y.path)
@@ -199,9 +199,9 @@ module _ (o : Options) where
   one_by Ascending mode text a b x y = one_converted mode text a b x y
   one_by AsGiven mode text a b x y = one_in_order mode text a b x y
 
-  one_work : (it : Work) (text a b : List ℕ) → WorksIn o it text a → WorksIn o it text b → a ≡ b
-  one_work (work.Write mode) text a b x y = one_by o.key_order mode text a b x y
-  one_work work.Check text a b x y = x.1 ∙ sym y.1
+  one_work : (it : InnerTask) (text a b : List ℕ) → WritesPreprocessedIn o it text a → WritesPreprocessedIn o it text b → a ≡ b
+  one_work (inner_task.Write mode) text a b x y = one_by o.key_order mode text a b x y
+  one_work inner_task.Check text a b x y = x.1 ∙ sym y.1
 
   pub one_written : (task : Task) (text a b : List ℕ) → WritesIn o task text a → WritesIn o task text b → a ≡ b
   one_written (Write mode) text a b x y = one_by o.key_order mode text a b x y
@@ -209,7 +209,7 @@ module _ (o : Options) where
   one_written Encode text a b x y = encoded_one o.key_order o text b a y x
   one_written (Preprocessed preprocessing it) text a b x y =
       one_work it x.0 a b x.2
-      (subst (λ t. WorksIn o it t b) (one_taken preprocessing text y.0 x.0 y.1 x.1) y.2)
+      (subst (λ t. WritesPreprocessedIn o it t b) (one_taken preprocessing text y.0 x.0 y.1 x.1) y.2)
 
   -- what is written of a text means something
   pub written_read : (task : Task) (text a : List ℕ) → WritesIn o task text a
@@ -226,7 +226,7 @@ module _ (o : Options) where
   fails_meant k text why (inl (e, n)) = meant k text n.value n.meaning
   fails_meant k text why (inr (c, e, f)) = meant k text (document f.pairs) f.meaning
 
-  pub without_read : (task : Task) (why : without.NoBytes) (text : List ℕ) → IsWithoutBytes o task why text
+  pub without_read : (task : Task) (why : without.NoBytes) (text : List ℕ) → HasNoBytesForTask o task why text
       → Reads task text text × IsAccepted o text
   without_read (Write mode) why text h = absurd h
   without_read (Check criterion) why text h = absurd h
@@ -245,7 +245,7 @@ module _ (o : Options) where
   uncanonical_read (Preprocessed preprocessing it) column text h = absurd h
 
   pub uncanonical_bytes : (task : Task) (column : ℕ) (why : without.NoBytes) (text : List ℕ) → IsUncanonicalFor o task column text
-      → IsWithoutBytes o task why text → ⊥
+      → HasNoBytesForTask o task why text → ⊥
   uncanonical_bytes (Write mode) column why text h x = h
   uncanonical_bytes (Check criterion) column why text h x = x
   uncanonical_bytes Encode column why text h x = h

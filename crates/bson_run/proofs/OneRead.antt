@@ -19,9 +19,9 @@ use Rattle.bson_v1.specs.Text.{IsUpgradedText}
 use Rattle.bson_tree.specs.Place.{PathSegment, path_of}
 use Rattle.bson_tree.specs.declared.place.Place.{Place}
 use Rattle.bson_run.specs.Lines.{IsBlank}
-use Rattle.bson_run.specs.Preprocessed.{HasDoubleKeyAt, HasNoDoubleKey, IsNoJson, IsPreprocessedAs, IsRejectedBefore, UpgradesTo}
-use Rattle.bson_run.specs.declared.order.Preprocessing.{Preprocessing}
-use Rattle.bson_run.specs.declared.order.Preprocessing.TheVariants.{Distinct, Legacy, DistinctLegacy}
+use Rattle.bson_run.specs.Preprocessed.{HasDuplicateKeyAt, LacksDuplicateKey, IsInvalidJson, IsPreprocessedAs, IsRejectedByPreprocessing, UpgradesTo}
+use Rattle.bson_run.specs.declared.task.Preprocessing.{Preprocessing}
+use Rattle.bson_run.specs.declared.task.Preprocessing.TheVariants.{Distinct, Legacy, DistinctLegacy}
 
 -- ---- a JSON text each of whose numbers is in range is read
 
@@ -69,7 +69,7 @@ one_upgraded text a b x y =
     let trees : x.is_resolved.tree ≡ y.is_resolved.tree = cc in
     x.compact ∙ (ap (λ t. print (json_tokens (upgraded (normalized FirstPositions t)))) trees ∙ sym y.compact)
 
-not_json : (text a : List ℕ) → IsUtf8 text → IsUpgradedText text a → IsNoJson text → ⊥
+not_json : (text a : List ℕ) → IsUtf8 text → IsUpgradedText text a → IsInvalidJson text → ⊥
 not_json text a utf8 x none =
     let d = is_read text x.resolved x.is_resolved in
     none d.0 utf8 d.1
@@ -127,14 +127,14 @@ blank_taken Distinct text a h x = x.1
 blank_taken Legacy text a h x = stays text a h x
 blank_taken DistinctLegacy text a h x = stays text a h x.1
 
-blank_double : (place : Place) (text : List ℕ) → IsBlank text → HasDoubleKeyAt place text → ⊥
+blank_double : (place : Place) (text : List ℕ) → IsBlank text → HasDuplicateKeyAt place text → ⊥
 blank_double place text h x =
     let none : json_of text ≡ None = blank_tree text h in
     let some : json_of text ≡ Some x.1.0 = x.1.1 in
     cc
 
 -- and not turned away
-pub blank_turned : (preprocessing : Preprocessing) (place : Place) (text : List ℕ) → IsBlank text → IsRejectedBefore preprocessing place text → ⊥
+pub blank_turned : (preprocessing : Preprocessing) (place : Place) (text : List ℕ) → IsBlank text → IsRejectedByPreprocessing preprocessing place text → ⊥
 blank_turned Distinct place text h x = blank_double place text h x
 blank_turned Legacy place text h x = x
 blank_turned DistinctLegacy place text h x = blank_double place text h x
@@ -142,17 +142,17 @@ blank_turned DistinctLegacy place text h x = blank_double place text h x
 -- ---- a text that is turned away
 
 module _ (twice : (j : json.Json) (path : List PathSegment) → DuplicateAt j path → ¬ HasUniqueKeys j) where
-  not_both : (place : Place) (text : List ℕ) → HasDoubleKeyAt place text → HasNoDoubleKey text → ⊥
+  not_both : (place : Place) (text : List ℕ) → HasDuplicateKeyAt place text → LacksDuplicateKey text → ⊥
   not_both place text h none = twice h.1.0 (path_of place) h.1.2 (none h.1.0 h.0 h.1.1)
 
-  pub not_taken : (preprocessing : Preprocessing) (place : Place) (text a : List ℕ) → IsRejectedBefore preprocessing place text
+  pub not_taken : (preprocessing : Preprocessing) (place : Place) (text a : List ℕ) → IsRejectedByPreprocessing preprocessing place text
       → IsPreprocessedAs preprocessing text a → ⊥
   not_taken Distinct place text a h is = not_both place text h is.0
   not_taken Legacy place text a h is = h
   not_taken DistinctLegacy place text a h is = not_both place text h is.0
 
 module _ (one_path : (j : json.Json) (path other : List PathSegment) → DuplicateAt j path → DuplicateAt j other → path ≡ other) where
-  one_double : (place other : Place) (text : List ℕ) → HasDoubleKeyAt place text → HasDoubleKeyAt other text
+  one_double : (place other : Place) (text : List ℕ) → HasDuplicateKeyAt place text → HasDuplicateKeyAt other text
       → path_of place ≡ path_of other
   one_double place other text x y =
       let a : json_of text ≡ Some x.1.0 = x.1.1 in
@@ -160,8 +160,8 @@ module _ (one_path : (j : json.Json) (path other : List PathSegment) → Duplica
       let same : y.1.0 ≡ x.1.0 = cc in
       one_path x.1.0 (path_of place) (path_of other) x.1.2 (subst (λ j. DuplicateAt j (path_of other)) same y.1.2)
 
-  pub one_turned : (preprocessing : Preprocessing) (place other : Place) (text : List ℕ) → IsRejectedBefore preprocessing place text
-      → IsRejectedBefore preprocessing other text → path_of place ≡ path_of other
+  pub one_turned : (preprocessing : Preprocessing) (place other : Place) (text : List ℕ) → IsRejectedByPreprocessing preprocessing place text
+      → IsRejectedByPreprocessing preprocessing other text → path_of place ≡ path_of other
   one_turned Distinct place other text x y = one_double place other text x y
   one_turned Legacy place other text x y = absurd x
   one_turned DistinctLegacy place other text x y = one_double place other text x y

@@ -10,17 +10,17 @@ use Rattle.bson_tokens.specs.DuplicateKeys.{DuplicateAt}
 use Rattle.bson_model.specs.Value.{Pairs}
 use Rattle.bson_tree.specs.Place.{PathSegment, path_of}
 use Rattle.bson_tree.specs.declared.place.Place.{Place}
-use Rattle.bson_convert.specs.Convert.{IsAccepted, IsRefusedIn}
+use Rattle.bson_convert.specs.Convert.{IsAccepted, IsRejectedIn}
 use Rattle.bson_convert.specs.declared.error.Error.{Error}
 use Rattle.bson_convert.specs.declared.error.Error.TheVariants.{CannotRead, NotJson, NotExtendedJson, NoBytes, OutOfMemory}
 use Rattle.bson_convert.specs.declared.error.Error.TheVariants.{CannotWrite, NotCanonical}
-use Rattle.bson_convert.specs.declared.no_bytes.NoBytes as without
+use Rattle.bson_convert.specs.declared.encode_error.NoBytes as without
 use Rattle.bson_run.proofs.EncodeLaws.{value_one}
 use Rattle.bson_run.proofs.OneRead.{blank_text, not_taken, one_turned}
-use Rattle.bson_run.specs.Lines.{IsBadLineIn, IsBlank, IsUncanonicalFor, IsWithoutBytes, WritesIn}
+use Rattle.bson_run.specs.Lines.{IsRejectedLineIn, IsBlank, IsUncanonicalFor, HasNoBytesForTask, WritesIn}
 use Rattle.bson_run.specs.Outcomes.{IsSameFault}
-use Rattle.bson_run.specs.declared.order.Task.{Task}
-use Rattle.bson_run.specs.declared.order.Task.TheVariants.{Write, Check, Encode, Preprocessed}
+use Rattle.bson_run.specs.declared.task.Task.{Task}
+use Rattle.bson_run.specs.declared.task.Task.TheVariants.{Write, Check, Encode, Preprocessed}
 use Rattle.bson_run.proofs.OneOutput.{Reads, Turned, blank_read, fails_of, fault_text, has_bytes, no_fault, no_text}
 use Rattle.bson_run.proofs.OneOutput.{one_column, one_read, one_written, same_cause, same_path, turned_blank, uncanonical_bytes}
 use Rattle.bson_run.proofs.OneOutput.{uncanonical_read, uncanonical_written, without_read, written_read}
@@ -29,22 +29,22 @@ use Rattle.bson_run.proofs.OneOutput.{uncanonical_read, uncanonical_written, wit
 pub record Decided (o : Options) (task : Task) : Type 0 where
   pub one_text : (text a b : List ℕ) → WritesIn o task text a → WritesIn o task text b → a ≡ b
   pub written_blank : (text a : List ℕ) → WritesIn o task text a → IsBlank text → ⊥
-  pub written_bad : (text a : List ℕ) (fault : Error) → WritesIn o task text a → IsBadLineIn o task fault text → ⊥
-  pub blank_bad : (text : List ℕ) (fault : Error) → IsBlank text → IsBadLineIn o task fault text → ⊥
-  pub same_fault : (text : List ℕ) (fault cause : Error) → IsBadLineIn o task fault text → IsBadLineIn o task cause text
+  pub written_bad : (text a : List ℕ) (fault : Error) → WritesIn o task text a → IsRejectedLineIn o task fault text → ⊥
+  pub blank_bad : (text : List ℕ) (fault : Error) → IsBlank text → IsRejectedLineIn o task fault text → ⊥
+  pub same_fault : (text : List ℕ) (fault cause : Error) → IsRejectedLineIn o task fault text → IsRejectedLineIn o task cause text
       → IsSameFault fault cause
 
 -- ---- why a line is refused
 
 data View (o : Options) (task : Task) (text : List ℕ) : Error → Type 0 where
   unread : (read : List ℕ) → Reads task text read → IsNotJsonText read → (IsBlank text → ⊥) → View o task text NotJson
-  meaningless : (place : Place) (read : List ℕ) → Reads task text read → IsRefusedIn o (NotExtendedJson place) read
+  meaningless : (place : Place) (read : List ℕ) → Reads task text read → IsRejectedIn o (NotExtendedJson place) read
       → View o task text (NotExtendedJson place)
   turned : (place : Place) → Turned task place text → View o task text (NotExtendedJson place)
-  bare : (why : without.NoBytes) → IsWithoutBytes o task why text → View o task text (NoBytes why)
+  bare : (why : without.NoBytes) → HasNoBytesForTask o task why text → View o task text (NoBytes why)
   differs : (column : ℕ) → IsUncanonicalFor o task column text → View o task text (NotCanonical column)
 
-view : (o : Options) (task : Task) (text : List ℕ) (fault : Error) → IsBadLineIn o task fault text
+view : (o : Options) (task : Task) (text : List ℕ) (fault : Error) → IsRejectedLineIn o task fault text
     → View o task text fault
 view o (Write mode) text NotJson h = unread text refl h.0 h.1
 view o (Check criterion) text NotJson h = unread text refl h.0 h.1
@@ -79,8 +79,8 @@ module _ (twice : (j : Json) (path : List PathSegment) → DuplicateAt j path �
   both_turned Encode place other text x y = absurd x
   both_turned (Preprocessed preprocessing it) place other text x y = one_turned one_double preprocessing place other text x y
 
-  both_bare : (task : Task) (why other : without.NoBytes) (text : List ℕ) → IsWithoutBytes o task why text
-      → IsWithoutBytes o task other text → why ≡ other
+  both_bare : (task : Task) (why other : without.NoBytes) (text : List ℕ) → HasNoBytesForTask o task why text
+      → HasNoBytesForTask o task other text → why ≡ other
   both_bare (Write mode) why other text x y = absurd x
   both_bare (Check criterion) why other text x y = absurd x
   both_bare Encode why other text x y =
@@ -89,7 +89,7 @@ module _ (twice : (j : Json) (path : List PathSegment) → DuplicateAt j path �
   both_bare (Preprocessed preprocessing it) why other text x y = absurd x
 
   not_bare : (task : Task) (why : without.NoBytes) (text a : List ℕ) → WritesIn o task text a
-      → IsWithoutBytes o task why text → ⊥
+      → HasNoBytesForTask o task why text → ⊥
   not_bare (Write mode) why text a w h = h
   not_bare (Check criterion) why text a w h = h
   not_bare Encode why text a w h =
@@ -103,12 +103,12 @@ module _ (twice : (j : Json) (path : List PathSegment) → DuplicateAt j path �
     apart a b x y accepted none = no_text o a accepted (subst IsNotJsonText (one_read task text b a y x) none)
 
     unmeant : (a b : List ℕ) (place : Place) → Reads task text a → Reads task text b → IsAccepted o a
-        → IsRefusedIn o (NotExtendedJson place) b → ⊥
+        → IsRejectedIn o (NotExtendedJson place) b → ⊥
     unmeant a b place x y accepted h =
-        no_fault o a place accepted (subst (IsRefusedIn o (NotExtendedJson place)) (one_read task text b a y x) h)
+        no_fault o a place accepted (subst (IsRejectedIn o (NotExtendedJson place)) (one_read task text b a y x) h)
 
     untexted : (a b : List ℕ) (place : Place) → Reads task text a → Reads task text b
-        → IsRefusedIn o (NotExtendedJson place) a → IsNotJsonText b → ⊥
+        → IsRejectedIn o (NotExtendedJson place) a → IsNotJsonText b → ⊥
     untexted a b place x y h none =
         fault_text o a place h (subst IsNotJsonText (one_read task text b a y x) none)
 
@@ -145,7 +145,7 @@ module _ (twice : (j : Json) (path : List PathSegment) → DuplicateAt j path �
     viewed fault cause (meaningless place a x h) (unread b y none some) = absurd (untexted a b place x y h none)
     viewed fault cause (meaningless place a x h) (meaningless other b y k) =
         same_path o a place other h
-        (subst (IsRefusedIn o (NotExtendedJson other)) (one_read task text b a y x) k)
+        (subst (IsRejectedIn o (NotExtendedJson other)) (one_read task text b a y x) k)
     viewed fault cause (meaningless place a x h) (turned other k) = absurd (not_turned task other text a k x)
     viewed fault cause (meaningless place a x h) (bare why k) =
         let r = without_read o task why text k in absurd (unmeant text a place r.0 x r.1 h)

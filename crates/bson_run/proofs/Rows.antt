@@ -4,9 +4,9 @@ use Rattle.std.proofs.Common.{◌≡◌, zero, suc, [], ◌∷◌, inl, inr, ref
 use Rattle.std.specs.Char.{encode_utf8}
 use Rattle.std.specs.Prelude.{codes}
 use Rattle.bson_run.specs.Lines.{lines, line_text, IsBlank}
-use Rattle.bson_run.specs.Place.{shown}
-use Rattle.bson_run.specs.Words.{task_name, words_broken}
-use Rattle.bson_run.specs.declared.order.Task.TheVariants.{Check, Encode}
+use Rattle.bson_run.specs.ErrorMessages.{escaped_char}
+use Rattle.bson_run.specs.TaskNames.{task_name, rule_message}
+use Rattle.bson_run.specs.declared.task.Task.TheVariants.{Check, Encode}
 use Rattle.bson_run.specs.declared.rule.Rule.TheVariants as rule
 
 -- ---- names of tasks
@@ -17,30 +17,30 @@ tasks_named = (λ criterion. refl, refl)
 
 -- ---- messages of rules of JSON
 
-rules_told : (words_broken rule.Utf8 ≡ codes "invalid UTF-8")
-    × (words_broken rule.UnexpectedEnd ≡ codes "unexpected end of input")
-    × (words_broken rule.Quotes ≡ codes "keys and strings must be in double quotes")
-    × (words_broken rule.NoValue ≡ codes "expected a value")
-    × (words_broken rule.Number ≡ codes "invalid number")
-    × (words_broken rule.ControlCharacter ≡ codes "unescaped control character in a string")
-    × (words_broken rule.Escape ≡ codes "invalid escape sequence")
-    × (words_broken rule.Separator ≡ codes "expected a comma or a closing bracket")
-    × (words_broken rule.ExpectedElement ≡ codes "expected an element after the comma")
-    × (words_broken rule.ExpectedColonAndValue ≡ codes "expected a colon and a value after the key")
-    × (words_broken rule.Depth ≡ codes "nested more than 127 levels deep")
-    × (words_broken rule.TrailingData ≡ codes "unexpected data after the value")
-    × (words_broken rule.OutOfRange ≡ codes "number out of range")
-    × (words_broken rule.RewrittenDepth ≡ codes "the rewritten input is nested more than 127 levels deep")
+rules_told : (rule_message rule.Utf8 ≡ codes "invalid UTF-8")
+    × (rule_message rule.UnexpectedEnd ≡ codes "unexpected end of input")
+    × (rule_message rule.Quotes ≡ codes "keys and strings must be in double quotes")
+    × (rule_message rule.NoValue ≡ codes "expected a value")
+    × (rule_message rule.Number ≡ codes "invalid number")
+    × (rule_message rule.ControlCharacter ≡ codes "unescaped control character in a string")
+    × (rule_message rule.Escape ≡ codes "invalid escape sequence")
+    × (rule_message rule.Separator ≡ codes "expected a comma or a closing bracket")
+    × (rule_message rule.ExpectedElement ≡ codes "expected an element after the comma")
+    × (rule_message rule.ExpectedColonAndValue ≡ codes "expected a colon and a value after the key")
+    × (rule_message rule.Depth ≡ codes "nested more than 127 levels deep")
+    × (rule_message rule.TrailingData ≡ codes "unexpected data after the value")
+    × (rule_message rule.OutOfRange ≡ codes "number out of range")
+    × (rule_message rule.RewrittenDepth ≡ codes "the rewritten input is nested more than 127 levels deep")
 rules_told = (refl, refl, refl, refl, refl, refl, refl, refl, refl, refl, refl, refl, refl, refl)
 
 -- ---- escaped characters
 
-characters_told : (shown 0x1B ≡ codes "\\u001b")
-    × (shown 10 ≡ codes "\\u000a")
-    × (shown 0x9F ≡ codes "\\u009f")
-    × (shown 0x2028 ≡ codes "\\u2028")
-    × (shown 0x2029 ≡ codes "\\u2029")
-    × (shown 92 ≡ 92 ∷ [])
+characters_told : (escaped_char 0x1B ≡ codes "\\u001b")
+    × (escaped_char 10 ≡ codes "\\u000a")
+    × (escaped_char 0x9F ≡ codes "\\u009f")
+    × (escaped_char 0x2028 ≡ codes "\\u2028")
+    × (escaped_char 0x2029 ≡ codes "\\u2029")
+    × (escaped_char 92 ≡ 92 ∷ [])
 unfolding encode_utf8
 characters_told = (refl, refl, refl, refl, refl, refl)
 

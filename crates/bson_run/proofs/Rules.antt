@@ -7,9 +7,9 @@ use Rattle.json.specs.Lex.{tokens}
 use Rattle.json.specs.Token.{Token, bad}
 use Rattle.serde_json.specs.Data.{Data}
 use Rattle.serde_json.specs.Read.{max_depth, of_json}
-use Rattle.bson_run.specs.Place.{Breaks, HasGrammar, HasTrailingData, HasTree, IsOfBad, IsOfToken, IsOfValue, NestsDeeper}
-use Rattle.bson_run.specs.Place.{HasBad}
-use Rattle.bson_run.specs.Place.{closes, opens}
+use Rattle.bson_run.specs.ErrorMessages.{BreaksRule, HasGrammar, HasTrailingData, HasTree, IsInvalidTokenRule, IsTokenRule, IsValueRule, NestsDeeper}
+use Rattle.bson_run.specs.ErrorMessages.{HasInvalidToken}
+use Rattle.bson_run.specs.ErrorMessages.{closes, opens}
 use Rattle.bson_run.specs.declared.rule.Rule.{Rule}
 use Rattle.bson_run.specs.declared.rule.Rule.TheVariants.{UnexpectedEnd, TrailingData}
 use Rattle.bson_run.specs.declared.rule.Rule.TheVariants.{Quotes, Separator, ExpectedColonAndValue, Depth}
@@ -39,7 +39,7 @@ has_grammar bytes (t, is) = (is.utf8, all_read (value max_depth (tokens bytes)) 
 
 -- ---- more input after a value
 
-pub more_behind : (bytes : List ℕ) → HasTrailingData bytes → Breaks bytes TrailingData
+pub more_behind : (bytes : List ℕ) → HasTrailingData bytes → BreaksRule bytes TrailingData
 more_behind bytes m = record {
   utf8 = (λ e. absurd cc, λ n. absurd (n m.0));
   number = (λ e. absurd cc, λ g. let one = g.0.1 in let other = m.1.2 in absurd cc);
@@ -53,8 +53,8 @@ more_behind bytes m = record {
 -- ---- those of a text with no value at its beginning
 
 module _ (bytes : List ℕ) (u : IsUtf8 bytes) (none : skip_value max_depth (tokens bytes) ≡ None) where
-  of_value : (rule : Rule) → IsOfValue rule → (tokens bytes ≡ [] → rule ≡ UnexpectedEnd)
-      → (rule ≡ Depth → NestsDeeper (tokens bytes)) → (IsOfBad rule → HasBad (tokens bytes)) → Breaks bytes rule
+  of_value : (rule : Rule) → IsValueRule rule → (tokens bytes ≡ [] → rule ≡ UnexpectedEnd)
+      → (rule ≡ Depth → NestsDeeper (tokens bytes)) → (IsInvalidTokenRule rule → HasInvalidToken (tokens bytes)) → BreaksRule bytes rule
   of_value rule other blank depth no_token = record {
     utf8 = (λ e. absurd (other.0 e), λ n. absurd (n u));
     number = (λ e. absurd (other.1 e), λ g. let one = g.0.1 in absurd cc);
@@ -65,11 +65,11 @@ module _ (bytes : List ℕ) (u : IsUtf8 bytes) (none : skip_value max_depth (tok
     no_token = no_token;
   }
 
-  pub at_end : Breaks bytes UnexpectedEnd
+  pub at_end : BreaksRule bytes UnexpectedEnd
   at_end = of_value UnexpectedEnd (λ e. absurd cc, λ e. absurd cc, λ e. absurd cc, λ e. absurd cc) (λ e. refl) (λ e. absurd cc) (λ h. absurd h)
 
   pub at_bad : (rule : Rule) (front rest : List Token) → tokens bytes ≡ front ++ bad ∷ rest
-      → IsOfValue rule × (rule ≢ Depth) → Breaks bytes rule
+      → IsValueRule rule × (rule ≢ Depth) → BreaksRule bytes rule
   at_bad rule front rest e h =
       of_value rule h.0 (λ n. absurd (has_one front bad rest (sym e ∙ n))) (λ d. absurd (h.1 d)) (λ x. (front, rest, e))
 
@@ -84,13 +84,13 @@ module _ (bytes : List ℕ) (u : IsUtf8 bytes) (none : skip_value max_depth (tok
   )
 
   pub at_token : (rule : Rule) (depth : ℕ) (t : Token) (front rest : List Token) → tokens bytes ≡ front ++ t ∷ rest
-      → depth + sum_by closes front ≡ sum_by opens front → IsOfToken depth t rule → Breaks bytes rule
-  at_token rule depth t front rest e count (inl is) = subst (λ r. Breaks bytes r) (sym is)
+      → depth + sum_by closes front ≡ sum_by opens front → IsTokenRule depth t rule → BreaksRule bytes rule
+  at_token rule depth t front rest e count (inl is) = subst (λ r. BreaksRule bytes r) (sym is)
       (of_value Quotes (λ f. absurd cc, λ f. absurd cc, λ f. absurd cc, λ f. absurd cc) (λ n. absurd (has_one front t rest (sym e ∙ n))) (λ f. absurd cc) (λ h. absurd h))
-  at_token rule depth t front rest e count (inr (inl is)) = subst (λ r. Breaks bytes r) (sym is)
+  at_token rule depth t front rest e count (inr (inl is)) = subst (λ r. BreaksRule bytes r) (sym is)
       (of_value Separator (λ f. absurd cc, λ f. absurd cc, λ f. absurd cc, λ f. absurd cc) (λ n. absurd (has_one front t rest (sym e ∙ n))) (λ f. absurd cc) (λ h. absurd h))
-  at_token rule depth t front rest e count (inr (inr (inl is))) = subst (λ r. Breaks bytes r) (sym is)
+  at_token rule depth t front rest e count (inr (inr (inl is))) = subst (λ r. BreaksRule bytes r) (sym is)
       (of_value ExpectedColonAndValue (λ f. absurd cc, λ f. absurd cc, λ f. absurd cc, λ f. absurd cc) (λ n. absurd (has_one front t rest (sym e ∙ n))) (λ f. absurd cc) (λ h. absurd h))
-  at_token rule depth t front rest e count (inr (inr (inr h))) = subst (λ r. Breaks bytes r) (sym h.0)
+  at_token rule depth t front rest e count (inr (inr (inr h))) = subst (λ r. BreaksRule bytes r) (sym h.0)
       (of_value Depth (λ f. absurd cc, λ f. absurd cc, λ f. absurd cc, λ f. absurd cc) (λ n. absurd (has_one front t rest (sym e ∙ n)))
       (λ f. deeper depth t front rest e count h.1 h.2) (λ x. absurd x))

@@ -6,14 +6,14 @@ use Rattle.bson.specs.declared.extjson.options.Options.{Options}
 use Rattle.bson_convert.specs.declared.error.Error.{Error}
 use Rattle.bson_convert.specs.declared.error.Error.TheVariants.{CannotRead, NotJson, NotExtendedJson, NoBytes, OutOfMemory}
 use Rattle.bson_convert.specs.declared.error.Error.TheVariants.{CannotWrite, NotCanonical}
-use Rattle.bson_run.specs.Lines.{lines, left_of, line_text, DoneLinesIn, FailsAtIn, GivesIn, IsBadLineIn, IsStoppedAtIn, StopsAtIn}
+use Rattle.bson_run.specs.Lines.{lines, remaining_bytes, line_text, DoneLinesIn, FailsAtIn, HaveOutcomesIn, IsRejectedLineIn, IsStoppedAtIn, StopsAtIn}
 use Rattle.bson_run.specs.Lines.{WritesText}
-use Rattle.bson_run.specs.Outcomes.{IsOfText, StopsInside}
-use Rattle.bson_run.specs.declared.order.OnRefusal.{OnRefusal}
-use Rattle.bson_run.specs.declared.order.OnRefusal.TheVariants.{Stop}
-use Rattle.bson_run.specs.declared.order.Task.{Task}
+use Rattle.bson_run.specs.Outcomes.{IsTextError, StopsInside}
+use Rattle.bson_run.specs.declared.task.OnRefusal.{OnRefusal}
+use Rattle.bson_run.specs.declared.task.OnRefusal.TheVariants.{Stop}
+use Rattle.bson_run.specs.declared.task.Task.{Task}
 
-given_all : (all bytes : List ℕ) (after : Option (List ℕ)) → Consumes (Some all) after bytes → all ≡ bytes ++ left_of after
+given_all : (all bytes : List ℕ) (after : Option (List ℕ)) → Consumes (Some all) after bytes → all ≡ bytes ++ remaining_bytes after
 given_all all bytes None h = absurd h
 given_all all bytes (Some left) h = h
 
@@ -22,18 +22,18 @@ all_given all bytes None h end = absurd h
 all_given all bytes (Some left) h end = h ∙ ap (λ l. bytes ++ l) end ∙ append-nil bytes
 
 module _ (o : Options) (task : Task) (on_refusal : OnRefusal) where
-  pub done_inside : (all : List ℕ) (after had holds reported reports : Option (List ℕ)) (number refused : ℕ)
-      → DoneLinesIn o task on_refusal (Some all) after had holds reported reports number refused
-      → (number ≡ length (lines all)) × ((output : List ℕ) × (verdicts : List ℕ)
-      × GivesIn o task on_refusal (lines all) output verdicts refused × Appends had holds output
-      × Appends reported reports verdicts)
-  done_inside all after had holds reported reports number refused h =
+  pub done_inside : (all : List ℕ) (after output_before output_after diagnostics_before diagnostics_after : Option (List ℕ)) (number refused : ℕ)
+      → DoneLinesIn o task on_refusal (Some all) after output_before output_after diagnostics_before diagnostics_after number refused
+      → (number ≡ length (lines all)) × ((output : List ℕ) × (diagnostics : List ℕ)
+      × HaveOutcomesIn o task on_refusal (lines all) output diagnostics refused × Appends output_before output_after output
+      × Appends diagnostics_before diagnostics_after diagnostics)
+  done_inside all after output_before output_after diagnostics_before diagnostics_after number refused h =
       let same = all_given all h.bytes after h.all.given h.all.at_end in (
         h.counted ∙ ap (λ l. length (lines l)) (sym same),
         (
           h.output,
-          h.verdicts,
-          subst (λ (l : List ℕ). GivesIn o task on_refusal (lines l) h.output h.verdicts refused) (sym same) h.outcomes,
+          h.diagnostics,
+          subst (λ (l : List ℕ). HaveOutcomesIn o task on_refusal (lines l) h.output h.diagnostics refused) (sym same) h.outcomes,
           h.written,
           h.reports_appended,
         ),
@@ -45,59 +45,59 @@ module _ (o : Options) (task : Task) (on_refusal : OnRefusal) where
     others : List (List ℕ)
     parts : all ≡ line ∷ others
     stops : on_refusal ≡ Stop
-    reason : IsBadLineIn o task fault (line_text n line)
+    reason : IsRejectedLineIn o task fault (line_text n line)
 
-  at_line : (fault : Error) → IsOfText fault → (held : List ℕ) (n : ℕ) (all : List (List ℕ))
-      → IsStoppedAtIn o task on_refusal fault held n all → AtLine fault n all
-  at_line NotJson of held n [] h = absurd h
-  at_line NotJson of held n (line ∷ others) (is, (stops, h)) = record {
+  at_line : (fault : Error) → IsTextError fault → (rejected_text : List ℕ) (n : ℕ) (all : List (List ℕ))
+      → IsStoppedAtIn o task on_refusal fault rejected_text n all → AtLine fault n all
+  at_line NotJson of rejected_text n [] h = absurd h
+  at_line NotJson of rejected_text n (line ∷ others) (is, (stops, h)) = record {
     line = line;
     others = others;
     parts = refl;
     stops = stops;
-    reason = subst (IsBadLineIn o task NotJson) is h;
+    reason = subst (IsRejectedLineIn o task NotJson) is h;
   }
-  at_line (NotExtendedJson place) of held n [] h = absurd h
-  at_line (NotExtendedJson place) of held n (line ∷ others) (is, (stops, h)) = record {
+  at_line (NotExtendedJson place) of rejected_text n [] h = absurd h
+  at_line (NotExtendedJson place) of rejected_text n (line ∷ others) (is, (stops, h)) = record {
     line = line;
     others = others;
     parts = refl;
     stops = stops;
-    reason = subst (IsBadLineIn o task (NotExtendedJson place)) is h;
+    reason = subst (IsRejectedLineIn o task (NotExtendedJson place)) is h;
   }
-  at_line (NoBytes why) of held n [] h = absurd h
-  at_line (NoBytes why) of held n (line ∷ others) (is, (stops, h)) = record {
+  at_line (NoBytes why) of rejected_text n [] h = absurd h
+  at_line (NoBytes why) of rejected_text n (line ∷ others) (is, (stops, h)) = record {
     line = line;
     others = others;
     parts = refl;
     stops = stops;
-    reason = subst (IsBadLineIn o task (NoBytes why)) is h;
+    reason = subst (IsRejectedLineIn o task (NoBytes why)) is h;
   }
-  at_line (NotCanonical column) of held n [] h = absurd h
-  at_line (NotCanonical column) of held n (line ∷ others) (is, (stops, h)) = record {
+  at_line (NotCanonical column) of rejected_text n [] h = absurd h
+  at_line (NotCanonical column) of rejected_text n (line ∷ others) (is, (stops, h)) = record {
     line = line;
     others = others;
     parts = refl;
     stops = stops;
-    reason = subst (IsBadLineIn o task (NotCanonical column)) is h;
+    reason = subst (IsRejectedLineIn o task (NotCanonical column)) is h;
   }
-  at_line CannotRead of held n all h = absurd of
-  at_line OutOfMemory of held n all h = absurd of
-  at_line CannotWrite of held n all h = absurd of
+  at_line CannotRead of rejected_text n all h = absurd of
+  at_line OutOfMemory of rejected_text n all h = absurd of
+  at_line CannotWrite of rejected_text n all h = absurd of
 
-  abbrev Inside : List ℕ → (had holds reported reports : Option (List ℕ)) → Error → ℕ → Type 0
-  Inside all had holds reported reports fault number = (output : List ℕ) × (verdicts : List ℕ)
-      × StopsInside o task on_refusal (lines all) output verdicts fault number
-      × (WritesText task → IsUtf8 output) × IsUtf8 verdicts × Appends had holds output × Appends reported reports verdicts
+  abbrev Inside : List ℕ → (output_before output_after diagnostics_before diagnostics_after : Option (List ℕ)) → Error → ℕ → Type 0
+  Inside all output_before output_after diagnostics_before diagnostics_after fault number = (output : List ℕ) × (diagnostics : List ℕ)
+      × StopsInside o task on_refusal (lines all) output diagnostics fault number
+      × (WritesText task → IsUtf8 output) × IsUtf8 diagnostics × Appends output_before output_after output × Appends diagnostics_before diagnostics_after diagnostics
 
-  inside : (all : List ℕ) (after had holds reported reports : Option (List ℕ)) (fault : Error) (number : ℕ) (held : List ℕ)
-      → IsOfText fault
-      → StopsAtIn o (IsStoppedAtIn o task on_refusal fault held) task on_refusal (Some all) after had holds reported reports number
-      → Inside all had holds reported reports fault number
-  inside all after had holds reported reports fault number held of h =
-      let at = at_line fault of held (length h.done) h.others h.reason in
+  inside : (all : List ℕ) (after output_before output_after diagnostics_before diagnostics_after : Option (List ℕ)) (fault : Error) (number : ℕ) (rejected_text : List ℕ)
+      → IsTextError fault
+      → StopsAtIn o (IsStoppedAtIn o task on_refusal fault rejected_text) task on_refusal (Some all) after output_before output_after diagnostics_before diagnostics_after number
+      → Inside all output_before output_after diagnostics_before diagnostics_after fault number
+  inside all after output_before output_after diagnostics_before diagnostics_after fault number rejected_text of h =
+      let at = at_line fault of rejected_text (length h.done) h.others h.reason in
       let whole = given_all all h.reaches.bytes after h.reaches.given in
-      let stopped : StopsInside o task on_refusal (lines all) h.output h.verdicts fault number = record {
+      let stopped : StopsInside o task on_refusal (lines all) h.output h.diagnostics fault number = record {
         done = h.done;
         line = at.line;
         others = at.others;
@@ -108,19 +108,19 @@ module _ (o : Options) (task : Task) (on_refusal : OnRefusal) where
         stops = at.stops;
         reason = at.reason;
       } in
-      (h.output, h.verdicts, stopped, h.reaches.outcomes.utf8, h.reaches.outcomes.diagnostic_utf8, h.written.0, h.written.1)
+      (h.output, h.diagnostics, stopped, h.reaches.outcomes.utf8, h.reaches.outcomes.diagnostic_utf8, h.written.0, h.written.1)
 
-  pub stops_inside : (all : List ℕ) (after had holds reported reports : Option (List ℕ)) (fault : Error) (number : ℕ)
-      (held : List ℕ) → FailsAtIn o fault task on_refusal (Some all) after had holds reported reports number held
-      → IsOfText fault → Inside all had holds reported reports fault number
-  stops_inside all after had holds reported reports NotJson number held h of =
-      inside all after had holds reported reports NotJson number held of h
-  stops_inside all after had holds reported reports (NotExtendedJson place) number held h of =
-      inside all after had holds reported reports (NotExtendedJson place) number held of h
-  stops_inside all after had holds reported reports (NoBytes why) number held h of =
-      inside all after had holds reported reports (NoBytes why) number held of h
-  stops_inside all after had holds reported reports (NotCanonical column) number held h of =
-      inside all after had holds reported reports (NotCanonical column) number held of h
-  stops_inside all after had holds reported reports CannotRead number held h of = absurd of
-  stops_inside all after had holds reported reports OutOfMemory number held h of = absurd of
-  stops_inside all after had holds reported reports CannotWrite number held h of = absurd of
+  pub stops_inside : (all : List ℕ) (after output_before output_after diagnostics_before diagnostics_after : Option (List ℕ)) (fault : Error) (number : ℕ)
+      (rejected_text : List ℕ) → FailsAtIn o fault task on_refusal (Some all) after output_before output_after diagnostics_before diagnostics_after number rejected_text
+      → IsTextError fault → Inside all output_before output_after diagnostics_before diagnostics_after fault number
+  stops_inside all after output_before output_after diagnostics_before diagnostics_after NotJson number rejected_text h of =
+      inside all after output_before output_after diagnostics_before diagnostics_after NotJson number rejected_text of h
+  stops_inside all after output_before output_after diagnostics_before diagnostics_after (NotExtendedJson place) number rejected_text h of =
+      inside all after output_before output_after diagnostics_before diagnostics_after (NotExtendedJson place) number rejected_text of h
+  stops_inside all after output_before output_after diagnostics_before diagnostics_after (NoBytes why) number rejected_text h of =
+      inside all after output_before output_after diagnostics_before diagnostics_after (NoBytes why) number rejected_text of h
+  stops_inside all after output_before output_after diagnostics_before diagnostics_after (NotCanonical column) number rejected_text h of =
+      inside all after output_before output_after diagnostics_before diagnostics_after (NotCanonical column) number rejected_text of h
+  stops_inside all after output_before output_after diagnostics_before diagnostics_after CannotRead number rejected_text h of = absurd of
+  stops_inside all after output_before output_after diagnostics_before diagnostics_after OutOfMemory number rejected_text h of = absurd of
+  stops_inside all after output_before output_after diagnostics_before diagnostics_after CannotWrite number rejected_text h of = absurd of

@@ -27,8 +27,8 @@ use Rattle.bson_convert.specs.declared.error.Error.{Error}
 use Rattle.bson_convert.specs.declared.mode.Mode.{Mode}
 use Rattle.bson_convert.specs.declared.mode.Mode.TheVariants.{Canonical, Relaxed, Show}
 use Rattle.bson_convert.proofs.Offered.{output_kept as sorted_kept, tokens_then}
-use Rattle.bson_run.specs.InOrder.{ConvertsBy, ConvertsInOrder, ConvertsToItselfInOrder, IsConvertedTextInOrder, IsKeptBy}
-use Rattle.bson_run.specs.InOrder.{IsKeptInOrder, IsLineInOrder, IsOutputInOrder}
+use Rattle.bson_run.specs.InOrder.{ConvertsBy, ConvertsInOrder, ConvertsToItselfInOrder, IsConvertedTextInOrder, IsFixedPointBy}
+use Rattle.bson_run.specs.InOrder.{IsFixedPointInOrder, IsLineInOrder, IsOutputInOrder}
 use Rattle.bson_run.proofs.Ordered.{default_tree, text_converts}
 
 pub read_kept_then : (text : List ℕ) → read_in_order (text ++ newline) ≡ read_in_order text
@@ -112,7 +112,7 @@ module _ (o : Options) (f : Form) where
   }
 
 output_kept : (o : Options) (mode : Mode) (bytes output : List ℕ) → ConvertsInOrder o mode bytes output → IsUtf8 output
-    → IsKeptInOrder o mode output
+    → IsFixedPointInOrder o mode output
 output_kept o Canonical bytes output x utf8 =
     is_kept o form.Canonical Canonical bytes output x.value x.meaning utf8 x.is_output (λ w line. line)
 output_kept o Relaxed bytes output x utf8 =
@@ -120,14 +120,14 @@ output_kept o Relaxed bytes output x utf8 =
 output_kept o Show bytes output x utf8 = tt
 
 pub kept_by : (k : KeyOrder) (o : Options) (mode : Mode) (bytes output : List ℕ) → ConvertsBy k o mode bytes output
-    → IsUtf8 output → IsKeptBy k o mode output
+    → IsUtf8 output → IsFixedPointBy k o mode output
 kept_by Ascending o mode bytes output x utf8 = sorted_kept o mode bytes output x utf8
 kept_by AsGiven o mode bytes output x utf8 = output_kept o mode bytes output x utf8
 
 -- the same of a text that is ended
 pub kept_ok : (o : Options) (mode : Mode) (bytes text : List ℕ) (r : Result (Vec ℕ Global) Error)
     → IsConvertedTextInOrder o mode bytes text → IsUtf8 text → IfOk r (λ ended. ended.items ≡ text ++ newline)
-    → (IsUtf8 text → IfOk r (λ ended. IsUtf8 ended.items)) → IfOk r (λ ended. IsKeptInOrder o mode ended.items)
+    → (IsUtf8 text → IfOk r (λ ended. IsUtf8 ended.items)) → IfOk r (λ ended. IsFixedPointInOrder o mode ended.items)
 kept_ok o mode bytes text (Ok ended) is utf8 line valid =
     output_kept o mode bytes ended.items (text_converts o mode bytes text ended.items is line) (valid utf8)
 kept_ok o mode bytes text (Err e) is utf8 line valid = tt

@@ -18,17 +18,17 @@ use Rattle.bson_convert.specs.declared.error.Error.{Error}
 use Rattle.bson_convert.proofs.Offered.{again, parsed_whole, read_then, text_converts, tokens_then, whole}
 use Rattle.bson_convert.specs.declared.mode.Mode.{Mode}
 use Rattle.bson_run.specs.InOrder.{ConvertsBy, IsConvertedTextBy, IsLineInOrder, IsOutputInOrder}
-use Rattle.bson_run.specs.Indent.{mode_of, ConvertsIndented, IsLaidOut, IsKeptIndented}
+use Rattle.bson_run.specs.Indent.{mode_of, ConvertsIndented, IsIndentedOutput, IsFixedPointIndented}
 use Rattle.bson_run.proofs.Ordered.{text_converts as converts_in_order}
 use Rattle.bson_run.proofs.TwiceInOrder.{again_in_order, line_read}
 
-module _ (n : ℕ) (text output : List ℕ) (is : IsLaidOut n text output) where
+module _ (n : ℕ) (text output : List ℕ) (is : IsIndentedOutput n text output) where
   -- where the text is read, the layout has its tokens
   tokens_alike : {A : Type 0} (of : Json → Option A) (t : A)
       → option_and_then of (whole (json_value max_depth (tokens text))) ≡ Some t → tokens output ≡ tokens text
   tokens_alike of t h =
       let j = parsed_whole of (json_value max_depth (tokens text)) t h in
-      ap tokens is.line ∙ tokens_then is.laid ∙ is.same max_depth j.0 j.1
+      ap tokens is.line ∙ tokens_then is.indented_text ∙ is.same max_depth j.0 j.1
 
   alike : {A : Type 0} (of : Json → Option A) (t : A)
       → option_and_then of (whole (json_value max_depth (tokens text))) ≡ Some t
@@ -38,12 +38,12 @@ module _ (n : ℕ) (text output : List ℕ) (is : IsLaidOut n text output) where
 module _ (o : Options) (f : Form) (n : ℕ) (bytes output : List ℕ) (utf8 : IsUtf8 output) where
   laid_again : (x : ConvertsIndented Ascending o f n bytes output) → IsWrittenIn o f x.converts.value (x.text ++ newline)
       → ((v : Value) → IsWrittenIn o f v (x.text ++ newline) → IsOutputIn o (mode_of f) v (x.text ++ newline))
-      → IsKeptIndented Ascending o f n output
+      → IsFixedPointIndented Ascending o f n output
   laid_again x w of =
       let a = again o f bytes (x.text ++ newline) x.converts.tree x.converts.value x.converts.text x.converts.meaning w in
       record {
         tree = w.tree;
-        laid = subst (λ s. IsLaidOut n s output) (append_cancel_right x.text (tree_text o.doubles f w.tree) newline w.line.text)
+        indented_text = subst (λ s. IsIndentedOutput n s output) (append_cancel_right x.text (tree_text o.doubles f w.tree) newline w.line.text)
             x.is_output;
         again = λ shallow.
             let read_text = sym (read_then x.text) ∙ ap read w.line.text ∙ read_then (tree_text o.doubles f w.tree)
@@ -67,12 +67,12 @@ module _ (o : Options) (f : Form) (n : ℕ) (bytes output : List ℕ) (utf8 : Is
   laid_again_in_order : (x : ConvertsIndented AsGiven o f n bytes output)
       → (line : IsLineInOrder o.doubles f x.converts.value (x.text ++ newline))
       → ((v : Value) → IsLineInOrder o.doubles f v (x.text ++ newline) → IsOutputInOrder o (mode_of f) v (x.text ++ newline))
-      → IsKeptIndented AsGiven o f n output
+      → IsFixedPointIndented AsGiven o f n output
   laid_again_in_order x line of =
       let texts : x.text ≡ line.text = append_cancel_right x.text line.text newline line.line in
       record {
         tree = line.is_text.tree;
-        laid = subst (λ s. IsLaidOut n s output) (texts ∙ line.is_text.compact) x.is_output;
+        indented_text = subst (λ s. IsIndentedOutput n s output) (texts ∙ line.is_text.compact) x.is_output;
         again = λ shallow.
             let read_text = ap read_in_order texts ∙ line_read o f bytes (x.text ++ newline) x.converts.value x.converts.meaning
             line shallow in
@@ -87,7 +87,7 @@ module _ (o : Options) (f : Form) (n : ℕ) (bytes output : List ℕ) (utf8 : Is
 -- ---- in either order
 
 pub laid_kept : (k : KeyOrder) (o : Options) (f : Form) (n : ℕ) (bytes output : List ℕ)
-    → ConvertsIndented k o f n bytes output → IsUtf8 output → IsKeptIndented k o f n output
+    → ConvertsIndented k o f n bytes output → IsUtf8 output → IsFixedPointIndented k o f n output
 laid_kept Ascending o Canonical n bytes output x utf8 =
     laid_again o Canonical n bytes output utf8 x x.converts.is_output (λ v w. w)
 laid_kept Ascending o Relaxed n bytes output x utf8 =
@@ -104,10 +104,10 @@ converts_by AsGiven o mode bytes text is = converts_in_order o mode bytes text (
 
 module _ (k : KeyOrder) (o : Options) (f : Form) (n : ℕ) (bytes text : List ℕ)
     (is : IsConvertedTextBy k o (mode_of f) bytes text) where
-  pub indented : (output : List ℕ) → IsLaidOut n text output → ConvertsIndented k o f n bytes output
-  indented output laid = record { text = text; converts = converts_by k o (mode_of f) bytes text is; is_output = laid }
+  pub indented : (output : List ℕ) → IsIndentedOutput n text output → ConvertsIndented k o f n bytes output
+  indented output indented_text = record { text = text; converts = converts_by k o (mode_of f) bytes text is; is_output = indented_text }
 
-  pub indented_kept : (r : Result (Vec ℕ Global) Error) → IfOk r (λ output. IsLaidOut n text output.items)
-      → IfOk r (λ output. IsUtf8 output.items) → IfOk r (λ output. IsKeptIndented k o f n output.items)
-  indented_kept (Ok output) laid utf8 = laid_kept k o f n bytes output.items (indented output.items laid) utf8
-  indented_kept (Err e) laid utf8 = tt
+  pub indented_kept : (r : Result (Vec ℕ Global) Error) → IfOk r (λ output. IsIndentedOutput n text output.items)
+      → IfOk r (λ output. IsUtf8 output.items) → IfOk r (λ output. IsFixedPointIndented k o f n output.items)
+  indented_kept (Ok output) indented_text utf8 = laid_kept k o f n bytes output.items (indented output.items indented_text) utf8
+  indented_kept (Err e) indented_text utf8 = tt

@@ -8,13 +8,13 @@ use Rattle.bson_run.specs.declared.accepted.Accepted.TheVariants.{Output, Normal
 
 -- the output of it
 abbrev pub Outputs : Options → Accepted → List ℕ → Type 0
-Outputs o (Output bytes) output = output ≡ bytes.items
-Outputs o (Normalized mode text) output = ConvertsBy o.key_order o mode (string_bytes text) output
+Outputs options (Output bytes) output = output ≡ bytes.items
+Outputs options (Normalized mode text) output = ConvertsBy options.key_order options mode (string_bytes text) output
 
 -- the text that it has means something
-abbrev pub IsSure : Options → Accepted → Type 0
-IsSure o (Output bytes) = Unit {0}
-IsSure o (Normalized mode text) = IsAccepted o (string_bytes text)
+abbrev pub IsAcceptedText : Options → Accepted → Type 0
+IsAcceptedText options (Output bytes) = Unit {0}
+IsAcceptedText options (Normalized mode text) = IsAccepted options (string_bytes text)
 
 -- an output that it has is UTF-8; the texts are by their type
 abbrev pub IsUtf8Accepted : Accepted → Type 0
@@ -22,6 +22,6 @@ IsUtf8Accepted (Output bytes) = IsUtf8 bytes.items
 IsUtf8Accepted other = Unit {0}
 
 -- it has an output, and each that it has is one of these
-pub record HasOutput (o : Options) (gives : List ℕ → Type 0) (accepted : Accepted) : Type 0 where
-  pub sure : IsSure o accepted
-  pub given : (output : List ℕ) → Outputs o accepted output → gives output
+pub record HasOutput (options : Options) (gives : List ℕ → Type 0) (accepted : Accepted) : Type 0 where
+  pub sure : IsAcceptedText options accepted
+  pub given : (output : List ℕ) → Outputs options accepted output → gives output

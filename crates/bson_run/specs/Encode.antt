@@ -8,9 +8,9 @@ use Rattle.bson_codec.specs.Canonical.{Cause, zero_in_key, zero_in_regex, too_lo
 use Rattle.bson_codec.specs.Canonical.{DocumentFails, FitsDocument, PairsNestUpTo, as_read_back, document_bytes}
 use Rattle.bson_codec.specs.ReadDocuments.{IsRead}
 use Rattle.bson_model.specs.Value.{Value, Pairs, document}
-use Rattle.bson_convert.specs.Convert.{IsRefusedIn}
-use Rattle.bson_convert.specs.declared.no_bytes.NoBytes.{NoBytes}
-use Rattle.bson_convert.specs.declared.no_bytes.NoBytes.TheVariants.{NoDocument, ZeroInKey, ZeroInRegex, TooLong}
+use Rattle.bson_convert.specs.Convert.{IsRejectedIn}
+use Rattle.bson_convert.specs.declared.encode_error.NoBytes.{NoBytes}
+use Rattle.bson_convert.specs.declared.encode_error.NoBytes.TheVariants.{NoDocument, ZeroInKey, ZeroInRegex, TooLong}
 use Rattle.bson_convert.specs.declared.error.Error.{Error}
 use Rattle.bson_convert.specs.declared.error.Error.TheVariants as error
 
@@ -47,29 +47,29 @@ HasNoBytesFor means TooLong = FailsFor means too_long
 
 -- the text means a document, whose canonical bytes these are; they are read back as it
 abbrev pub Encodes : KeyOrder → Options → (text bytes : List ℕ) → Type 0
-Encodes k o text bytes = IsBytesOf (HasTextMeaningBy k o.doubles text) bytes
+Encodes order options text bytes = IsBytesOf (HasTextMeaningBy order options.doubles text) bytes
 
 -- why the text gives no bytes
 abbrev pub HasNoBytesBy : KeyOrder → Options → NoBytes → List ℕ → Type 0
-HasNoBytesBy k o why text = HasNoBytesFor (HasTextMeaningBy k o.doubles text) why
+HasNoBytesBy order options why text = HasNoBytesFor (HasTextMeaningBy order options.doubles text) why
 
 -- what each fault says of the bytes
-abbrev pub IsUnencodedBy : KeyOrder → Options → Error → List ℕ → Type 0
-IsUnencodedBy k o (error.NoBytes why) text = HasNoBytesBy k o why text
-IsUnencodedBy k o it text = IsRefusedIn o it text
+abbrev pub IsEncodeErrorBy : KeyOrder → Options → Error → List ℕ → Type 0
+IsEncodeErrorBy order options (error.NoBytes why) text = HasNoBytesBy order options why text
+IsEncodeErrorBy order options it text = IsRejectedIn options it text
 
 -- ---- for private clauses
 
 -- why what is meant gave no bytes, or memory ran out
-abbrev pub IsUnencodedFor : (means : Value → Type 0) → Error → Type 0
-IsUnencodedFor means (error.NoBytes why) = HasNoBytesFor means why
-IsUnencodedFor means error.OutOfMemory = Unit {0}
-IsUnencodedFor means other = ⊥
+abbrev pub IsEncodeErrorFor : (means : Value → Type 0) → Error → Type 0
+IsEncodeErrorFor means (error.NoBytes why) = HasNoBytesFor means why
+IsEncodeErrorFor means error.OutOfMemory = Unit {0}
+IsEncodeErrorFor means other = ⊥
 
 -- the document fails for the cause, or memory ran out
-abbrev pub FailsAlone : Error → Pairs → Type 0
-FailsAlone (error.NoBytes ZeroInKey) ps = DocumentFails zero_in_key ps
-FailsAlone (error.NoBytes ZeroInRegex) ps = DocumentFails zero_in_regex ps
-FailsAlone (error.NoBytes TooLong) ps = DocumentFails too_long ps
-FailsAlone error.OutOfMemory ps = Unit {0}
-FailsAlone other ps = ⊥
+abbrev pub IsWriteErrorOf : Error → Pairs → Type 0
+IsWriteErrorOf (error.NoBytes ZeroInKey) ps = DocumentFails zero_in_key ps
+IsWriteErrorOf (error.NoBytes ZeroInRegex) ps = DocumentFails zero_in_regex ps
+IsWriteErrorOf (error.NoBytes TooLong) ps = DocumentFails too_long ps
+IsWriteErrorOf error.OutOfMemory ps = Unit {0}
+IsWriteErrorOf other ps = ⊥

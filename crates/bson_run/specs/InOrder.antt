@@ -13,67 +13,67 @@ use Rattle.bson.specs.Texts.{IsTextInOrder}
 use Rattle.bson.specs.declared.extjson.key_order.KeyOrder.{KeyOrder}
 use Rattle.bson.specs.declared.extjson.key_order.KeyOrder.TheVariants.{Ascending, AsGiven}
 use Rattle.bson.specs.declared.extjson.options.Options.{Options}
-use Rattle.bson_convert.specs.Convert.{ConvertsIn, IsConvertedText, IsKeptIn, newline}
+use Rattle.bson_convert.specs.Convert.{ConvertsIn, IsConvertedText, IsFixedPointIn, newline}
 use Rattle.bson_convert.specs.declared.mode.Mode.{Mode}
 use Rattle.bson_convert.specs.declared.mode.Mode.TheVariants.{Canonical, Relaxed, Show}
 
 -- the line of the value's text in its own order in a form
-pub record IsLineInOrder (D : Doubles) (f : Form) (value : Value) (output : List ℕ) : Type 0 where
+pub record IsLineInOrder (doubles : Doubles) (output_form : Form) (value : Value) (output : List ℕ) : Type 0 where
   pub text : List ℕ
-  pub is_text : IsTextInOrder D f value text
+  pub is_text : IsTextInOrder doubles output_form value text
   pub line : output ≡ text ++ newline
 
 -- that line, or the text that shows the value and a newline
 abbrev pub IsOutputInOrder : Options → Mode → Value → List ℕ → Type 0
-IsOutputInOrder o Canonical value output = IsLineInOrder o.doubles form.Canonical value output
-IsOutputInOrder o Relaxed value output = IsLineInOrder o.doubles form.Relaxed value output
-IsOutputInOrder o Show value output = output ≡ display_text value ++ newline
+IsOutputInOrder options Canonical value output = IsLineInOrder options.doubles form.Canonical value output
+IsOutputInOrder options Relaxed value output = IsLineInOrder options.doubles form.Relaxed value output
+IsOutputInOrder options Show value output = output ≡ display_text value ++ newline
 
 -- the bytes are a text that means the value in the order of its keys, and this is the value's output
-pub record ConvertsInOrder (o : Options) (mode : Mode) (bytes output : List ℕ) : Type 0 where
+pub record ConvertsInOrder (options : Options) (mode : Mode) (bytes output : List ℕ) : Type 0 where
   pub value : Value
   pub utf8 : IsUtf8 bytes
-  pub meaning : HasMeaningInOrder o.doubles bytes value
-  pub is_output : IsOutputInOrder o mode value output
+  pub meaning : HasMeaningInOrder options.doubles bytes value
+  pub is_output : IsOutputInOrder options mode value output
 
 -- a line of a tree in a form; unless the tree nests deeper than a text may, the line is converted to itself
-pub record ConvertsToItselfInOrder (o : Options) (f : Form) (mode : Mode) (output : List ℕ) : Type 0 where
+pub record ConvertsToItselfInOrder (options : Options) (output_form : Form) (mode : Mode) (output : List ℕ) : Type 0 where
   pub tree : Data
-  pub text : output ≡ tree_text o.doubles f tree ++ newline
-  pub again : depth tree ≤ max_depth → ConvertsInOrder o mode output output
+  pub text : output ≡ tree_text options.doubles output_form tree ++ newline
+  pub again : depth tree ≤ max_depth → ConvertsInOrder options mode output output
 
 -- an output in a form is that
-abbrev pub IsKeptInOrder : Options → Mode → List ℕ → Type 0
-IsKeptInOrder o Canonical output = ConvertsToItselfInOrder o form.Canonical Canonical output
-IsKeptInOrder o Relaxed output = ConvertsToItselfInOrder o form.Relaxed Relaxed output
-IsKeptInOrder o Show output = Unit {0}
+abbrev pub IsFixedPointInOrder : Options → Mode → List ℕ → Type 0
+IsFixedPointInOrder options Canonical output = ConvertsToItselfInOrder options form.Canonical Canonical output
+IsFixedPointInOrder options Relaxed output = ConvertsToItselfInOrder options form.Relaxed Relaxed output
+IsFixedPointInOrder options Show output = Unit {0}
 
 -- ---- in either order
 
 -- the input is converted to the output, its keys in the order
 abbrev pub ConvertsBy : KeyOrder → Options → Mode → List ℕ → List ℕ → Type 0
-ConvertsBy Ascending o mode input output = ConvertsIn o mode input output
-ConvertsBy AsGiven o mode input output = ConvertsInOrder o mode input output
+ConvertsBy Ascending options mode input output = ConvertsIn options mode input output
+ConvertsBy AsGiven options mode input output = ConvertsInOrder options mode input output
 
 -- an output in a form is converted to itself
-abbrev pub IsKeptBy : KeyOrder → Options → Mode → List ℕ → Type 0
-IsKeptBy Ascending o mode output = IsKeptIn o mode output
-IsKeptBy AsGiven o mode output = IsKeptInOrder o mode output
+abbrev pub IsFixedPointBy : KeyOrder → Options → Mode → List ℕ → Type 0
+IsFixedPointBy Ascending options mode output = IsFixedPointIn options mode output
+IsFixedPointBy AsGiven options mode output = IsFixedPointInOrder options mode output
 
 -- ---- for private clauses
 
 -- the value's text in its own order in the mode's form, or the one that shows it
 abbrev pub IsTextInOrderFor : Options → Mode → Value → List ℕ → Type 0
-IsTextInOrderFor o Canonical value text = IsTextInOrder o.doubles form.Canonical value text
-IsTextInOrderFor o Relaxed value text = IsTextInOrder o.doubles form.Relaxed value text
-IsTextInOrderFor o Show value text = text ≡ display_text value
+IsTextInOrderFor options Canonical value text = IsTextInOrder options.doubles form.Canonical value text
+IsTextInOrderFor options Relaxed value text = IsTextInOrder options.doubles form.Relaxed value text
+IsTextInOrderFor options Show value text = text ≡ display_text value
 
 -- a text for the mode, of the value that the bytes denote with keys in input order
 abbrev pub IsConvertedTextInOrder : Options → Mode → List ℕ → List ℕ → Type 0
-IsConvertedTextInOrder o mode bytes text =
-    (value : Value) × IsUtf8 bytes × HasMeaningInOrder o.doubles bytes value × IsTextInOrderFor o mode value text
+IsConvertedTextInOrder options mode bytes text =
+    (value : Value) × IsUtf8 bytes × HasMeaningInOrder options.doubles bytes value × IsTextInOrderFor options mode value text
 
 -- a text of the value that the bytes mean, its keys in the order
 abbrev pub IsConvertedTextBy : KeyOrder → Options → Mode → List ℕ → List ℕ → Type 0
-IsConvertedTextBy Ascending o mode bytes text = IsConvertedText o mode bytes text
-IsConvertedTextBy AsGiven o mode bytes text = IsConvertedTextInOrder o mode bytes text
+IsConvertedTextBy Ascending options mode bytes text = IsConvertedText options mode bytes text
+IsConvertedTextBy AsGiven options mode bytes text = IsConvertedTextInOrder options mode bytes text

@@ -5,9 +5,9 @@ pub mod Indent
 pub mod Lines
 pub mod LinesSteps
 pub mod Outcomes
-pub mod Place
+pub mod ErrorMessages
 pub mod Preprocessed
-pub mod Words
+pub mod TaskNames
 -- what public clauses cite of the crates below, so that a caller names this crate alone
 pub use Rattle.bson.specs.TextMeaning
 pub use Rattle.bson.specs.View

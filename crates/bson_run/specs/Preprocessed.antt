@@ -12,42 +12,42 @@ use Rattle.bson_tree.specs.Place.{path_of}
 use Rattle.bson_tree.specs.declared.place.Place.{Place}
 use Rattle.bson_convert.specs.declared.error.Error.{Error}
 use Rattle.bson_convert.specs.declared.error.Error.TheVariants.{NotExtendedJson, OutOfMemory}
-use Rattle.bson_run.specs.declared.order.Preprocessing.{Preprocessing}
-use Rattle.bson_run.specs.declared.order.Preprocessing.TheVariants.{Distinct, Legacy, DistinctLegacy}
+use Rattle.bson_run.specs.declared.task.Preprocessing.{Preprocessing}
+use Rattle.bson_run.specs.declared.task.Preprocessing.TheVariants.{Distinct, Legacy, DistinctLegacy}
 
 -- if the bytes are a JSON text, no object of it has a duplicate key, at any depth
-abbrev pub HasNoDoubleKey : List ℕ → Type 0
-HasNoDoubleKey bytes = (j : Json) → IsUtf8 bytes → json_of bytes ≡ Some j → HasUniqueKeys j
+abbrev pub LacksDuplicateKey : List ℕ → Type 0
+LacksDuplicateKey bytes = (j : Json) → IsUtf8 bytes → json_of bytes ≡ Some j → HasUniqueKeys j
 
 -- the bytes are a JSON text, whose first duplicate key is at the place
-abbrev pub HasDoubleKeyAt : Place → List ℕ → Type 0
-HasDoubleKeyAt place bytes = IsUtf8 bytes × HasDuplicateKey bytes (path_of place)
+abbrev pub HasDuplicateKeyAt : Place → List ℕ → Type 0
+HasDuplicateKeyAt place bytes = IsUtf8 bytes × HasDuplicateKey bytes (path_of place)
 
 -- the bytes are not a JSON text whose numbers are in range
-abbrev pub IsNoJson : List ℕ → Type 0
-IsNoJson bytes = (d : Data) → IsUtf8 bytes → read bytes ≡ Some d → ⊥
+abbrev pub IsInvalidJson : List ℕ → Type 0
+IsInvalidJson bytes = (d : Data) → IsUtf8 bytes → read bytes ≡ Some d → ⊥
 
 -- a JSON text is rewritten as the text of the tree that its tree denotes; other bytes are kept
 abbrev pub UpgradesTo : List ℕ → List ℕ → Type 0
-UpgradesTo bytes upgraded = (IsUtf8 bytes × IsUpgradedText bytes upgraded) ⊎ (IsNoJson bytes × (upgraded ≡ bytes))
+UpgradesTo bytes upgraded = (IsUtf8 bytes × IsUpgradedText bytes upgraded) ⊎ (IsInvalidJson bytes × (upgraded ≡ bytes))
 
 -- the bytes are accepted, and these are read in their place
 abbrev pub IsPreprocessedAs : Preprocessing → List ℕ → List ℕ → Type 0
-IsPreprocessedAs Distinct bytes preprocessed = HasNoDoubleKey bytes × (preprocessed ≡ bytes)
+IsPreprocessedAs Distinct bytes preprocessed = LacksDuplicateKey bytes × (preprocessed ≡ bytes)
 IsPreprocessedAs Legacy bytes preprocessed = UpgradesTo bytes preprocessed
-IsPreprocessedAs DistinctLegacy bytes preprocessed = HasNoDoubleKey bytes × UpgradesTo bytes preprocessed
+IsPreprocessedAs DistinctLegacy bytes preprocessed = LacksDuplicateKey bytes × UpgradesTo bytes preprocessed
 
 -- the bytes are rejected before they are read
-abbrev pub IsRejectedBefore : Preprocessing → Place → List ℕ → Type 0
-IsRejectedBefore Distinct place bytes = HasDoubleKeyAt place bytes
-IsRejectedBefore Legacy place bytes = ⊥
-IsRejectedBefore DistinctLegacy place bytes = HasDoubleKeyAt place bytes
+abbrev pub IsRejectedByPreprocessing : Preprocessing → Place → List ℕ → Type 0
+IsRejectedByPreprocessing Distinct place bytes = HasDuplicateKeyAt place bytes
+IsRejectedByPreprocessing Legacy place bytes = ⊥
+IsRejectedByPreprocessing DistinctLegacy place bytes = HasDuplicateKeyAt place bytes
 
 -- what each error says about the bytes
-abbrev pub IsNotPreprocessed : Preprocessing → Error → List ℕ → Type 0
-IsNotPreprocessed preprocessing (NotExtendedJson place) bytes = IsRejectedBefore preprocessing place bytes
-IsNotPreprocessed preprocessing OutOfMemory bytes = Unit {0}
-IsNotPreprocessed preprocessing other bytes = ⊥
+abbrev pub IsPreprocessingError : Preprocessing → Error → List ℕ → Type 0
+IsPreprocessingError preprocessing (NotExtendedJson place) bytes = IsRejectedByPreprocessing preprocessing place bytes
+IsPreprocessingError preprocessing OutOfMemory bytes = Unit {0}
+IsPreprocessingError preprocessing other bytes = ⊥
 
 -- the text, or the bytes if there is none
 abbrev pub preprocessed_of : List ℕ → Option (String Global) → List ℕ

@@ -1,14 +1,14 @@
 //! A text that is freed once it was accepted, before its output is written.
 ghost use Rattle.std.specs.Prelude.{◌≡◌, IfOk, IfErr, IsUtf8};
-ghost use Rattle.bson_convert.specs.Convert.{ConvertsIn, IsRefusedIn};
-ghost use Rattle.bson_run.specs.Accepted.{HasOutput, IsSure, IsUtf8Accepted, Outputs};
+ghost use Rattle.bson_convert.specs.Convert.{ConvertsIn, IsRejectedIn};
+ghost use Rattle.bson_run.specs.Accepted.{HasOutput, IsAcceptedText, IsUtf8Accepted, Outputs};
 ghost use Rattle.bson_run.specs.InOrder.{ConvertsBy, ConvertsInOrder};
 ghost use Rattle.bson.specs.declared.extjson.key_order.KeyOrder.TheVariants.{Ascending, AsGiven};
 
 use crate::convert::{convert_whole_by, filter_once};
 use bson::extjson::{KeyOrder, Options};
 use bson_convert::convert::end_line;
-use bson_convert::converted::{Attempt, normalize, refuse, try_text};
+use bson_convert::conversion_attempt::{Attempt, normalize, refuse, try_text};
 use bson_convert::error::Error;
 use bson_convert::mode::Mode;
 use bson_tokens::arrangement::Arrangement;
@@ -50,7 +50,7 @@ impl Accepted {
     pub fn of(alloc: Global, options: Options, mode: Mode, bytes: &[u8]) -> Result<Accepted, Error>
         ensures ok { IfOk result (HasOutput options (ConvertsBy options.key_order options mode bytes.now)) }
         ensures utf8 { IfOk result IsUtf8Accepted }
-        ensures fault { IfErr result (λ fault. IsRefusedIn options fault bytes.now) }
+        ensures fault { IfErr result (λ fault. IsRejectedIn options fault bytes.now) }
     {
         match options.key_order {
             KeyOrder::Ascending => accept_sorted(alloc, options, mode, bytes),
@@ -67,7 +67,7 @@ impl Accepted {
     pub fn output(self, alloc: Global, options: Options) -> Result<Vec<u8>, Error>
         ensures ok { IfOk result (λ output. Outputs options self output.items) }
         ensures utf8 { IsUtf8Accepted self → IfOk result (λ output. IsUtf8 output.items) }
-        ensures fault { IsSure options self → IfErr result (λ fault. fault ≡ Error.OutOfMemory) }
+        ensures fault { IsAcceptedText options self → IfErr result (λ fault. fault ≡ Error.OutOfMemory) }
     {
         match self {
             Accepted::Output(output) => Ok(output),
@@ -87,7 +87,7 @@ fn accept_sorted(
     requires { options.key_order ≡ Ascending }
     ensures ok { IfOk result (HasOutput options (ConvertsIn options mode bytes.now)) }
     ensures utf8 { IfOk result IsUtf8Accepted }
-    ensures fault { IfErr result (λ fault. IsRefusedIn options fault bytes.now) }
+    ensures fault { IfErr result (λ fault. IsRejectedIn options fault bytes.now) }
 {
     match try_text(alloc, options, mode, bytes)? {
         Attempt::Written(text) => Ok(Accepted::Output(end_line(text)?)),
@@ -104,7 +104,7 @@ fn accept_in_order(
     requires { options.key_order ≡ AsGiven }
     ensures ok { IfOk result (HasOutput options (ConvertsInOrder options mode bytes.now)) }
     ensures utf8 { IfOk result IsUtf8Accepted }
-    ensures fault { IfErr result (λ fault. IsRefusedIn options fault bytes.now) }
+    ensures fault { IfErr result (λ fault. IsRejectedIn options fault bytes.now) }
 {
     let Ok(text) = simdutf8::compat::from_utf8(bytes) else {
         return Err(Error::NotJson);

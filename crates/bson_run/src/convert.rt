@@ -4,12 +4,12 @@ ghost use Rattle.serde_json.specs.Data.{Data};
 ghost use Rattle.bson_model.specs.Means.{MeansIn};
 ghost use Rattle.bson_model.specs.Value as model;
 ghost use Rattle.bson.specs.TextMeaning.{IsTextOf};
-ghost use Rattle.bson_convert.specs.Convert.{IsRefusedIn};
-ghost use Rattle.bson_run.specs.InOrder.{ConvertsBy, ConvertsInOrder, IsConvertedTextInOrder, IsKeptBy, IsKeptInOrder};
+ghost use Rattle.bson_convert.specs.Convert.{IsRejectedIn};
+ghost use Rattle.bson_run.specs.InOrder.{ConvertsBy, ConvertsInOrder, IsConvertedTextInOrder, IsFixedPointBy, IsFixedPointInOrder};
 
 use bson::extjson::{Form, KeyOrder, Options};
 use bson_convert::convert::{convert_line, convert_whole, end_line};
-use bson_convert::converted::{normalize, refuse};
+use bson_convert::conversion_attempt::{normalize, refuse};
 use bson_convert::error::Error;
 use bson_convert::mode::Mode;
 use bson_text::filter::{filter_text, show_text_in_order};
@@ -43,12 +43,12 @@ pub fn convert_text(
 ) -> Result<Vec<u8>, Error>
     ensures ok { IfOk result (λ output. ConvertsBy options.key_order options mode bytes.now output.items) }
     ensures utf8 { IfOk result (λ output. IsUtf8 output.items) }
-    ensures again { IfOk result (λ output. IsKeptBy options.key_order options mode output.items) }
+    ensures again { IfOk result (λ output. IsFixedPointBy options.key_order options mode output.items) }
     ensures one { IfOk result (λ output. (other : List ℕ)
         → ConvertsBy options.key_order options mode bytes.now other → other ≡ output.items) }
     ensures accepts { (tree : Data) (value : model.Value) → IsTextOf bytes.now tree
         → MeansIn options.doubles tree value → IfErr result (λ fault. fault ≡ Error.OutOfMemory) }
-    ensures fault { IfErr result (λ fault. IsRefusedIn options fault bytes.now) }
+    ensures fault { IfErr result (λ fault. IsRejectedIn options fault bytes.now) }
 {
     convert_by(
         alloc,
@@ -71,12 +71,12 @@ pub(crate) fn convert_by(
 ) -> Result<Vec<u8>, Error>
     ensures ok { IfOk result (λ output. ConvertsBy order options mode bytes.now output.items) }
     ensures utf8 { IfOk result (λ output. IsUtf8 output.items) }
-    ensures again { IfOk result (λ output. IsKeptBy order options mode output.items) }
+    ensures again { IfOk result (λ output. IsFixedPointBy order options mode output.items) }
     ensures one { IfOk result (λ output. (other : List ℕ) → ConvertsBy order options mode bytes.now other
         → other ≡ output.items) }
     ensures accepts { (tree : Data) (value : model.Value) → IsTextOf bytes.now tree
         → MeansIn options.doubles tree value → IfErr result (λ fault. fault ≡ Error.OutOfMemory) }
-    ensures fault { IfErr result (λ fault. IsRefusedIn options fault bytes.now) }
+    ensures fault { IfErr result (λ fault. IsRejectedIn options fault bytes.now) }
 {
     match order {
         KeyOrder::Ascending => convert_line(alloc, options, mode, bytes, scratch),
@@ -94,12 +94,12 @@ fn convert_line_in_order(
 ) -> Result<Vec<u8>, Error>
     ensures ok { IfOk result (λ output. ConvertsInOrder options mode bytes.now output.items) }
     ensures utf8 { IfOk result (λ output. IsUtf8 output.items) }
-    ensures again { IfOk result (λ output. IsKeptInOrder options mode output.items) }
+    ensures again { IfOk result (λ output. IsFixedPointInOrder options mode output.items) }
     ensures one { IfOk result (λ output. (other : List ℕ) → ConvertsInOrder options mode bytes.now other
         → other ≡ output.items) }
     ensures accepts { (tree : Data) (value : model.Value) → IsTextOf bytes.now tree
         → MeansIn options.doubles tree value → IfErr result (λ fault. fault ≡ Error.OutOfMemory) }
-    ensures fault { IfErr result (λ fault. IsRefusedIn options fault bytes.now) }
+    ensures fault { IfErr result (λ fault. IsRejectedIn options fault bytes.now) }
 {
     let text = text_in_order(alloc, options, mode, bytes, scratch)?;
     end_line(text)
@@ -154,7 +154,7 @@ pub(crate) fn text_in_order(
     ensures utf8 { IfOk result (λ text. IsUtf8 text.items) }
     ensures accepts { (tree : Data) (value : model.Value) → IsTextOf bytes.now tree
         → MeansIn options.doubles tree value → IfErr result (λ fault. fault ≡ Error.OutOfMemory) }
-    ensures fault { IfErr result (λ fault. IsRefusedIn options fault bytes.now) }
+    ensures fault { IfErr result (λ fault. IsRejectedIn options fault bytes.now) }
 {
     let Ok(text) = simdutf8::compat::from_utf8(bytes) else {
         return Err(Error::NotJson);
@@ -175,7 +175,7 @@ fn normalized_text(
 ) -> Result<Vec<u8>, Error>
     ensures ok { IfOk result (λ written. IsConvertedTextInOrder options mode text.now written.items) }
     ensures utf8 { IfOk result (λ written. IsUtf8 written.items) }
-    ensures fault { IfErr result (λ fault. IsRefusedIn options fault text.now) }
+    ensures fault { IfErr result (λ fault. IsRejectedIn options fault text.now) }
 {
     let normalized = normalize(alloc, Arrangement::FirstPositions, text)?;
     text_of_distinct(alloc, options, mode, normalized.as_str())
@@ -191,7 +191,7 @@ fn text_of_distinct(
 ) -> Result<Vec<u8>, Error>
     ensures ok { IfOk result (λ written. IsConvertedTextInOrder options mode text.now written.items) }
     ensures utf8 { IfOk result (λ written. IsUtf8 written.items) }
-    ensures fault { IfErr result (λ fault. IsRefusedIn options fault text.now) }
+    ensures fault { IfErr result (λ fault. IsRejectedIn options fault text.now) }
 {
     match filter_once(alloc, options, mode, text, &mut Scratch::new(alloc))? {
         Some(written) => Ok(written),

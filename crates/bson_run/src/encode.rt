@@ -6,7 +6,7 @@ ghost use Rattle.bson.specs.TextMeaning.{TextMeansBy};
 ghost use Rattle.bson_codec.specs.Canonical.{FitsDocument};
 ghost use Rattle.bson_codec.specs.WriteErrors.{IsWriteErrorFor};
 ghost use Rattle.bson_codec.specs.Unwritten.TheVariants as errors;
-ghost use Rattle.bson_run.specs.Encode.{Encodes, FailsAlone, IsBytesOf, IsUnencodedBy, IsUnencodedFor};
+ghost use Rattle.bson_run.specs.Encode.{Encodes, IsWriteErrorOf, IsBytesOf, IsEncodeErrorBy, IsEncodeErrorFor};
 
 use bson::Bson;
 use bson::extjson::{KeyOrder, Options};
@@ -14,7 +14,7 @@ use bson_codec::pack::pack_text;
 use bson_codec::{ser, to_vec};
 use bson_convert::convert::error_of;
 use bson_convert::error::Error;
-use bson_convert::no_bytes::NoBytes;
+use bson_convert::encode_error::NoBytes;
 use bson_text::traversal_error::TraversalError;
 use json::Scratch;
 use std::alloc::Global;
@@ -45,7 +45,7 @@ pub fn encode(alloc: Global, options: Options, bytes: &[u8]) -> Result<Vec<u8>, 
         → other ≡ out.items) }
     ensures accepts { (ps : Pairs) → TextMeansBy options.key_order options.doubles bytes.now (document ps)
         → FitsDocument ps → IfErr result (λ fault. fault ≡ Error.OutOfMemory) }
-    ensures fault { IfErr result (λ fault. IsUnencodedBy options.key_order options fault bytes.now) }
+    ensures fault { IfErr result (λ fault. IsEncodeErrorBy options.key_order options fault bytes.now) }
 {
     encode_line(alloc, options, bytes, &mut Scratch::new(alloc))
 }
@@ -62,7 +62,7 @@ pub(crate) fn encode_line(
         → other ≡ out.items) }
     ensures accepts { (ps : Pairs) → TextMeansBy options.key_order options.doubles bytes.now (document ps)
         → FitsDocument ps → IfErr result (λ fault. fault ≡ Error.OutOfMemory) }
-    ensures fault { IfErr result (λ fault. IsUnencodedBy options.key_order options fault bytes.now) }
+    ensures fault { IfErr result (λ fault. IsEncodeErrorBy options.key_order options fault bytes.now) }
 {
     match pack_document(alloc, options.key_order, options, bytes, scratch)? {
         Some(document) => Ok(document),
@@ -100,7 +100,7 @@ fn encode_whole(alloc: Global, options: Options, bytes: &[u8]) -> Result<Vec<u8>
     ensures ok { IfOk result (λ out. Encodes options.key_order options bytes.now out.items) }
     ensures accepts { (ps : Pairs) → TextMeansBy options.key_order options.doubles bytes.now (document ps)
         → FitsDocument ps → IfErr result (λ fault. fault ≡ Error.OutOfMemory) }
-    ensures fault { IfErr result (λ fault. IsUnencodedBy options.key_order options fault bytes.now) }
+    ensures fault { IfErr result (λ fault. IsEncodeErrorBy options.key_order options fault bytes.now) }
 {
     match Bson::from_text(alloc, options, bytes) {
         Ok(value) => bytes_of(alloc, value),
@@ -113,7 +113,7 @@ fn bytes_of(alloc: Global, value: Bson) -> Result<Vec<u8>, Error>
     ensures ok { IfOk result (λ out. IsBytesOf (λ v. v ≡ bson_view value) out.items) }
     ensures only { (ps : Pairs) → bson_view value ≡ document ps → FitsDocument ps
         → IfErr result (λ fault. fault ≡ Error.OutOfMemory) }
-    ensures fault { IfErr result (λ fault. IsUnencodedFor (λ v. v ≡ bson_view value) fault) }
+    ensures fault { IfErr result (λ fault. IsEncodeErrorFor (λ v. v ≡ bson_view value) fault) }
 {
     let Bson::Document(document) = value else {
         return Err(Error::NoBytes(NoBytes::NoDocument));
@@ -126,7 +126,7 @@ fn bytes_of(alloc: Global, value: Bson) -> Result<Vec<u8>, Error>
 
 // The fault of a document that has no bytes.
 fn write_fault(error: ser::Error) -> Error
-    ensures cause { (ps : Pairs) → IsWriteErrorFor error ps → FailsAlone result ps }
+    ensures cause { (ps : Pairs) → IsWriteErrorFor error ps → IsWriteErrorOf result ps }
     ensures memory { error ≡ errors.OutOfMemory → result ≡ Error.OutOfMemory }
     ensures only { result ≡ Error.OutOfMemory → error ≡ errors.OutOfMemory }
 {

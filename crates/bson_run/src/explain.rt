@@ -1,20 +1,20 @@
 //! Why a text is rejected, and where: as data, and as a message.
 ghost use Rattle.std.specs.Prelude.{◌≡◌, ◌++◌, codes, ℕ, List, IfOk, string_bytes};
 ghost use Rattle.bson_tree.specs.Place.{path_text, path_of};
-ghost use Rattle.bson_run.specs.Place.{IsExplanation, IsQuote, IsReasonIn, IsWhere, at_difference, at_path, shown_words};
-ghost use Rattle.bson_run.specs.Place.{words_at};
+ghost use Rattle.bson_run.specs.ErrorMessages.{IsExplanation, IsQuotedValue, IsReasonMessage, IsPositionMessage, column_message, path_message, escaped_message};
+ghost use Rattle.bson_run.specs.ErrorMessages.{explanation_message};
 
-use crate::order::{Preprocessing, Task};
+use crate::task::{Preprocessing, Task};
 use crate::preprocessed::{DUPLICATE_KEY, preprocess_text};
-use crate::quoted::quote;
+use crate::quoted_value::quote;
 use crate::shorten::shorten;
-use crate::stop::Stop;
+use crate::syntax_error::SyntaxError;
 use bson_convert::error::Error;
 use bson_tree::place::{Place, Reason, Segment};
 use std::alloc::{AllocError, Global};
 
 /// The greatest number of characters of a path, and of a message.
-const MOST: usize = 300;
+const MAX_CHARS: usize = 300;
 
 /// Why a text is rejected, and where.
 ///
@@ -30,7 +30,7 @@ const MOST: usize = 300;
 #[derive(Debug, Drop)]
 pub enum Explanation<'a> {
     /// The text is not JSON: where it stops to be JSON, and the rule that it breaks.
-    Syntax(Stop),
+    Syntax(SyntaxError),
     /// A value is invalid: its place, and the reason as a message has it. That is what was expected,
     /// and the value in the text, in at most 300 characters.
     Value(&'a Place, String),
@@ -59,10 +59,10 @@ impl<'a> Explanation<'a> {
     ///
     /// Returns `AllocError` if an allocation fails.
     pub fn message(&self, alloc: Global, text: &[u8]) -> Result<String, AllocError>
-        ensures { IfOk result (λ words. string_bytes words ≡ words_at text.now self.now) }
+        ensures { IfOk result (λ full_message. string_bytes full_message ≡ explanation_message text.now self.now) }
     {
         match self {
-            Explanation::Syntax(stop) => stop.message(alloc, text),
+            Explanation::Syntax(syntax_error) => syntax_error.message(alloc, text),
             Explanation::Value(place, reason) => place_text(alloc, place, reason.as_str()),
             Explanation::Difference(column) => column_text(alloc, *column),
             Explanation::Other => Ok(String::new(alloc)),
@@ -92,7 +92,7 @@ impl<'a> Explanation<'a> {
 ///
 /// Returns `AllocError` if a request for memory is refused.
 pub fn explain(alloc: Global, fault: &Error, text: &[u8]) -> Result<String, AllocError>
-    ensures place { IfOk result (λ words. IsWhere text.now fault.now (string_bytes words)) }
+    ensures place { IfOk result (λ full_message. IsPositionMessage text.now fault.now (string_bytes full_message)) }
 {
     explain_in(alloc, fault, text, None)
 }
@@ -109,7 +109,7 @@ pub fn explain_under(
     fault: &Error,
     text: &[u8],
 ) -> Result<String, AllocError>
-    ensures place { IfOk result (λ words. IsWhere text.now fault.now (string_bytes words)) }
+    ensures place { IfOk result (λ full_message. IsPositionMessage text.now fault.now (string_bytes full_message)) }
 {
     let Error::NotExtendedJson(_) = fault else {
         return explain(alloc, fault, text);
@@ -140,7 +140,7 @@ fn explain_in(
     text: &[u8],
     newer: Option<&[u8]>,
 ) -> Result<String, AllocError>
-    ensures { IfOk result (λ words. IsWhere text.now fault.now (string_bytes words)) }
+    ensures { IfOk result (λ full_message. IsPositionMessage text.now fault.now (string_bytes full_message)) }
 {
     explanation_in(alloc, fault, text, newer)?.message(alloc, text)
 }
@@ -155,7 +155,7 @@ fn explanation_in<'a>(
     ensures { IfOk result (λ found. IsExplanation text.now fault.now found) }
 {
     match fault {
-        Error::NotJson => Ok(Explanation::Syntax(Stop::of(alloc, text)?)),
+        Error::NotJson => Ok(Explanation::Syntax(SyntaxError::of(alloc, text)?)),
         Error::NotExtendedJson(place) => {
             let reason = reason_text(alloc, place, text, newer)?;
             Ok(Explanation::Value(place, reason))
@@ -167,18 +167,18 @@ fn explanation_in<'a>(
 
 // Returns the message for a column.
 fn column_text(alloc: Global, column: usize) -> Result<String, AllocError>
-    ensures { IfOk result (λ words. string_bytes words ≡ at_difference column) }
+    ensures { IfOk result (λ full_message. string_bytes full_message ≡ column_message column) }
 {
     format!(in alloc; " at column {column}")
 }
 
 // Returns the message for a path, and for the reason there.
 fn place_text(alloc: Global, place: &Place, reason: &str) -> Result<String, AllocError>
-    ensures { IfOk result (λ words. string_bytes words
-        ≡ at_path (shown_words (path_text (path_of place.now))) ++ codes " (" ++ reason.now ++ codes ")") }
+    ensures { IfOk result (λ full_message. string_bytes full_message
+        ≡ path_message (escaped_message (path_text (path_of place.now))) ++ codes " (" ++ reason.now ++ codes ")") }
 {
     let whole = place.path(alloc)?;
-    let path = shorten(alloc, whole.as_str(), MOST, true)?;
+    let path = shorten(alloc, whole.as_str(), MAX_CHARS, true)?;
     if path.is_empty() {
         return format!(in alloc; " ({reason})");
     }
@@ -192,11 +192,11 @@ fn reason_text(
     text: &[u8],
     newer: Option<&[u8]>,
 ) -> Result<String, AllocError>
-    ensures { IfOk result (λ words. (message : List ℕ) × IsReasonIn text.now place.now.reason message
-        × (string_bytes words ≡ shown_words message)) }
+    ensures { IfOk result (λ full_message. (message : List ℕ) × IsReasonMessage text.now place.now.reason message
+        × (string_bytes full_message ≡ escaped_message message)) }
 {
     let reason = reason_in(alloc, place, text, newer)?;
-    shorten(alloc, reason.as_str(), MOST, true)
+    shorten(alloc, reason.as_str(), MAX_CHARS, true)
 }
 
 // Returns the message for what was expected at a path, and for the value that was found there.
@@ -206,7 +206,7 @@ fn reason_in(
     text: &[u8],
     newer: Option<&[u8]>,
 ) -> Result<String, AllocError>
-    ensures { IfOk result (λ words. IsReasonIn text.now place.now.reason (string_bytes words)) }
+    ensures { IfOk result (λ full_message. IsReasonMessage text.now place.now.reason (string_bytes full_message)) }
 {
     match &place.reason {
         Reason::BadObjectId(why) => format!(in alloc; "{why}"),
@@ -226,7 +226,7 @@ fn quote_at(
     text: &[u8],
     newer: Option<&[u8]>,
 ) -> Result<String, AllocError>
-    ensures { IfOk result (λ words. IsQuote text.now (string_bytes words)) }
+    ensures { IfOk result (λ full_message. IsQuotedValue text.now (string_bytes full_message)) }
 {
     if expected == DUPLICATE_KEY {
         return Ok(String::new(alloc));

@@ -5,7 +5,7 @@ ghost use Rattle.json.specs.Layout.{after, is_value};
 ghost use Rattle.json.specs.Lex.{tokens};
 ghost use Rattle.json.specs.Print.{begins, token_text, IsPrintable};
 ghost use Rattle.json.specs.Reads.{opens, token_of};
-ghost use Rattle.bson_run.specs.Indent.{indented, HasSameTokens, line, gap, last_of, IsAt, IsTokenLaidOut};
+ghost use Rattle.bson_run.specs.Indent.{indented, HasSameTokens, line, white_space, last_of, HasIndent, IsTokenWritten};
 
 use json::{Reader, Scratch, Token, Writer};
 use std::alloc::{AllocError, Global};
@@ -23,8 +23,8 @@ use std::alloc::{AllocError, Global};
 /// Returns `AllocError` if a request for memory is refused.
 ///
 /// ```
-/// let laid = indent_text(alloc, 2, r#"{"a":[1,{}]}"#)?;
-/// println!(rt; "{}", str::from_utf8(&laid)?)?;
+/// let indented_text = indent_text(alloc, 2, r#"{"a":[1,{}]}"#)?;
+/// println!(rt; "{}", str::from_utf8(&indented_text)?)?;
 /// // {
 /// //   "a": [
 /// //     1,
@@ -33,22 +33,22 @@ use std::alloc::{AllocError, Global};
 /// // }
 /// ```
 pub fn indent_text(alloc: Global, spaces: usize, text: &str) -> Result<Vec<u8>, AllocError>
-    ensures layout { IfOk result (λ laid. laid.items ≡ indented spaces (tokens text.now)) }
-    ensures utf8 { IfOk result (λ laid. IsUtf8 laid.items) }
-    ensures same { IfOk result (λ laid. HasSameTokens text.now laid.items) }
+    ensures layout { IfOk result (λ indented_text. indented_text.items ≡ indented spaces (tokens text.now)) }
+    ensures utf8 { IfOk result (λ indented_text. IsUtf8 indented_text.items) }
+    ensures same { IfOk result (λ indented_text. HasSameTokens text.now indented_text.items) }
 {
     let mut scratch = Scratch::new(alloc);
     let mut reader = Reader::new(text, &mut scratch)?;
     let mut layout = Layout::new(alloc, spaces)?;
     while let Some(token) = reader.next() {
-        layout.put(token)?;
+        layout.write_token(token)?;
     }
     Ok(layout.out)
 }
 
 // The kind of the last token.
 #[derive(Clone, Copy, Drop)]
-pub(crate) enum Before {
+pub(crate) enum PreviousToken {
     Nothing,
     Bracket,
     Key,
@@ -63,37 +63,37 @@ pub(crate) struct Layout {
     step: Vec<u8>,
     // The beginning of a line.
     start: Vec<u8>,
-    before: Before,
+    before: PreviousToken,
     out: Vec<u8>,
 }
 
 impl Layout {
     fn new(alloc: Global, spaces: usize) -> Result<Layout, AllocError>
-        ensures at { IfOk result (λ layout. IsAt spaces 0 layout) }
-        ensures before { IfOk result (λ layout. layout.before ≡ Before.Nothing) }
+        ensures at { IfOk result (λ layout. HasIndent spaces 0 layout) }
+        ensures before { IfOk result (λ layout. layout.before ≡ PreviousToken.Nothing) }
         ensures out { IfOk result (λ layout. layout.out.items ≡ []) }
     {
         Ok(Layout {
             alloc,
             step: blanks(alloc, spaces)?,
             start: vec![in alloc; b'\n']?,
-            before: Before::Nothing,
+            before: PreviousToken::Nothing,
             out: Vec::new(alloc),
         })
     }
 
     // Writes the token, after the white space that separates it from the token before.
-    fn put(&mut self, token: Token<'_>) -> Result<(), AllocError>
+    fn write_token(&mut self, token: Token<'_>) -> Result<(), AllocError>
         requires { token ≢ Token.Bad → IsPrintable (token_of token) }
-        ensures laid { (n indent : ℕ) → IsAt n indent self.old
-            → OnOk result (IsTokenLaidOut n indent self.old self.new (token_of token.entry)) }
+        ensures indented_text { (n indent : ℕ) → HasIndent n indent self.old
+            → OnOk result (IsTokenWritten n indent self.old self.new (token_of token.entry)) }
         ensures utf8 { OnOk result (IsUtf8 (token_text (token_of token.entry))) }
     {
         let begins = begins(token);
         step_out(&mut self.start, begins, &self.step);
-        put_comma(&mut self.out, self.before, begins)?;
-        put_gap(&mut self.out, self.before, begins, &self.start)?;
-        put_text(self.alloc, &mut self.out, token)?;
+        write_comma(&mut self.out, self.before, begins)?;
+        write_white_space(&mut self.out, self.before, begins, &self.start)?;
+        write_token_text(self.alloc, &mut self.out, token)?;
         self.before = before_next(token);
         step_in(&mut self.start, opens(token), &self.step)
     }
@@ -125,13 +125,13 @@ fn opens(token: Token<'_>) -> bool
 }
 
 // Returns the kind of the token, for the token after it.
-fn before_next(token: Token<'_>) -> Before
+fn before_next(token: Token<'_>) -> PreviousToken
     ensures { last_of result ≡ (after (token_of token.entry) 0).0 }
 {
     match token {
-        Token::BeginObject | Token::BeginArray => Before::Bracket,
-        Token::Key(_) => Before::Key,
-        _ => Before::Value,
+        Token::BeginObject | Token::BeginArray => PreviousToken::Bracket,
+        Token::Key(_) => PreviousToken::Key,
+        _ => PreviousToken::Value,
     }
 }
 
@@ -159,31 +159,31 @@ fn step_in(start: &mut Vec<u8>, opens: bool, spaces: &[u8]) -> Result<(), AllocE
 }
 
 // Writes a comma between a value and the next token, unless that closes a bracket.
-fn put_comma(out: &mut Vec<u8>, before: Before, begins: bool) -> Result<(), AllocError>
+fn write_comma(out: &mut Vec<u8>, before: PreviousToken, begins: bool) -> Result<(), AllocError>
     ensures { OnOk result (out.new.items ≡ out.old.items ++ cond (is_value (last_of before) && begins) (44 ∷ []) []) }
 {
-    if begins && matches!(before, Before::Value) {
+    if begins && matches!(before, PreviousToken::Value) {
         out.push(b',')?;
     }
     Ok(())
 }
 
 // Writes the white space between the last token and this one, after the comma.
-fn put_gap(out: &mut Vec<u8>, before: Before, begins: bool, start: &[u8]) -> Result<(), AllocError>
+fn write_white_space(out: &mut Vec<u8>, before: PreviousToken, begins: bool, start: &[u8]) -> Result<(), AllocError>
     ensures { (indent : ℕ) → start.now ≡ line indent
-        → OnOk result (out.new.items ≡ out.old.items ++ gap (last_of before) begins indent) }
+        → OnOk result (out.new.items ≡ out.old.items ++ white_space (last_of before) begins indent) }
 {
     match before {
-        Before::Nothing => Ok(()),
-        Before::Bracket if !begins => Ok(()),
-        Before::Key => out.extend_from_slice(b" "),
+        PreviousToken::Nothing => Ok(()),
+        PreviousToken::Bracket if !begins => Ok(()),
+        PreviousToken::Key => out.extend_from_slice(b" "),
         _ => out.extend_from_slice(start),
     }
 }
 
 // Writes the text of the token alone, or nothing for an invalid token.
 #[tactic(auto, using(crate::proofs::Indenting::print_one))]
-fn put_text(alloc: Global, out: &mut Vec<u8>, token: Token<'_>) -> Result<(), AllocError>
+fn write_token_text(alloc: Global, out: &mut Vec<u8>, token: Token<'_>) -> Result<(), AllocError>
     requires { token ≢ Token.Bad → IsPrintable (token_of token) }
     ensures text { OnOk result (out.new.items ≡ out.old.items ++ token_text (token_of token.entry)) }
     ensures utf8 { OnOk result (IsUtf8 (token_text (token_of token.entry))) }

@@ -4,9 +4,9 @@ ghost use Rattle.serde_json.specs.Data.{Data};
 ghost use Rattle.bson_model.specs.Means.{MeansIn};
 ghost use Rattle.bson_model.specs.Value as model;
 ghost use Rattle.bson.specs.TextMeaning.{IsTextOf};
-ghost use Rattle.bson_convert.specs.Convert.{IsRefusedIn};
+ghost use Rattle.bson_convert.specs.Convert.{IsRejectedIn};
 ghost use Rattle.bson_run.specs.InOrder.{IsConvertedTextBy};
-ghost use Rattle.bson_run.specs.Indent.{mode_of, ConvertsIndented, IsKeptIndented, IsLaidOut};
+ghost use Rattle.bson_run.specs.Indent.{mode_of, ConvertsIndented, IsFixedPointIndented, IsIndentedOutput};
 
 use crate::convert::text_in_order;
 use crate::indent::indent_text;
@@ -27,9 +27,9 @@ use std::alloc::Global;
 ///
 /// ```
 /// let text = br#"{"b": {"$numberLong": "5"}, "a": []}"#;
-/// let laid = convert_indented(alloc, Options::mongodb(), Form::Relaxed, 2, text);
-/// if let Ok(laid) = laid {
-///     rt.print(str::from_utf8(&laid)?)?;
+/// let indented_text = convert_indented(alloc, Options::mongodb(), Form::Relaxed, 2, text);
+/// if let Ok(indented_text) = indented_text {
+///     rt.print(str::from_utf8(&indented_text)?)?;
 ///     // {
 ///     //   "b": 5,
 ///     //   "a": []
@@ -45,10 +45,10 @@ pub fn convert_indented(
 ) -> Result<Vec<u8>, Error>
     ensures ok { IfOk result (λ output. ConvertsIndented options.key_order options form spaces bytes.now output.items) }
     ensures utf8 { IfOk result (λ output. IsUtf8 output.items) }
-    ensures again { IfOk result (λ output. IsKeptIndented options.key_order options form spaces output.items) }
+    ensures again { IfOk result (λ output. IsFixedPointIndented options.key_order options form spaces output.items) }
     ensures accepts { (tree : Data) (value : model.Value) → IsTextOf bytes.now tree
         → MeansIn options.doubles tree value → IfErr result (λ fault. fault ≡ Error.OutOfMemory) }
-    ensures fault { IfErr result (λ fault. IsRefusedIn options fault bytes.now) }
+    ensures fault { IfErr result (λ fault. IsRejectedIn options fault bytes.now) }
 {
     let text = text_of(alloc, options.key_order, options, mode_of(form), bytes)?;
     lay_out(alloc, spaces, &text)
@@ -75,7 +75,7 @@ fn text_of(
     ensures ok { IfOk result (λ text. IsConvertedTextBy order options mode bytes.now (string_bytes text)) }
     ensures accepts { (tree : Data) (value : model.Value) → IsTextOf bytes.now tree
         → MeansIn options.doubles tree value → IfErr result (λ fault. fault ≡ Error.OutOfMemory) }
-    ensures fault { IfErr result (λ fault. IsRefusedIn options fault bytes.now) }
+    ensures fault { IfErr result (λ fault. IsRejectedIn options fault bytes.now) }
 {
     match order {
         KeyOrder::Ascending => Ok(into_string(converted_text(alloc, options, mode, bytes)?)),
@@ -99,12 +99,12 @@ fn into_string(text: Vec<u8>) -> String
 
 // The layout of the text, and a newline.
 fn lay_out(alloc: Global, spaces: usize, text: &str) -> Result<Vec<u8>, Error>
-    ensures ok { IfOk result (λ output. IsLaidOut spaces text.now output.items) }
+    ensures ok { IfOk result (λ output. IsIndentedOutput spaces text.now output.items) }
     ensures utf8 { IfOk result (λ output. IsUtf8 output.items) }
     ensures fault { IfErr result (λ fault. fault ≡ Error.OutOfMemory) }
 {
     match indent_text(alloc, spaces, text) {
-        Ok(laid) => end_line(laid),
+        Ok(indented_text) => end_line(indented_text),
         Err(_) => Err(Error::OutOfMemory),
     }
 }

@@ -6,15 +6,15 @@
 //! bytes of their document), `indent` (a text over several lines) and `indented` (bytes to bytes
 //! over several lines), `preprocessed` (what is checked or rewritten before a text is read),
 //! `accepted` (bytes that are freed before their output is written). Over lines:
-//! `order` (what is requested), `collected` (the line that is read, and the output of those before it) and
-//! `lines` (the whole run). Messages for a rejected text: `stop` (the offset at which bytes are not JSON)
-//! with `rule` (which of its rules they break, which `broken` finds), and `explain` with `quoted`
+//! `task` (what is requested), `line_run_state` (the line that is read, and the output of those before it) and
+//! `lines` (the whole run). Messages for a rejected text: `syntax_error` (the offset at which bytes are not JSON)
+//! with `rule` (which of its rules they break, which `broken_rule` finds), and `explain` with `quoted_value`
 //! (the value at a path) and `shorten` (a message, cut and escaped).
 #![tactic(auto)]
 
 pub mod accepted;
-mod broken;
-mod collected;
+mod broken_rule;
+mod line_run_state;
 pub mod convert;
 pub mod encode;
 pub mod explain;
@@ -22,9 +22,9 @@ pub mod indent;
 pub mod indented;
 pub mod laws;
 pub mod lines;
-pub mod order;
+pub mod task;
 pub mod preprocessed;
-mod quoted;
+mod quoted_value;
 pub mod rule;
 mod shorten;
-pub mod stop;
+pub mod syntax_error;

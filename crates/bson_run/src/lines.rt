@@ -3,13 +3,13 @@ ghost use Rattle.std.specs.Prelude.{◌≡◌, ◌+◌, ℕ, List, Option, IfOk,
 ghost use Rattle.std.specs.Prelude.{string_bytes};
 ghost use Rattle.std.specs.Io.KnownBytes.{Appends, Consumes, IsAtEnd};
 ghost use Rattle.bson.specs.Options.{default_options};
-ghost use Rattle.bson_run.specs.Lines.{DoneLinesIn, FailsAtIn, number_of, text_held};
-ghost use Rattle.bson_run.specs.LinesSteps.{CannotWriteBoth, CountsFit, HasWritten, IsCountedOut};
-ghost use Rattle.bson_run.specs.LinesSteps.{IsStart, Running};
-ghost use Rattle.bson_run.specs.Place.{IsWhere};
+ghost use Rattle.bson_run.specs.Lines.{DoneLinesIn, FailsAtIn, line_number_of, buffered_text};
+ghost use Rattle.bson_run.specs.LinesSteps.{CannotWriteBoth, LineCountFits, HasFlushed, IsLineCountOverflow};
+ghost use Rattle.bson_run.specs.LinesSteps.{IsStart, RunProgress};
+ghost use Rattle.bson_run.specs.ErrorMessages.{IsPositionMessage};
 
-use crate::collected::{Collected, Settings, empty};
-use crate::order::{OnRefusal, Task};
+use crate::line_run_state::{LineRunState, Settings, empty};
+use crate::task::{OnRefusal, Task};
 use bson::extjson::Options;
 use bson_convert::error::Error;
 use bson_convert::stream::write_whole;
@@ -23,10 +23,10 @@ const BLOCK: usize = 65536;
 ///
 /// ```
 /// let mut lines: &[u8] = b"1\n[\n";
-/// let (mut output, mut reported) = (Vec::new(alloc), Vec::new(alloc));
+/// let (mut output, mut diagnostics) = (Vec::new(alloc), Vec::new(alloc));
 /// let task = Task::Check(Criterion::Valid);
 /// let mut run = LineRun::new(alloc, task, OnRefusal::KeepGoing);
-/// let counts = run.run(alloc, &mut lines, &mut output, &mut reported);
+/// let counts = run.run(alloc, &mut lines, &mut output, &mut diagnostics);
 /// println!(rt; "{counts:?}")?; // Ok(Counts { lines: 2, refused: 1 })
 /// ```
 #[derive(Clone, Copy, PartialEq, Eq, Debug)]
@@ -41,9 +41,9 @@ pub struct Counts {
 ///
 /// ```
 /// let mut lines: &[u8] = br#"{"n": 1.5}"#;
-/// let (mut output, mut reported) = (Vec::new(alloc), Vec::new(alloc));
+/// let (mut output, mut diagnostics) = (Vec::new(alloc), Vec::new(alloc));
 /// let mut run = LineRun::new(alloc, Task::Check(Criterion::Valid), OnRefusal::Stop);
-/// if let Err(fault) = run.run(alloc, &mut lines, &mut output, &mut reported) {
+/// if let Err(fault) = run.run(alloc, &mut lines, &mut output, &mut diagnostics) {
 ///     let place = run.place(alloc, &fault)?;
 ///     println!(rt; "line {}: {}{place}", run.number(), fault.message())?;
 /// }
@@ -57,7 +57,7 @@ pub struct LineRun {
     pub task: Task,
     /// Whether the run goes on after a rejected line.
     pub on_refusal: OnRefusal,
-    pub(crate) collected: Collected,
+    pub(crate) state: LineRunState,
 }
 
 impl LineRun {
@@ -69,7 +69,7 @@ impl LineRun {
             options: Options::default(),
             task,
             on_refusal,
-            collected: Collected::new(alloc),
+            state: LineRunState::new(alloc),
         }
     }
 
@@ -107,7 +107,7 @@ impl LineRun {
             (T.contents report.old) (T.contents report.new) counts.lines counts.refused) }
         ensures fails { IfErr result (λ e. FailsAtIn self.old.options e self.old.task self.old.on_refusal
             (R.remaining reader.old) (R.remaining reader.new) (W.contents writer.old) (W.contents writer.new)
-            (T.contents report.old) (T.contents report.new) (number_of self.new) (text_held self.new.collected)) }
+            (T.contents report.old) (T.contents report.new) (line_number_of self.new) (buffered_text self.new.state)) }
         ensures same { (self.new.options ≡ self.old.options) × (self.new.task ≡ self.old.task)
             × (self.new.on_refusal ≡ self.old.on_refusal) }
     {
@@ -116,16 +116,16 @@ impl LineRun {
             task: self.task,
             on_refusal: self.on_refusal,
         };
-        self.collected = Collected::new(alloc);
-        run_on(alloc, settings, &mut self.collected, reader, writer, report)
+        self.state = LineRunState::new(alloc);
+        run_on(alloc, settings, &mut self.state, reader, writer, report)
     }
 
     /// Returns the number of the line at which the run is: the first that was not done. Lines are
     /// counted from 1, and blank ones count.
     pub fn number(&self) -> u64
-        ensures { result ≡ number_of self.now }
+        ensures { result ≡ line_number_of self.now }
     {
-        self.collected.lines.saturating_add(1)
+        self.state.lines.saturating_add(1)
     }
 
     /// Returns where the line at which the run stopped is wrong, as the message of `explain_under`.
@@ -134,9 +134,9 @@ impl LineRun {
     ///
     /// `AllocError` if an allocation fails.
     pub fn place(&self, alloc: Global, fault: &Error) -> Result<String, AllocError>
-        ensures { IfOk result (λ place. IsWhere (text_held self.now.collected) fault.now (string_bytes place)) }
+        ensures { IfOk result (λ place. IsPositionMessage (buffered_text self.now.state) fault.now (string_bytes place)) }
     {
-        self.collected.place(alloc, self.task, fault)
+        self.state.place(alloc, self.task, fault)
     }
 }
 
@@ -144,21 +144,21 @@ impl LineRun {
 fn run_on<R: Read, W: Write, T: Write>(
     alloc: Global,
     settings: Settings,
-    collected: &mut Collected,
+    state: &mut LineRunState,
     reader: &mut R,
     writer: &mut W,
     report: &mut T,
 ) -> Result<Counts, Error>
-    requires start { IsStart collected.old }
-    requires room { CountsFit collected.old }
-    ensures room { CountsFit collected.new }
+    requires start { IsStart state.old }
+    requires room { LineCountFits state.old }
+    ensures room { LineCountFits state.new }
     ensures done { IfOk result
         (λ counts. DoneLinesIn settings.options settings.task settings.on_refusal (R.remaining reader.old) (R.remaining reader.new)
         (W.contents writer.old) (W.contents writer.new) (T.contents report.old) (T.contents report.new) counts.lines
         counts.refused) }
     ensures fails { IfErr result
         (λ e. FailsAtIn settings.options e settings.task settings.on_refusal (R.remaining reader.old) (R.remaining reader.new)
-        (W.contents writer.old) (W.contents writer.new) (T.contents report.old) (T.contents report.new) (collected.new.lines + 1) (text_held collected.new)) }
+        (W.contents writer.old) (W.contents writer.new) (T.contents report.old) (T.contents report.new) (state.new.lines + 1) (buffered_text state.new)) }
 {
     let mut block = [0u8; BLOCK];
     for _ in 0..u64::MAX {
@@ -166,9 +166,9 @@ fn run_on<R: Read, W: Write, T: Write>(
             return Err(Error::CannotRead);
         };
         if count == 0 {
-            return end(alloc, settings, collected, writer, report);
+            return end(alloc, settings, state, writer, report);
         }
-        pass_on(alloc, settings, collected, &block[..count], writer, report)?;
+        pass_on(alloc, settings, state, &block[..count], writer, report)?;
     }
     // A count that no run reaches.
     Err(Error::CannotRead)
@@ -178,29 +178,29 @@ fn run_on<R: Read, W: Write, T: Write>(
 fn pass_on<W: Write, T: Write>(
     alloc: Global,
     settings: Settings,
-    collected: &mut Collected,
+    state: &mut LineRunState,
     block: &[u8],
     writer: &mut W,
     report: &mut T,
 ) -> Result<(), Error>
-    requires room { CountsFit collected.old }
-    ensures room { CountsFit collected.new }
-    ensures ok { OnOk result ((before given after had reported : Option (List ℕ))
-        → Running settings.options settings.task settings.on_refusal before given had (W.contents writer.old) reported (T.contents report.old)
-        collected.old
+    requires room { LineCountFits state.old }
+    ensures room { LineCountFits state.new }
+    ensures ok { OnOk result ((before given after output_before diagnostics_before : Option (List ℕ))
+        → RunProgress settings.options settings.task settings.on_refusal before given output_before (W.contents writer.old) diagnostics_before (T.contents report.old)
+        state.old
         → Consumes given after block.now
-        → Running settings.options settings.task settings.on_refusal before after had (W.contents writer.new) reported (T.contents report.new)
-        collected.new) }
-    ensures fails { IfErr result (λ e. (before given after had reported : Option (List ℕ))
-        → Running settings.options settings.task settings.on_refusal before given had (W.contents writer.old) reported (T.contents report.old)
-        collected.old
+        → RunProgress settings.options settings.task settings.on_refusal before after output_before (W.contents writer.new) diagnostics_before (T.contents report.new)
+        state.new) }
+    ensures fails { IfErr result (λ e. (before given after output_before diagnostics_before : Option (List ℕ))
+        → RunProgress settings.options settings.task settings.on_refusal before given output_before (W.contents writer.old) diagnostics_before (T.contents report.old)
+        state.old
         → Consumes given after block.now
-        → FailsAtIn settings.options e settings.task settings.on_refusal before after had (W.contents writer.new) reported
-        (T.contents report.new) (collected.new.lines + 1) (text_held collected.new)) }
-    ensures count { IfErr result (λ e. IsCountedOut e collected.new.lines) }
+        → FailsAtIn settings.options e settings.task settings.on_refusal before after output_before (W.contents writer.new) diagnostics_before
+        (T.contents report.new) (state.new.lines + 1) (buffered_text state.new)) }
+    ensures count { IfErr result (λ e. IsLineCountOverflow e state.new.lines) }
 {
-    let step = collected.take(alloc, settings, block);
-    write_out(collected, writer, report)?;
+    let step = state.take(alloc, settings, block);
+    write_out(state, writer, report)?;
     step
 }
 
@@ -208,60 +208,60 @@ fn pass_on<W: Write, T: Write>(
 fn end<W: Write, T: Write>(
     alloc: Global,
     settings: Settings,
-    collected: &mut Collected,
+    state: &mut LineRunState,
     writer: &mut W,
     report: &mut T,
 ) -> Result<Counts, Error>
-    requires room { CountsFit collected.old }
-    ensures room { CountsFit collected.new }
-    ensures done { IfOk result (λ counts. (before after had reported : Option (List ℕ))
-        → Running settings.options settings.task settings.on_refusal before after had (W.contents writer.old) reported (T.contents report.old)
-        collected.old
+    requires room { LineCountFits state.old }
+    ensures room { LineCountFits state.new }
+    ensures done { IfOk result (λ counts. (before after output_before diagnostics_before : Option (List ℕ))
+        → RunProgress settings.options settings.task settings.on_refusal before after output_before (W.contents writer.old) diagnostics_before (T.contents report.old)
+        state.old
         → IsAtEnd after
-        → DoneLinesIn settings.options settings.task settings.on_refusal before after had (W.contents writer.new) reported
+        → DoneLinesIn settings.options settings.task settings.on_refusal before after output_before (W.contents writer.new) diagnostics_before
         (T.contents report.new) counts.lines counts.refused) }
-    ensures fails { IfErr result (λ e. (before after had reported : Option (List ℕ))
-        → Running settings.options settings.task settings.on_refusal before after had (W.contents writer.old) reported (T.contents report.old)
-        collected.old
+    ensures fails { IfErr result (λ e. (before after output_before diagnostics_before : Option (List ℕ))
+        → RunProgress settings.options settings.task settings.on_refusal before after output_before (W.contents writer.old) diagnostics_before (T.contents report.old)
+        state.old
         → IsAtEnd after
-        → FailsAtIn settings.options e settings.task settings.on_refusal before after had (W.contents writer.new) reported
-        (T.contents report.new) (collected.new.lines + 1) (text_held collected.new)) }
-    ensures count { IfErr result (λ e. IsCountedOut e collected.new.lines) }
+        → FailsAtIn settings.options e settings.task settings.on_refusal before after output_before (W.contents writer.new) diagnostics_before
+        (T.contents report.new) (state.new.lines + 1) (buffered_text state.new)) }
+    ensures count { IfErr result (λ e. IsLineCountOverflow e state.new.lines) }
 {
-    let step = collected.take_last(alloc, settings);
-    write_out(collected, writer, report)?;
+    let step = state.take_last(alloc, settings);
+    write_out(state, writer, report)?;
     step?;
     Ok(Counts {
-        lines: collected.lines,
-        refused: collected.refused,
+        lines: state.lines,
+        refused: state.refused,
     })
 }
 
 // Writes the output and the diagnostics that are in memory. The diagnostics come first, so that a
 // writer that fails loses none.
 fn write_out<W: Write, T: Write>(
-    collected: &mut Collected,
+    state: &mut LineRunState,
     writer: &mut W,
     report: &mut T,
 ) -> Result<(), Error>
-    requires room { CountsFit collected.old }
-    ensures room { CountsFit collected.new }
-    ensures ok { OnOk result (HasWritten collected.old collected.new) }
-    ensures written { OnOk result (Appends (W.contents writer.old) (W.contents writer.new) collected.old.output.items) }
-    ensures reports_appended { OnOk result (Appends (T.contents report.old) (T.contents report.new) collected.old.reported.items) }
+    requires room { LineCountFits state.old }
+    ensures room { LineCountFits state.new }
+    ensures ok { OnOk result (HasFlushed state.old state.new) }
+    ensures written { OnOk result (Appends (W.contents writer.old) (W.contents writer.new) state.old.output.items) }
+    ensures reports_appended { OnOk result (Appends (T.contents report.old) (T.contents report.new) state.old.diagnostics.items) }
     ensures cut { OnErr result
         (CannotWriteBoth (W.contents writer.old) (W.contents writer.new) (T.contents report.old)
-        (T.contents report.new) collected.old.output.items collected.old.reported.items) }
-    ensures same { OnErr result (collected.new.lines ≡ collected.old.lines) }
+        (T.contents report.new) state.old.output.items state.old.diagnostics.items) }
+    ensures same { OnErr result (state.new.lines ≡ state.old.lines) }
     ensures fault { IfErr result (λ e. e ≡ Error.CannotWrite) }
 {
-    let Ok(()) = write_whole(report, &collected.reported) else {
+    let Ok(()) = write_whole(report, &state.diagnostics) else {
         return Err(Error::CannotWrite);
     };
-    let Ok(()) = write_whole(writer, &collected.output) else {
+    let Ok(()) = write_whole(writer, &state.output) else {
         return Err(Error::CannotWrite);
     };
-    empty(&mut collected.output);
-    collected.reported.clear();
+    empty(&mut state.output);
+    state.diagnostics.clear();
     Ok(())
 }

@@ -1,9 +1,9 @@
 //! Texts that are checked or rewritten before they are read.
 ghost use Rattle.std.specs.Prelude.{◌≡◌, IfErr, IfOk, OnOk};
-ghost use Rattle.bson_run.specs.Preprocessed.{HasNoDoubleKey, IsPreprocessedAs, IsNotPreprocessed, UpgradesTo, preprocessed_of};
-ghost use Rattle.bson_run.specs.declared.order.Preprocessing.TheVariants.{Distinct};
+ghost use Rattle.bson_run.specs.Preprocessed.{LacksDuplicateKey, IsPreprocessedAs, IsPreprocessingError, UpgradesTo, preprocessed_of};
+ghost use Rattle.bson_run.specs.declared.task.Preprocessing.TheVariants.{Distinct};
 
-use crate::order::Preprocessing;
+use crate::task::Preprocessing;
 use bson_convert::error::Error;
 use bson_tokens::find_duplicate::first_duplicate_key;
 use bson_tree::place::{Place, Reason};
@@ -37,7 +37,7 @@ pub fn preprocess_text(
     bytes: &[u8],
 ) -> Result<Option<String>, Error>
     ensures ok { IfOk result (λ text. IsPreprocessedAs preprocessing bytes.now (preprocessed_of bytes.now text)) }
-    ensures fault { IfErr result (λ fault. IsNotPreprocessed preprocessing fault bytes.now) }
+    ensures fault { IfErr result (λ fault. IsPreprocessingError preprocessing fault bytes.now) }
 {
     match preprocessing {
         Preprocessing::Distinct => {
@@ -54,8 +54,8 @@ pub fn preprocess_text(
 
 // Rejects a text with a duplicate key.
 fn reject_duplicate_keys(alloc: Global, bytes: &[u8]) -> Result<(), Error>
-    ensures ok { OnOk result (HasNoDoubleKey bytes.now) }
-    ensures fault { IfErr result (λ fault. IsNotPreprocessed Distinct fault bytes.now) }
+    ensures ok { OnOk result (LacksDuplicateKey bytes.now) }
+    ensures fault { IfErr result (λ fault. IsPreprocessingError Distinct fault bytes.now) }
 {
     let Ok(text) = simdutf8::compat::from_utf8(bytes) else {
         return Ok(());

@@ -1,13 +1,13 @@
 //! Which rule of JSON a text breaks.
 ghost use Rattle.std.specs.Prelude.{◌≡◌};
-ghost use Rattle.bson_run.specs.Words.{words_broken};
+ghost use Rattle.bson_run.specs.TaskNames.{rule_message};
 
 /// Which rule of JSON (RFC 8259) a text breaks.
 ///
 /// ```
 /// let text: &[u8] = b"[1, 2,]";
-/// let stop = Stop::of(alloc, text)?;
-/// println!(rt; "{}", stop.rule.message())?; // expected an element after the comma
+/// let syntax_error = SyntaxError::of(alloc, text)?;
+/// println!(rt; "{}", syntax_error.rule.message())?; // expected an element after the comma
 /// ```
 #[derive(Clone, Copy, PartialEq, Eq, Debug)]
 pub enum Rule {
@@ -45,7 +45,7 @@ pub enum Rule {
 impl Rule {
     /// Returns what a program says of the rule.
     pub fn message(self) -> &'static str
-        ensures { result.now ≡ words_broken self }
+        ensures { result.now ≡ rule_message self }
     {
         match self {
             Rule::Utf8 => "invalid UTF-8",

@@ -1,6 +1,6 @@
 //! Messages that are cut to a number of characters, with or without escapes.
 ghost use Rattle.std.specs.Prelude.{◌≡◌, ◌++◌, IfOk, OnOk, string_bytes};
-ghost use Rattle.bson_run.specs.Place.{cut_at, letter, shown};
+ghost use Rattle.bson_run.specs.ErrorMessages.{truncated, char_or_escape, escaped_char};
 
 use std::alloc::{AllocError, Global};
 
@@ -8,46 +8,46 @@ use std::alloc::{AllocError, Global};
 /// `escapes`, a character that breaks a line or controls a terminal is written as its escape.
 pub(crate) fn shorten(
     alloc: Global,
-    words: &str,
-    most: usize,
+    full_message: &str,
+    max_chars: usize,
     escapes: bool,
 ) -> Result<String, AllocError>
-    ensures { IfOk result (λ said. string_bytes said ≡ cut_at most (letter escapes) words.now) }
+    ensures { IfOk result (λ shortened. string_bytes shortened ≡ truncated max_chars (char_or_escape escapes) full_message.now) }
 {
-    let mut said = String::new(alloc);
-    for c in words.chars().take(most) {
-        push_letter(alloc, &mut said, c, escapes)?;
+    let mut shortened = String::new(alloc);
+    for c in full_message.chars().take(max_chars) {
+        push_char(alloc, &mut shortened, c, escapes)?;
     }
-    if words.chars().nth(most).is_some() {
-        said.push_str("..")?;
+    if full_message.chars().nth(max_chars).is_some() {
+        shortened.push_str("..")?;
     }
-    Ok(said)
+    Ok(shortened)
 }
 
 // Appends a character, or its escape if escapes are enabled.
-fn push_letter(alloc: Global, said: &mut String, c: char, escapes: bool) -> Result<(), AllocError>
-    ensures { OnOk result (string_bytes said.new ≡ string_bytes said.old ++ letter escapes c) }
+fn push_char(alloc: Global, shortened: &mut String, c: char, escapes: bool) -> Result<(), AllocError>
+    ensures { OnOk result (string_bytes shortened.new ≡ string_bytes shortened.old ++ char_or_escape escapes c) }
 {
     if escapes {
-        push_shown(alloc, said, c)
+        push_escaped(alloc, shortened, c)
     } else {
-        said.push(c)
+        shortened.push(c)
     }
 }
 
 // Appends a character, or its escape.
-fn push_shown(alloc: Global, said: &mut String, c: char) -> Result<(), AllocError>
-    ensures { OnOk result (string_bytes said.new ≡ string_bytes said.old ++ shown c) }
+fn push_escaped(alloc: Global, shortened: &mut String, c: char) -> Result<(), AllocError>
+    ensures { OnOk result (string_bytes shortened.new ≡ string_bytes shortened.old ++ escaped_char c) }
 {
     if c == '\u{2028}' {
-        return said.push_str("\\u2028");
+        return shortened.push_str("\\u2028");
     }
     if c == '\u{2029}' {
-        return said.push_str("\\u2029");
+        return shortened.push_str("\\u2029");
     }
     if c.is_control() {
         let escape = format!(in alloc; "\\u00{:02x}", u32::from(c))?;
-        return said.push_str(&escape);
+        return shortened.push_str(&escape);
     }
-    said.push(c)
+    shortened.push(c)
 }

@@ -6,7 +6,7 @@ use bson_codec::de::DEPTH;
 use bson_codec::documents::{Line, Run, run_documents};
 use bson_codec::stream::{from_reader, to_writer};
 use bson_codec::to_vec;
-use bson_run::order::OnRefusal;
+use bson_run::task::OnRefusal;
 use std::alloc::{AllocError, Global};
 
 /// Returns the result of `from_reader`: `done` and how many bytes the reader has left, or its error.

@@ -3,7 +3,7 @@ use crate::failing_streams::StreamEnd;
 use bson::extjson::{Form, KeyOrder};
 use bson_codec::documents::Line;
 use bson_convert::mode::Mode;
-use bson_run::order::{OnRefusal, Task};
+use bson_run::task::{OnRefusal, Task};
 use std::io::ErrorKind;
 use std::str;
 

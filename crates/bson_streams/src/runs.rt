@@ -9,7 +9,7 @@ use bson_convert::mode::Mode;
 use bson_convert::run::run;
 use bson_run::convert::convert_text;
 use bson_run::lines::LineRun;
-use bson_run::order::{OnRefusal, Task};
+use bson_run::task::{OnRefusal, Task};
 use std::alloc::{AllocError, Global};
 
 /// The longest output that is written without an allocation.

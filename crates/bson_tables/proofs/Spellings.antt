@@ -63,8 +63,8 @@ no_spellings = (no_uuid _ refl, no_uuid _ refl, no_uuid _ refl, no_uuid _ refl)
 abbrev uuid_tree : List ℕ → Data
 uuid_tree text = object_of_one (codes "$uuid") (tree.string text)
 
-abbrev IsRefused : Data → Type 0
-IsRefused t = MeansNothing t × (fault_of t ≡ wrong_shape)
+abbrev IsRejected : Data → Type 0
+IsRejected t = MeansNothing t × (fault_of t ≡ wrong_shape)
 
 wrapped_upper_case : Means (uuid_tree (codes "F81D4FAE-7DEC-11D0-A765-00A0C91E6BF6"))
     (model.scalar (kind.binary Uuid example))
@@ -72,7 +72,7 @@ unfolding example by_index
 wrapped_upper_case = row _ _ refl
 
 abbrev IsNoWrappedUuid : List ℕ → Type 0
-IsNoWrappedUuid text = IsRefused (uuid_tree text)
+IsNoWrappedUuid text = IsRejected (uuid_tree text)
 
 -- digits alone, braces, the URN, and a hyphen at 7
 not_wrapped : IsNoWrappedUuid (codes "f81d4fae7dec11d0a76500a0c91e6bf6")
@@ -111,7 +111,7 @@ unfolding groups_error groups_bytes scan_steps decode_pairs
 no_padding_due = row _ _ refl
 
 abbrev IsNoBase64 : List ℕ → Type 0
-IsNoBase64 text = IsRefused (binary_tree text)
+IsNoBase64 text = IsRejected (binary_tree text)
 
 -- no padding, half of it, bits left over in the digit before the padding, which must be zero, the alphabet of URLs,
 -- a blank, and numbers that are no bytes

@@ -9,13 +9,13 @@ use Rattle.bson_tree.specs.Place.{IsFirstFaultIn, IsReason}
 use Rattle.bson_tree.specs.declared.place.Reason.{Reason}
 use Rattle.bson_tree.specs.declared.place.Reason.TheVariants.{BadObjectId, WrongShape}
 use Rattle.bson_tree.specs.declared.place.Place.{Place}
-use Rattle.bson_convert.specs.Convert.{IsRefusedIn}
+use Rattle.bson_convert.specs.Convert.{IsRejectedIn}
 use Rattle.bson_convert.specs.declared.error.Error.{Error}
 use Rattle.bson_convert.specs.declared.error.Error.TheVariants.{CannotRead, NotJson, NotExtendedJson, NoBytes, OutOfMemory}
 use Rattle.bson_convert.specs.declared.error.Error.TheVariants.{CannotWrite, NotCanonical}
-use Rattle.bson_run.specs.Encode.{HasNoBytesBy, IsUnencodedBy}
-use Rattle.bson_convert.specs.declared.no_bytes.NoBytes as without
-use Rattle.bson_convert.specs.declared.no_bytes.NoBytes.TheVariants.{NoDocument, ZeroInKey, ZeroInRegex, TooLong}
+use Rattle.bson_run.specs.Encode.{HasNoBytesBy, IsEncodeErrorBy}
+use Rattle.bson_convert.specs.declared.encode_error.NoBytes as without
+use Rattle.bson_convert.specs.declared.encode_error.NoBytes.TheVariants.{NoDocument, ZeroInKey, ZeroInRegex, TooLong}
 use Rattle.vbson.specs.Convert.{IsInvalidExtendedJson, IsInvalidShape, IsBadObjectId, IsCauseOfStatus, IsTextError, status_of_reason, status_of}
 use Rattle.vbson.specs.Convert.{status_of_no_bytes}
 use Rattle.vbson.specs.Documents.{IsEncodeFailure}
@@ -43,7 +43,7 @@ of_place o why place bytes h reason = record {
   reason = subst why (first_fault o.doubles h.2.path) reason;
 }
 
-pub causes : (o : Options) (fault : Error) (bytes : List ℕ) → IsRefusedIn o fault bytes
+pub causes : (o : Options) (fault : Error) (bytes : List ℕ) → IsRejectedIn o fault bytes
     → IsCauseOfStatus o (status_of fault) bytes
 causes o CannotRead bytes h = absurd h
 causes o NotJson bytes h = record {
@@ -91,7 +91,7 @@ pub reason_status : (r : Reason) → (2 ≤ status_of_reason r) × (status_of_re
 reason_status (BadObjectId e) = (omega arith, omega arith)
 reason_status (WrongShape message) = (omega arith, omega arith)
 
-refused : (o : Options) (fault : Error) (text : List ℕ) → IsRefusedIn o fault text
+refused : (o : Options) (fault : Error) (text : List ℕ) → IsRejectedIn o fault text
     → IsEncodeFailure o (status_of fault) text
 refused o CannotRead text h = absurd h
 refused o NotJson text h = no_meaning o 2 text (causes o NotJson text h) (omega arith) (omega arith)
@@ -139,7 +139,7 @@ without_bytes o TooLong text h = record {
 }
 
 -- what the status of the fault says of the text
-pub unencoded : (o : Options) (fault : Error) (text : List ℕ) → IsUnencodedBy o.key_order o fault text
+pub unencoded : (o : Options) (fault : Error) (text : List ℕ) → IsEncodeErrorBy o.key_order o fault text
     → IsEncodeFailure o (status_of fault) text
 unencoded o CannotRead text h = absurd h
 unencoded o NotJson text h = refused o NotJson text h
@@ -150,7 +150,7 @@ unencoded o OutOfMemory text h = refused o OutOfMemory text h
 unencoded o CannotWrite text h = absurd h
 
 -- a text that gives no bytes has the fault of a text
-pub of_text : (o : Options) (fault : Error) (text : List ℕ) → IsUnencodedBy o.key_order o fault text
+pub of_text : (o : Options) (fault : Error) (text : List ℕ) → IsEncodeErrorBy o.key_order o fault text
     → IsTextError fault
 of_text o NotJson text h = tt
 of_text o (NotExtendedJson place) text h = tt

@@ -14,24 +14,24 @@ use Rattle.vbson.specs.Text.{IsOwnedText}
 use Rattle.vbson.specs.declared.text.Text.{Text}
 
 -- a writer that was empty contains what was written
-wrote : (had holds output : List ℕ) → holds ≡ had ++ output → had ≡ [] → output ≡ holds
-wrote had holds output is none = sym (is ∙ ap (λ x. x ++ output) none)
+wrote : (output_before output_after output : List ℕ) → output_after ≡ output_before ++ output → output_before ≡ [] → output ≡ output_after
+wrote output_before output_after output is none = sym (is ∙ ap (λ x. x ++ output) none)
 
 -- the run ended at a document, for a fault of its bytes, which the last diagnostic names
-pub cut_block : (run : Run) (block had output held diagnostics all : List ℕ) (after : Option (List ℕ)) (fault : RunFault)
+pub cut_block : (run : Run) (block output_before output held diagnostics all : List ℕ) (after : Option (List ℕ)) (fault : RunFault)
     (number refused start : ℕ)
-    → EndsAt run (Some block) after (Some had) (Some output) (Some held) (Some diagnostics) fault number refused start
-    → had ≡ [] → held ≡ [] → IsFaultOfDocument fault → all ≡ diagnostics ++ diagnostic_of number start fault
+    → EndsAt run (Some block) after (Some output_before) (Some output) (Some held) (Some diagnostics) fault number refused start
+    → output_before ≡ [] → held ≡ [] → IsFaultOfDocument fault → all ≡ diagnostics ++ diagnostic_of number start fault
     → IsOutputOfDocuments run block output all number start
-cut_block run block had output held diagnostics all after fault number refused start h none also is last_diagnostic =
-    let (out, reports, inside, written, reports_appended) =
-    ends_inside run block after (Some had) (Some output) (Some held) (Some diagnostics) fault number refused start h is in
+cut_block run block output_before output held diagnostics all after fault number refused start h none also is last_diagnostic =
+    let (out, diagnostics_after, inside, written, reports_appended) =
+    ends_inside run block after (Some output_before) (Some output) (Some held) (Some diagnostics) fault number refused start h is in
     inr (record {
       diagnostics = diagnostics;
       refused = refused;
       fault = fault;
-      cut = subst (λ x. EndsInside run block x diagnostics fault number refused start) (wrote had output out written none)
-          (subst (λ x. EndsInside run block out x fault number refused start) (wrote held diagnostics reports reports_appended also) inside);
+      cut = subst (λ x. EndsInside run block x diagnostics fault number refused start) (wrote output_before output out written none)
+          (subst (λ x. EndsInside run block out x fault number refused start) (wrote held diagnostics diagnostics_after reports_appended also) inside);
       last_diagnostic = last_diagnostic;
     })
 
@@ -41,8 +41,8 @@ pub gives_utf8 : (run : Run) (block output all_diagnostics : List ℕ) (count co
 gives_utf8 run block output all_diagnostics count consumed (inl all) = dump_utf8 all.documents
 gives_utf8 run block output all_diagnostics count consumed (inr it) =
     let before = dump_utf8 it.cut.documents in
-    let reported = diagnostic_utf8 count consumed it.fault in
-    (before.0, subst IsUtf8 (sym it.last_diagnostic) (IsUtf8-append it.diagnostics _ before.1 reported))
+    let diagnostics_before = diagnostic_utf8 count consumed it.fault in
+    (before.0, subst IsUtf8 (sym it.last_diagnostic) (IsUtf8-append it.diagnostics _ before.1 diagnostics_before))
 
 -- the text of a line
 pub of_line : (text line : List ℕ) (out : Text) → line ≡ text ++ newline → IsOwnedText (take (length line - 1) line) out

@@ -8,7 +8,7 @@ use Rattle.bson.specs.Value.{Value}
 use Rattle.bson.specs.declared.extjson.options.Options.{Options}
 use Rattle.bson_bytes.specs.declared.error.Error.{Error as PathError}
 use Rattle.bson_bytes.specs.declared.error.Error.TheVariants as sizes
-use Rattle.bson_convert.specs.Convert.{IsRefusedIn}
+use Rattle.bson_convert.specs.Convert.{IsRejectedIn}
 use Rattle.bson_convert.specs.declared.error.Error.{Error}
 use Rattle.bson_convert.specs.declared.error.Error.TheVariants as errors
 use Rattle.bson_tokens.specs.DuplicateKeys.{DuplicateAt}
@@ -16,10 +16,10 @@ use Rattle.bson_model.specs.Means.{MeansIn}
 use Rattle.bson_tree.specs.Place.{PathSegment}
 use Rattle.bson_tree.specs.declared.place.Reason.{Reason}
 use Rattle.bson_tree.specs.declared.place.Reason.TheVariants.{BadObjectId, WrongShape}
-use Rattle.bson_run.specs.Place.{IsExplanation, IsOfNoText}
+use Rattle.bson_run.specs.ErrorMessages.{IsExplanation, IsNotTextError}
 use Rattle.bson_run.specs.declared.explain.Explanation.{Explanation}
 use Rattle.bson_run.specs.declared.explain.Explanation.TheVariants as explained
-use Rattle.bson_run.specs.declared.order.Preprocessing.{Preprocessing}
+use Rattle.bson_run.specs.declared.task.Preprocessing.{Preprocessing}
 use Rattle.vbson.proofs.Preprocessed.{meant, not_read, rejected_key}
 use Rattle.vbson.specs.Convert.{options_of_flags, status_of_reason}
 use Rattle.vbson.specs.Explain.{Explains, ExplainsWithoutPreprocessing, ExplainsError, HasTooLongPath, IsRejectedFor, IsTooLong, IsUnexplained, ExplainsRejection, explanation_code}
@@ -36,7 +36,7 @@ of_read options text read out is (inr h) =
     inr (record { fault = h.0; read = read; refused = inl (is, h.1); reported = h.2; error = h.3 })
 
 pub long_of_read : (options : CallOptions) (text read : List ℕ) (e : PathError) → IsReadAs (preprocessing_of options) text read
-    → IsUnexplained e (λ fault. IsRefusedIn (options_of_flags options) fault read) → e ≢ sizes.OutOfMemory → IsTooLong options text
+    → IsUnexplained e (λ fault. IsRejectedIn (options_of_flags options) fault read) → e ≢ sizes.OutOfMemory → IsTooLong options text
 long_of_read options text read e is h reported =
     let it = h reported in record { fault = it.0; read = read; refused = inl (is, it.1); too_long = it.2 }
 
@@ -52,8 +52,8 @@ long_first options fault text e h too_long reported =
 
 -- ---- the code
 
-of_text : (o : Options) (fault : Error) (bytes : List ℕ) → IsRefusedIn o fault bytes → fault ≢ errors.OutOfMemory
-    → IsOfNoText fault → ⊥
+of_text : (o : Options) (fault : Error) (bytes : List ℕ) → IsRejectedIn o fault bytes → fault ≢ errors.OutOfMemory
+    → IsNotTextError fault → ⊥
 of_text o errors.CannotRead bytes h reported none = h
 of_text o errors.NotJson bytes h reported none = none
 of_text o (errors.NotExtendedJson place) bytes h reported none = none
@@ -63,7 +63,7 @@ of_text o errors.OutOfMemory bytes h reported none = reported refl
 of_text o errors.CannotWrite bytes h reported none = h
 
 of_unread : (preprocessing : Option Preprocessing) (fault : Error) (text : List ℕ) → IsPreprocessingFault preprocessing fault text
-    → fault ≢ errors.OutOfMemory → IsOfNoText fault → ⊥
+    → fault ≢ errors.OutOfMemory → IsNotTextError fault → ⊥
 of_unread None fault text h reported none = h
 of_unread (Some selected) errors.CannotRead text h reported none = h
 of_unread (Some selected) errors.NotJson text h reported none = none
@@ -74,7 +74,7 @@ of_unread (Some selected) errors.OutOfMemory text h reported none = reported ref
 of_unread (Some selected) errors.CannotWrite text h reported none = h
 
 of_rejected : (options : CallOptions) (text read : List ℕ) (fault : Error) → IsRejectedFor options text read fault → fault ≢ errors.OutOfMemory
-    → IsOfNoText fault → ⊥
+    → IsNotTextError fault → ⊥
 of_rejected options text read fault (inl h) reported none = of_text (options_of_flags options) fault read h.1 reported none
 of_rejected options text read fault (inr h) reported none = of_unread (preprocessing_of options) fault text h.1 reported none
 
@@ -82,7 +82,7 @@ reason_code : (reason : Reason) (n : ℕ) → n ≡ status_of_reason reason → 
 reason_code (BadObjectId e) n is zero = absurd (omega (arith, is, zero))
 reason_code (WrongShape message) n is zero = absurd (omega (arith, is, zero))
 
-some_code : (text : List ℕ) (fault : Error) (it : Explanation) (n : ℕ) → IsExplanation text fault it → (IsOfNoText fault → ⊥)
+some_code : (text : List ℕ) (fault : Error) (it : Explanation) (n : ℕ) → IsExplanation text fault it → (IsNotTextError fault → ⊥)
     → n ≡ explanation_code it → n ≡ 0 → ⊥
 some_code text fault (explained.Syntax stop) n h reported is zero = absurd (omega (arith, is, zero))
 some_code text fault (explained.Value place reason) n h reported is zero = reason_code place.now.reason n is zero
@@ -103,7 +103,7 @@ accepted_from options text out (inr h) zero = absurd (refuses_code options text 
 -- ---- a text that means a value is not refused
 
 not_refused : (o : Options) (fault : Error) (bytes : List ℕ) (value : Value) → HasTextMeaningIn o.doubles bytes value
-    → IsRefusedIn o fault bytes → fault ≢ errors.OutOfMemory → ⊥
+    → IsRejectedIn o fault bytes → fault ≢ errors.OutOfMemory → ⊥
 not_refused o errors.CannotRead bytes value means h reported = h
 not_refused o errors.NotJson bytes value means h reported =
     let some : read bytes ≡ Some means.tree = means.text.tree_read in

@@ -12,12 +12,12 @@ use Rattle.bson_bytes.specs.ReadDocuments.{IsReadIn}
 use Rattle.bson_model.specs.Value.{Pairs, Value}
 use Rattle.bson.specs.TextMeaning.{HasTextMeaningIn, IsTextOf}
 use Rattle.bson.specs.declared.extjson.options.Options.{Options}
-use Rattle.bson_convert.specs.Convert.{IsRefusedIn}
+use Rattle.bson_convert.specs.Convert.{IsRejectedIn}
 use Rattle.bson_convert.specs.declared.error.Error.{Error}
 use Rattle.bson_convert.specs.declared.error.Error.TheVariants.{CannotRead, NotJson, NotExtendedJson, NoBytes, OutOfMemory}
 use Rattle.bson_convert.specs.declared.error.Error.TheVariants.{CannotWrite, NotCanonical}
 use Rattle.bson_run.proofs.Offered.{not_taken, one_taken}
-use Rattle.bson_run.specs.declared.order.Preprocessing.{Preprocessing}
+use Rattle.bson_run.specs.declared.task.Preprocessing.{Preprocessing}
 use Rattle.vbson.proofs.Causes.{causes, reason_status}
 use Rattle.vbson.specs.Convert.{IsTextError, options_of_flags, status_of}
 use Rattle.vbson.specs.Documents.{depth}
@@ -51,7 +51,7 @@ meant options text read value is means =
 
 -- ---- what a status says
 
-two_at_least : (o : Options) (fault : Error) (bytes : List ℕ) → IsRefusedIn o fault bytes
+two_at_least : (o : Options) (fault : Error) (bytes : List ℕ) → IsRejectedIn o fault bytes
     → (2 ≤ status_of fault) × (status_of fault ≤ 5)
 two_at_least o CannotRead bytes h = absurd h
 two_at_least o NotJson bytes h = (omega arith, omega arith)
@@ -61,7 +61,7 @@ two_at_least o (NotCanonical column) bytes h = absurd h
 two_at_least o OutOfMemory bytes h = (omega arith, omega arith)
 two_at_least o CannotWrite bytes h = absurd h
 
-pub rejected : (o : Options) (fault : Error) (bytes : List ℕ) → IsRefusedIn o fault bytes
+pub rejected : (o : Options) (fault : Error) (bytes : List ℕ) → IsRejectedIn o fault bytes
     → ((tree : Data) (value : Value) → IsTextOf bytes tree → MeansIn o.doubles tree value → fault ≡ OutOfMemory)
     → IsReadFailure o (status_of fault) bytes
 rejected o fault bytes h accepts = record {
@@ -122,7 +122,7 @@ turned_away twice options fault text h some =
     }
 
 -- an error that bytes have as a text is neither of a reader nor of a writer
-pub of_refused : (o : Options) (fault : Error) (bytes : List ℕ) → IsRefusedIn o fault bytes → IsTextError fault
+pub of_refused : (o : Options) (fault : Error) (bytes : List ℕ) → IsRejectedIn o fault bytes → IsTextError fault
 of_refused o CannotRead bytes h = h
 of_refused o NotJson bytes h = tt
 of_refused o (NotExtendedJson place) bytes h = tt

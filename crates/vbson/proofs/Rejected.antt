@@ -5,43 +5,43 @@ use Rattle.bson.specs.declared.extjson.options.Options.{Options}
 use Rattle.bson_convert.specs.declared.error.Error.{Error}
 use Rattle.bson_convert.specs.declared.error.Error.TheVariants.{CannotRead, NotJson, NotExtendedJson, NoBytes, OutOfMemory}
 use Rattle.bson_convert.specs.declared.error.Error.TheVariants.{CannotWrite, NotCanonical}
-use Rattle.bson_run.specs.Lines.{EndsAtIn, FailsAtIn, IsBadLineIn, IsStoppedAtIn, WritesBoth, left_of, lines, line_text}
-use Rattle.bson_run.specs.declared.order.OnRefusal.TheVariants.{Stop}
-use Rattle.bson_run.specs.declared.order.Task.{Task}
+use Rattle.bson_run.specs.Lines.{EndsAtIn, FailsAtIn, IsRejectedLineIn, IsStoppedAtIn, WritesBoth, remaining_bytes, lines, line_text}
+use Rattle.bson_run.specs.declared.task.OnRefusal.TheVariants.{Stop}
+use Rattle.bson_run.specs.declared.task.Task.{Task}
 use Rattle.vbson.specs.Lines.{IsFirstRejected, is_rejection}
 
 -- what was read and what is left are the block
 whole_block : (block bytes : List ℕ) (after : Option (List ℕ)) → Consumes (Some block) after bytes
-    → block ≡ bytes ++ left_of after
+    → block ≡ bytes ++ remaining_bytes after
 whole_block block bytes None h = absurd h
 whole_block block bytes (Some rest) h = h
 
 -- there is a line after so many, and it is rejected
 rejected_next : (o : Options) (task : Task) (fault : Error) (held : List ℕ) (before : ℕ) (others : List (List ℕ))
     → is_rejection fault ≡ true → IsStoppedAtIn o task Stop fault held before others
-    → (line : List ℕ) × (rest : List (List ℕ)) × (others ≡ line ∷ rest) × IsBadLineIn o task fault (line_text before line)
+    → (line : List ℕ) × (rest : List (List ℕ)) × (others ≡ line ∷ rest) × IsRejectedLineIn o task fault (line_text before line)
 rejected_next o task CannotRead held before others is h = absurd cc
 rejected_next o task CannotWrite held before others is h = absurd cc
 rejected_next o task OutOfMemory held before others is h = absurd cc
 rejected_next o task NotJson held before [] is h = absurd h
 rejected_next o task NotJson held before (line ∷ rest) is h =
-    (line, rest, refl, subst (IsBadLineIn o task NotJson) h.0 h.1.1)
+    (line, rest, refl, subst (IsRejectedLineIn o task NotJson) h.0 h.1.1)
 rejected_next o task (NotExtendedJson place) held before [] is h = absurd h
 rejected_next o task (NotExtendedJson place) held before (line ∷ rest) is h =
-    (line, rest, refl, subst (IsBadLineIn o task (NotExtendedJson place)) h.0 h.1.1)
+    (line, rest, refl, subst (IsRejectedLineIn o task (NotExtendedJson place)) h.0 h.1.1)
 rejected_next o task (NoBytes why) held before [] is h = absurd h
 rejected_next o task (NoBytes why) held before (line ∷ rest) is h =
-    (line, rest, refl, subst (IsBadLineIn o task (NoBytes why)) h.0 h.1.1)
+    (line, rest, refl, subst (IsRejectedLineIn o task (NoBytes why)) h.0 h.1.1)
 rejected_next o task (NotCanonical column) held before [] is h = absurd h
 rejected_next o task (NotCanonical column) held before (line ∷ rest) is h =
-    (line, rest, refl, subst (IsBadLineIn o task (NotCanonical column)) h.0 h.1.1)
+    (line, rest, refl, subst (IsRejectedLineIn o task (NotCanonical column)) h.0 h.1.1)
 
 -- a run that stopped at a rejected line
-stopped : (o : Options) (task : Task) (block : List ℕ) (after had holds reported reports : Option (List ℕ)) (fault : Error)
+stopped : (o : Options) (task : Task) (block : List ℕ) (after output_before output_after diagnostics_before diagnostics_after : Option (List ℕ)) (fault : Error)
     (number : ℕ) (held : List ℕ) → is_rejection fault ≡ true
-    → EndsAtIn o WritesBoth (IsStoppedAtIn o task Stop fault held) task Stop (Some block) after had holds reported reports number
+    → EndsAtIn o WritesBoth (IsStoppedAtIn o task Stop fault held) task Stop (Some block) after output_before output_after diagnostics_before diagnostics_after number
     → IsFirstRejected o task block number
-stopped o task block after had holds reported reports fault number held is h =
+stopped o task block after output_before output_after diagnostics_before diagnostics_after fault number held is h =
     let next = rejected_next o task fault held (length h.done) h.others is h.reason in
     record {
       before = h.done;
@@ -53,7 +53,7 @@ stopped o task block after had holds reported reports fault number held is h =
       counted = h.counted;
       accepted = record {
         output = h.output;
-        all_diagnostics = h.all_diagnostics;
+        all_diagnostics = h.diagnostics;
         refused = h.reaches.refused;
         outcomes = h.reaches.outcomes;
       };
@@ -61,18 +61,18 @@ stopped o task block after had holds reported reports fault number held is h =
     }
 
 -- a run that fails for a rejected line stopped at it
-pub first : (o : Options) (task : Task) (block : List ℕ) (after had holds reported reports : Option (List ℕ)) (fault : Error)
+pub first : (o : Options) (task : Task) (block : List ℕ) (after output_before output_after diagnostics_before diagnostics_after : Option (List ℕ)) (fault : Error)
     (number : ℕ) (held : List ℕ) → is_rejection fault ≡ true
-    → FailsAtIn o fault task Stop (Some block) after had holds reported reports number held
+    → FailsAtIn o fault task Stop (Some block) after output_before output_after diagnostics_before diagnostics_after number held
     → IsFirstRejected o task block number
-first o task block after had holds reported reports CannotRead number held is h = absurd cc
-first o task block after had holds reported reports CannotWrite number held is h = absurd cc
-first o task block after had holds reported reports OutOfMemory number held is h = absurd cc
-first o task block after had holds reported reports NotJson number held is h =
-    stopped o task block after had holds reported reports NotJson number held is h
-first o task block after had holds reported reports (NotExtendedJson place) number held is h =
-    stopped o task block after had holds reported reports (NotExtendedJson place) number held is h
-first o task block after had holds reported reports (NoBytes why) number held is h =
-    stopped o task block after had holds reported reports (NoBytes why) number held is h
-first o task block after had holds reported reports (NotCanonical column) number held is h =
-    stopped o task block after had holds reported reports (NotCanonical column) number held is h
+first o task block after output_before output_after diagnostics_before diagnostics_after CannotRead number held is h = absurd cc
+first o task block after output_before output_after diagnostics_before diagnostics_after CannotWrite number held is h = absurd cc
+first o task block after output_before output_after diagnostics_before diagnostics_after OutOfMemory number held is h = absurd cc
+first o task block after output_before output_after diagnostics_before diagnostics_after NotJson number held is h =
+    stopped o task block after output_before output_after diagnostics_before diagnostics_after NotJson number held is h
+first o task block after output_before output_after diagnostics_before diagnostics_after (NotExtendedJson place) number held is h =
+    stopped o task block after output_before output_after diagnostics_before diagnostics_after (NotExtendedJson place) number held is h
+first o task block after output_before output_after diagnostics_before diagnostics_after (NoBytes why) number held is h =
+    stopped o task block after output_before output_after diagnostics_before diagnostics_after (NoBytes why) number held is h
+first o task block after output_before output_after diagnostics_before diagnostics_after (NotCanonical column) number held is h =
+    stopped o task block after output_before output_after diagnostics_before diagnostics_after (NotCanonical column) number held is h

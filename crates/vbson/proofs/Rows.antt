@@ -6,10 +6,10 @@ use Rattle.bson_tree.specs.declared.place.Reason.TheVariants.{BadObjectId, Wrong
 use Rattle.bson.specs.Options.{default_options, mongodb_options}
 use Rattle.bson_convert.specs.declared.mode.Mode.TheVariants as mode
 use Rattle.bson_convert.specs.declared.error.Error.TheVariants as error
-use Rattle.bson_convert.specs.declared.no_bytes.NoBytes.TheVariants as without
+use Rattle.bson_convert.specs.declared.encode_error.NoBytes.TheVariants as without
 use Rattle.vbson.specs.Convert.{mode_of_number, options_of_flags, order_of, status_of_reason, status_of}
 use Rattle.bson_bytes.specs.declared.duplicate_keys.DuplicateKeys.TheVariants.{Replace, Refuse}
-use Rattle.bson_run.specs.declared.order.Preprocessing.TheVariants.{Distinct, Legacy, DistinctLegacy}
+use Rattle.bson_run.specs.declared.task.Preprocessing.TheVariants.{Distinct, Legacy, DistinctLegacy}
 use Rattle.vbson.specs.Documents.{depth}
 use Rattle.vbson.specs.Reading.{duplicate_keys_of, preprocessing_of}
 use Rattle.vbson.specs.Comparison.{comparison_status}

@@ -9,14 +9,14 @@ use Rattle.bson.specs.Doubles.TheVariants.{Special, Finite}
 use Rattle.bson.specs.TextMeaning.{IsNotJsonText, IsTextOf}
 use Rattle.bson.specs.declared.extjson.options.Options.{Options}
 use Rattle.bson_convert.specs.Convert.{newline}
-use Rattle.bson_run.specs.InOrder.{ConvertsBy, IsKeptBy}
+use Rattle.bson_run.specs.InOrder.{ConvertsBy, IsFixedPointBy}
 use Rattle.bson_convert.specs.declared.mode.Mode.{Mode}
 use Rattle.bson_convert.specs.declared.mode.Mode.TheVariants.{Canonical, Relaxed, Show}
 use Rattle.bson_convert.specs.declared.error.Error.{Error}
 use Rattle.bson_convert.specs.declared.error.Error.TheVariants.{CannotRead, NotJson, NotExtendedJson, NoBytes}
 use Rattle.bson_convert.specs.declared.error.Error.TheVariants.{CannotWrite, NotCanonical}
-use Rattle.bson_convert.specs.declared.no_bytes.NoBytes as without
-use Rattle.bson_convert.specs.declared.no_bytes.NoBytes.TheVariants.{NoDocument, ZeroInKey, ZeroInRegex, TooLong}
+use Rattle.bson_convert.specs.declared.encode_error.NoBytes as without
+use Rattle.bson_convert.specs.declared.encode_error.NoBytes.TheVariants.{NoDocument, ZeroInKey, ZeroInRegex, TooLong}
 use Rattle.vbson.specs.Text.{IsOwnedText}
 use Rattle.vbson.specs.declared.options.CallOptions.{CallOptions}
 use Rattle.bson.specs.declared.extjson.key_order.KeyOrder.{KeyOrder}
@@ -45,7 +45,7 @@ pub record IsConvertedBy (options : Options) (mode_number : ℕ) (input : List �
   pub text : List ℕ
   pub converts : ConvertsBy options.key_order options mode input (text ++ newline)
   pub utf8 : IsUtf8 (text ++ newline)
-  pub unchanged_by_conversion : IsKeptBy options.key_order options mode (text ++ newline)
+  pub unchanged_by_conversion : IsFixedPointBy options.key_order options mode (text ++ newline)
   pub is_text : IsOwnedText text out
 
 -- the fault is an invalid object id

@@ -6,13 +6,13 @@ use Rattle.bson.specs.declared.extjson.options.Options.{Options}
 use Rattle.bson_bytes.specs.Writing.{document_bytes, FitsDocument}
 use Rattle.bson_bytes.specs.declared.error.Error.{Error as PathError}
 use Rattle.bson_bytes.specs.declared.error.Error.TheVariants as sizes
-use Rattle.bson_convert.specs.Convert.{IsRefusedIn, newline}
-use Rattle.bson_convert.specs.Words.{words_of}
+use Rattle.bson_convert.specs.Convert.{IsRejectedIn, newline}
+use Rattle.bson_convert.specs.Messages.{words_of}
 use Rattle.bson_convert.specs.declared.error.Error.{Error}
 use Rattle.bson_convert.specs.declared.error.Error.TheVariants.{NotExtendedJson, OutOfMemory}
 use Rattle.bson_tree.specs.Place.{PathSegment, path_of}
-use Rattle.bson_run.specs.Place.{IsExplanation, column_at, line_at, words_at}
-use Rattle.bson_run.specs.Words.{words_broken}
+use Rattle.bson_run.specs.ErrorMessages.{IsExplanation, column_at, line_at, explanation_message}
+use Rattle.bson_run.specs.TaskNames.{rule_message}
 use Rattle.bson_run.specs.declared.explain.Explanation.{Explanation}
 use Rattle.bson_run.specs.declared.explain.Explanation.TheVariants.{Difference, Syntax, Other}
 use Rattle.bson_run.specs.declared.explain.Explanation.TheVariants as explained
@@ -60,7 +60,7 @@ explanation_path (Difference column) = []
 explanation_path Other = []
 
 abbrev pub explanation_reason : Explanation → List ℕ
-explanation_reason (Syntax stop) = words_broken stop.rule
+explanation_reason (Syntax stop) = rule_message stop.rule
 explanation_reason (explained.Value place reason) = string_bytes reason
 explanation_reason (Difference column) = []
 explanation_reason Other = []
@@ -79,8 +79,8 @@ pub record ReportsExplanation (text : List ℕ) (explanation : Explanation) (des
 pub record ExplainsError (text : List ℕ) (fault : Error) (out : Rejection) : Type 0 where
   pub explanation : Explanation
   pub is_explanation : IsExplanation text fault explanation
-  pub error_report : ReportsExplanation text explanation (words_of fault ++ words_at text explanation) out
-  pub utf8 : IsUtf8 (words_of fault ++ words_at text explanation)
+  pub error_report : ReportsExplanation text explanation (words_of fault ++ explanation_message text explanation) out
+  pub utf8 : IsUtf8 (words_of fault ++ explanation_message text explanation)
   pub reason_utf8 : IsUtf8 (explanation_reason explanation)
 
 -- ---- which text
@@ -88,7 +88,7 @@ pub record ExplainsError (text : List ℕ) (fault : Error) (out : Rejection) : T
 -- the text that the options read in the place of this one is rejected for the error, or preprocessing rejects this one
 abbrev pub IsRejectedFor : (options : CallOptions) (text read : List ℕ) → Error → Type 0
 IsRejectedFor options text read fault =
-    (IsReadAs (preprocessing_of options) text read × IsRefusedIn (options_of_flags options) fault read)
+    (IsReadAs (preprocessing_of options) text read × IsRejectedIn (options_of_flags options) fault read)
     ⊎ ((read ≡ text) × IsPreprocessingFault (preprocessing_of options) fault text)
 
 -- the text is rejected, and the error struct explains why
@@ -121,7 +121,7 @@ pub record IsTooLong (options : CallOptions) (text : List ℕ) : Type 0 where
 abbrev pub ExplainsWithoutPreprocessing : Options → List ℕ → Rejection → Type 0
 ExplainsWithoutPreprocessing options text out =
     (((value : Value) × HasTextMeaningIn options.doubles text value) × ReportsExplanation [] Other [] out)
-    ⊎ ((fault : Error) × IsRefusedIn options fault text × (fault ≢ OutOfMemory) × ExplainsError text fault out)
+    ⊎ ((fault : Error) × IsRejectedIn options fault text × (fault ≢ OutOfMemory) × ExplainsError text fault out)
 
 -- memory ran out, or the path to an error that rejects the text exceeds the limits of BSON
 abbrev pub IsUnexplained : PathError → (Error → Type 0) → Type 0

@@ -3,11 +3,11 @@ use Rattle.std.specs.Prelude.{◌≡◌, ◌+◌, ℕ, List, ◌∷◌, ◌++◌
 use Rattle.bson.specs.declared.extjson.options.Options.{Options}
 use Rattle.bson_convert.specs.declared.error.Error.{Error}
 use Rattle.bson_convert.specs.declared.error.Error.TheVariants.{CannotRead, CannotWrite, OutOfMemory}
-use Rattle.bson_run.specs.Lines.{GivesIn, IsBadLineIn, lines as lines_of, line_text}
+use Rattle.bson_run.specs.Lines.{HaveOutcomesIn, IsRejectedLineIn, lines as lines_of, line_text}
 use Rattle.bson_convert.specs.declared.mode.Mode.{Mode}
-use Rattle.bson_run.specs.declared.order.OnRefusal.TheVariants.{KeepGoing, Stop}
-use Rattle.bson_run.specs.declared.order.Task.{Task}
-use Rattle.bson_run.specs.declared.order.Task.TheVariants.{Write, Encode}
+use Rattle.bson_run.specs.declared.task.OnRefusal.TheVariants.{KeepGoing, Stop}
+use Rattle.bson_run.specs.declared.task.Task.{Task}
+use Rattle.bson_run.specs.declared.task.Task.TheVariants.{Write, Encode}
 use Rattle.vbson.specs.Convert.{mode_of_number}
 use Rattle.vbson.specs.Text.{IsOwnedText}
 use Rattle.vbson.specs.declared.lines.Lines.{Lines}
@@ -15,7 +15,7 @@ use Rattle.vbson.specs.declared.lines.Lines.{Lines}
 -- the task writes this output and these diagnostics for the lines of the block; these are the numbers of lines and of
 -- rejected lines
 pub record IsOutputOfLines (options : Options) (task : Task) (block output all_diagnostics : List ℕ) (count refused : ℕ) : Type 0 where
-  pub outcomes : GivesIn options task KeepGoing (lines_of block) output all_diagnostics refused
+  pub outcomes : HaveOutcomesIn options task KeepGoing (lines_of block) output all_diagnostics refused
   pub counted : count ≡ length (lines_of block)
 
 -- the struct has the output, the diagnostics and the counts of the task for the lines
@@ -43,7 +43,7 @@ pub record AreAccepted (options : Options) (task : Task) (all : List (List ℕ))
   pub output : List ℕ
   pub all_diagnostics : List ℕ
   pub refused : ℕ
-  pub outcomes : GivesIn options task Stop all output all_diagnostics refused
+  pub outcomes : HaveOutcomesIn options task Stop all output all_diagnostics refused
 
 -- the task accepts each line of the block
 abbrev pub EachLineIsAccepted : Options → Task → (block : List ℕ) → Type 0
@@ -58,7 +58,7 @@ pub record IsFirstRejected (options : Options) (task : Task) (block : List ℕ) 
   pub whole : lines_of block ≡ before ++ line ∷ others
   pub counted : number ≡ length before + 1
   pub accepted : AreAccepted options task before
-  pub rejected : IsBadLineIn options task fault (line_text (length before) line)
+  pub rejected : IsRejectedLineIn options task fault (line_text (length before) line)
 
 -- for private clauses: the fault is that of a rejected line
 abbrev pub is_rejection : Error → Bool

@@ -8,9 +8,9 @@ use Rattle.bson_model.specs.Value.{Value, Pairs, document}
 use Rattle.bson_tree.specs.declared.place.Place.{Place}
 use Rattle.bson.specs.declared.extjson.options.Options.{Options}
 use Rattle.bson_convert.specs.declared.error.Error.{Error}
-use Rattle.bson_run.specs.Preprocessed.{IsPreprocessedAs, IsRejectedBefore, IsNotPreprocessed}
-use Rattle.bson_run.specs.declared.order.Preprocessing.{Preprocessing}
-use Rattle.bson_run.specs.declared.order.Preprocessing.TheVariants.{Distinct, Legacy, DistinctLegacy}
+use Rattle.bson_run.specs.Preprocessed.{IsPreprocessedAs, IsRejectedByPreprocessing, IsPreprocessingError}
+use Rattle.bson_run.specs.declared.task.Preprocessing.{Preprocessing}
+use Rattle.bson_run.specs.declared.task.Preprocessing.TheVariants.{Distinct, Legacy, DistinctLegacy}
 use Rattle.vbson.specs.Convert.{IsInvalidExtendedJson, IsInvalidShape, IsBadObjectId, IsCauseOfStatus, options_of_flags}
 use Rattle.vbson.specs.Documents.{depth}
 use Rattle.vbson.specs.declared.options.CallOptions.{CallOptions}
@@ -32,7 +32,7 @@ IsReadAs (Some preprocessing) text read = IsPreprocessedAs preprocessing text re
 -- preprocessing rejects the text
 abbrev pub HasRejectedKey : Option Preprocessing → List ℕ → Type 0
 HasRejectedKey None text = ⊥
-HasRejectedKey (Some preprocessing) text = (place : Place) × IsRejectedBefore preprocessing place text
+HasRejectedKey (Some preprocessing) text = (place : Place) × IsRejectedByPreprocessing preprocessing place text
 
 -- under the options the text denotes the value
 pub record MeansUnder (options : CallOptions) (text : List ℕ) (value : Value) : Type 0 where
@@ -77,7 +77,7 @@ IsNotDocumentUnder options bytes = (value : Value) → IsDocumentUnder options b
 -- the cause of a fault of a text that preprocessing does not accept
 abbrev pub IsPreprocessingFault : Option Preprocessing → Error → List ℕ → Type 0
 IsPreprocessingFault None fault text = ⊥
-IsPreprocessingFault (Some preprocessing) fault text = IsNotPreprocessed preprocessing fault text
+IsPreprocessingFault (Some preprocessing) fault text = IsPreprocessingError preprocessing fault text
 
 -- the cause of each status that rejects bytes, without preprocessing
 pub record IsReadFailure (options : Options) (status : ℕ) (bytes : List ℕ) : Type 0 where

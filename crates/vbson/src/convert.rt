@@ -4,7 +4,7 @@ ghost use Rattle.serde_json.specs.Data.{Data};
 ghost use Rattle.bson.specs.declared.extjson.options.Options.{Options};
 ghost use Rattle.bson_model.specs.Means.{MeansIn};
 ghost use Rattle.bson_model.specs.Value as model;
-ghost use Rattle.bson_convert.specs.Convert.{IsRefusedIn, newline};
+ghost use Rattle.bson_convert.specs.Convert.{IsRejectedIn, newline};
 ghost use Rattle.bson.specs.TextMeaning.{IsNotJsonText, IsTextOf};
 ghost use Rattle.bson_convert.specs.declared.mode.Mode.{Mode};
 ghost use Rattle.vbson.specs.Convert.{IsInvalidExtendedJson, IsInvalidShape, IsBadObjectId, IsCauseOfStatus};
@@ -19,7 +19,7 @@ use crate::status;
 use crate::text::{Text, text_of_line};
 use bson_convert::error::Error;
 use bson_convert::mode::Mode;
-use bson_convert::no_bytes::NoBytes;
+use bson_convert::encode_error::NoBytes;
 use bson_run::convert::convert_text;
 use bson_tree::place::Reason;
 use std::alloc::Global;
@@ -81,8 +81,8 @@ pub(crate) fn mode_of(number: u32) -> Option<Mode>
 pub fn status_of(fault: Error) -> u32
     requires { IsTextError fault }
     ensures number { result ≡ status_of fault }
-    ensures cause { (options : Options) (bytes : List ℕ) → IsRefusedIn options fault bytes → IsCauseOfStatus options result bytes }
-    ensures possible_statuses { (options : Options) (bytes : List ℕ) → IsRefusedIn options fault bytes → result ≤ 5 }
+    ensures cause { (options : Options) (bytes : List ℕ) → IsRejectedIn options fault bytes → IsCauseOfStatus options result bytes }
+    ensures possible_statuses { (options : Options) (bytes : List ℕ) → IsRejectedIn options fault bytes → result ≤ 5 }
 {
     match fault {
         Error::NotJson => status::NOT_JSON,

@@ -1,8 +1,8 @@
 //! Explains why a text is rejected, and where.
 ghost use Rattle.std.specs.Prelude.{◌≡◌, ◌≢◌, ◌⊎◌, ◌↔◌, ◌<◌, ◌++◌, ℕ, List, [], length, map, IfOk, IfErr, IsUtf8};
 ghost use Rattle.bson.specs.Value.{Value};
-ghost use Rattle.bson_convert.specs.Convert.{IsRefusedIn, newline};
-ghost use Rattle.bson_convert.specs.Words.{words_of};
+ghost use Rattle.bson_convert.specs.Convert.{IsRejectedIn, newline};
+ghost use Rattle.bson_convert.specs.Messages.{words_of};
 ghost use Rattle.bson_tree.specs.Place.{segment_of};
 ghost use Rattle.vbson.specs.Explain.{AreFieldsOfExplanation, Explains, ExplainsWithoutPreprocessing, ExplainsError, PathIsTooLong, HasTooLongPath, IsRejectionWithFields, IsTooLong, IsUnexplained, ReportsExplanation};
 ghost use Rattle.vbson.specs.Explain.{explanation_code, explanation_column, explanation_line, explanation_offset, explanation_path, explanation_reason};
@@ -108,7 +108,7 @@ fn explain_without_preprocessing(
     text: &[u8],
 ) -> Result<Rejection<'static>, PathError>
     ensures error_report { IfOk result (λ out. ExplainsWithoutPreprocessing options text.now out) }
-    ensures too_long { IfErr result (λ error. IsUnexplained error (λ fault. IsRefusedIn options fault text.now)) }
+    ensures too_long { IfErr result (λ error. IsUnexplained error (λ fault. IsRejectedIn options fault text.now)) }
 {
     match convert_sorted(alloc, options, Mode::Canonical, text) {
         Ok(_) => accepted(alloc),

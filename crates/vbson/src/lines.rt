@@ -2,7 +2,7 @@
 ghost use Rattle.std.specs.Prelude.{◌≡◌, ◌⊎◌, ◌↔◌, ◌<◌, ◌++◌, List, ℕ, Some, IfSome};
 ghost use Rattle.bson_convert.specs.Convert.{newline};
 ghost use Rattle.bson_convert.specs.declared.mode.Mode.{Mode};
-ghost use Rattle.bson_run.specs.declared.order.Task.TheVariants.{Write, Encode};
+ghost use Rattle.bson_run.specs.declared.task.Task.TheVariants.{Write, Encode};
 ghost use Rattle.vbson.specs.Convert.{mode_of_number, options_of_flags};
 ghost use Rattle.vbson.specs.Lines.{AreConverted, AreEncoded, IsLinesResult, IsOutputOfLines};
 ghost use Rattle.vbson.specs.Lines.{EachLineIsAccepted, IsFirstRejected, is_rejection};
@@ -15,7 +15,7 @@ use crate::text::{Text, as_line, text_of_line};
 use bson::extjson::Options;
 use bson_convert::error::Error;
 use bson_run::lines::LineRun;
-use bson_run::order::{OnRefusal, Task};
+use bson_run::task::{OnRefusal, Task};
 use std::alloc::Global;
 use std::io::sink;
 

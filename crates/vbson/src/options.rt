@@ -6,7 +6,7 @@ ghost use Rattle.vbson.specs.Reading.{duplicate_keys_of, preprocessing_of};
 
 use bson::extjson::{Doubles, KeyOrder, Options};
 use bson_codec::de::DuplicateKeys;
-use bson_run::order::Preprocessing;
+use bson_run::task::Preprocessing;
 
 /// Finite doubles are read and written.
 pub const DOUBLES_FINITE: u32 = 1;

@@ -18,14 +18,14 @@ loop-documents-preserved g c =
     let number = c.loop-documents.documents + 1 in
     let before = g.W.Write.contents c.loop-documents.writer in
     let after = g.W.Write.contents c.write_or_skip.new.writer in
-    let reports = g.T.Write.contents c.loop-documents.report in
+    let diagnostics_after = g.T.Write.contents c.loop-documents.report in
     let after_tells = g.T.Write.contents c.write_or_skip.new.report in
-    let given = subst (λ (b : List ℕ). IsLineOrSkip c.in-Ok.passed c.args.run number c.loop-documents.start b before after reports after_tells)
+    let given = subst (λ (b : List ℕ). IsLineOrSkip c.in-Ok.passed c.args.run number c.loop-documents.start b before after diagnostics_after after_tells)
     c.as_slice-bytes.ensures.value c.in-Ok.ensures.ok in (
-      omega (arith, c.loop-documents.invariant.0, one_at_most c.in-Ok.passed c.args.run number c.loop-documents.start bytes before after reports after_tells given),
+      omega (arith, c.loop-documents.invariant.0, one_at_most c.in-Ok.passed c.args.run number c.loop-documents.start bytes before after diagnostics_after after_tells given),
       run_goes_on c.args.run (g.R.Read.remaining c.args.reader.now)
           (g.R.Read.remaining c.loop-documents.reader) (g.R.Read.remaining c.read_document_bytes.new.reader)
-          (g.W.Write.contents c.args.writer.now) before after (g.T.Write.contents c.args.report.now) reports after_tells
+          (g.W.Write.contents c.args.writer.now) before after (g.T.Write.contents c.args.report.now) diagnostics_after after_tells
           c.loop-documents.documents c.loop-documents.refused
           c.loop-documents.start c.in-Ok.passed c.in-Some.following bytes c.loop-documents.invariant.1
           c.in_default.ensures.bytes_read given
@@ -51,14 +51,14 @@ returns-in-Err-write_or_skip-clause-fails g c =
     let number = c.loop-documents.documents + 1 in
     let before = g.W.Write.contents c.loop-documents.writer in
     let after = g.W.Write.contents c.write_or_skip.new.writer in
-    let reports = g.T.Write.contents c.loop-documents.report in
+    let diagnostics_after = g.T.Write.contents c.loop-documents.report in
     let after_tells = g.T.Write.contents c.write_or_skip.new.report in
     run_ends_at c.args.run (g.R.Read.remaining c.args.reader.now) (g.R.Read.remaining c.loop-documents.reader)
     (g.R.Read.remaining c.read_document_bytes.new.reader) (g.W.Write.contents c.args.writer.now) before after
-    (g.T.Write.contents c.args.report.now) reports after_tells c.loop-documents.documents c.loop-documents.refused
+    (g.T.Write.contents c.args.report.now) diagnostics_after after_tells c.loop-documents.documents c.loop-documents.refused
     c.loop-documents.start number c.in-Err-write_or_skip.fault c.read_document_bytes.new.bytes.items c.loop-documents.invariant.1
     c.in_default.ensures.bytes_read refl (some_taken c.read_document_bytes.new.bytes.items _ (omega (arith, c.read_document_bytes.new.bytes.ok)) c.if-is_empty.ensures) c.in_default.ensures.front
-    (subst (λ (b : List ℕ). IsRunEnd c.in-Err-write_or_skip.fault c.args.run number c.loop-documents.start b before after reports after_tells)
+    (subst (λ (b : List ℕ). IsRunEnd c.in-Err-write_or_skip.fault c.args.run number c.loop-documents.start b before after diagnostics_after after_tells)
     c.as_slice-bytes.ensures.value c.in-Err-write_or_skip.ensures.fault)
 
 pub returns-in-Err-write_or_skip-clause-justified : goal.returns-in-Err-write_or_skip-clause-justified
@@ -66,14 +66,14 @@ returns-in-Err-write_or_skip-clause-justified g c =
     let number = c.loop-documents.documents + 1 in
     let before = g.W.Write.contents c.loop-documents.writer in
     let after = g.W.Write.contents c.write_or_skip.new.writer in
-    let reports = g.T.Write.contents c.loop-documents.report in
+    let diagnostics_after = g.T.Write.contents c.loop-documents.report in
     let after_tells = g.T.Write.contents c.write_or_skip.new.report in
     justified (run_ends_at c.args.run (g.R.Read.remaining c.args.reader.now) (g.R.Read.remaining c.loop-documents.reader)
     (g.R.Read.remaining c.read_document_bytes.new.reader) (g.W.Write.contents c.args.writer.now) before after
-    (g.T.Write.contents c.args.report.now) reports after_tells c.loop-documents.documents c.loop-documents.refused
+    (g.T.Write.contents c.args.report.now) diagnostics_after after_tells c.loop-documents.documents c.loop-documents.refused
     c.loop-documents.start number c.in-Err-write_or_skip.fault c.read_document_bytes.new.bytes.items c.loop-documents.invariant.1
     c.in_default.ensures.bytes_read refl (some_taken c.read_document_bytes.new.bytes.items _ (omega (arith, c.read_document_bytes.new.bytes.ok)) c.if-is_empty.ensures) c.in_default.ensures.front
-    (subst (λ (b : List ℕ). IsRunEnd c.in-Err-write_or_skip.fault c.args.run number c.loop-documents.start b before after reports after_tells)
+    (subst (λ (b : List ℕ). IsRunEnd c.in-Err-write_or_skip.fault c.args.run number c.loop-documents.start b before after diagnostics_after after_tells)
     c.as_slice-bytes.ensures.value c.in-Err-write_or_skip.ensures.fault))
 
 pub returns-clause-fails : goal.returns-clause-fails

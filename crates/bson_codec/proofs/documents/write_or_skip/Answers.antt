@@ -8,26 +8,26 @@ use Rattle.bson_codec.proofs.documents.write_or_skip.Goals.{in-Ok-report_skipped
 
 pub returns-in_default-clause-fault : goal.returns-in_default-clause-fault
 returns-in_default-clause-fault g c =
-    let had = g.W.Write.contents c.args.writer.now in
-    let holds = g.W.Write.contents c.write_whole.new.writer in
-    cut_line c.args.run c.args.number c.args.start c.args.bytes.now c.in-Ok.line.items had holds
+    let output_before = g.W.Write.contents c.args.writer.now in
+    let output_after = g.W.Write.contents c.write_whole.new.writer in
+    cut_line c.args.run c.args.number c.args.start c.args.bytes.now c.in-Ok.line.items output_before output_after
     (g.T.Write.contents c.args.report.now) c.in-Ok.ensures.ok
-    (subst (WritesBeginning had holds) c.as_slice.ensures.value c.in_default.ensures.cut)
+    (subst (WritesBeginning output_before output_after) c.as_slice.ensures.value c.in_default.ensures.cut)
 
 pub returns-then-may_skip-clause-fault : goal.returns-then-may_skip-clause-fault
 returns-then-may_skip-clause-fault g c =
-    let had = g.W.Write.contents c.args.writer.now in
-    let reported = g.T.Write.contents c.args.report.now in
-    let reports = g.T.Write.contents c.report_skipped.new.report in
+    let output_before = g.W.Write.contents c.args.writer.now in
+    let diagnostics_before = g.T.Write.contents c.args.report.now in
+    let diagnostics_after = g.T.Write.contents c.report_skipped.new.report in
     let bytes = c.args.bytes.now in
     elim c.match-report_skipped.branch [
       | in-Ok-report_skipped w ↦ subst
-          (λ (r : Result ℕ RunFault). IfErr r (λ e. IsRunEnd e c.args.run c.args.number c.args.start bytes had had reported reports))
+          (λ (r : Result ℕ RunFault). IfErr r (λ e. IsRunEnd e c.args.run c.args.number c.args.start bytes output_before output_before diagnostics_before diagnostics_after))
           (sym w.result-is) tt
       | in-Err-report_skipped w ↦ subst
-          (λ (r : Result ℕ RunFault). IfErr r (λ e. IsRunEnd e c.args.run c.args.number c.args.start bytes had had reported reports))
+          (λ (r : Result ℕ RunFault). IfErr r (λ e. IsRunEnd e c.args.run c.args.number c.args.start bytes output_before output_before diagnostics_before diagnostics_after))
           (sym w.result-is)
-          (untold w.in-Err-report_skipped.error c.args.run c.args.number c.args.start bytes c.in-Err.fault had reported reports
+          (untold w.in-Err-report_skipped.error c.args.run c.args.number c.args.start bytes c.in-Err.fault output_before diagnostics_before diagnostics_after
           (bad_bytes c.in-Err.fault c.args.run bytes (c.if-may_skip.ensures.0 refl).0 c.in-Err.ensures.fault)
           (c.if-run.true, (c.if-may_skip.ensures.0 refl).1) w.in-Err-report_skipped.ensures.fault)
     ]

@@ -5,6 +5,6 @@ use Rattle.bson_codec.proofs.run_end.with_place.Goals as goal
 
 pub returns : goal.returns
 returns c =
-    subst (λ words. IfOk c.format.result (λ reported. string_bytes reported ≡ codes "document " ++ decimal c.args.number
+    subst (λ words. IfOk c.format.result (λ diagnostics_before. string_bytes diagnostics_before ≡ codes "document " ++ decimal c.args.number
     ++ codes " at byte " ++ decimal c.args.start ++ codes ": " ++ words ++ c.args.place.now ++ newline))
     c.message-words.ensures (simp append_assoc c.format.ensures.ok)

@@ -33,8 +33,8 @@ pub returns-clause-back : goal.returns-clause-back
 returns-clause-back c = λ d nests.
     let ps = document_view c.args.document.now in
     let put = ap (put_document ps) (sym c.new-out.ensures.items) ∙ c.in_ok-put_document.ensures.put in
-    let reported = told_ok ps c.put_document.new.out.items put in
-    subst (λ (out : List ℕ). IsRead (suc d) out (as_read_back ps)) (sym reported.1) (written_read d ps reported.0 c.in_ok-put_document.ensures.typed nests)
+    let diagnostics_before = told_ok ps c.put_document.new.out.items put in
+    subst (λ (out : List ℕ). IsRead (suc d) out (as_read_back ps)) (sym diagnostics_before.1) (written_read d ps diagnostics_before.0 c.in_ok-put_document.ensures.typed nests)
 
 pub returns-clause-fits : goal.returns-clause-fits
 returns-clause-fits c =

@@ -2,7 +2,7 @@ use Rattle.std.proofs.Common.{subst, Result, Err}
 use Rattle.std.proofs.lemmas.Result.{err_from_is_err_and}
 use Rattle.bson_tokens.proofs.Offered.{if_ok}
 use Rattle.bson_convert.proofs.Normalized.{accepted}
-use Rattle.bson_convert.specs.Convert.{IsConvertedText, IsRefusedIn}
+use Rattle.bson_convert.specs.Convert.{IsConvertedText, IsRejectedIn}
 use Rattle.bson_convert.proofs.Converting.{text_converts}
 use Rattle.bson_convert.proofs.Twice.{kept_ok}
 use Rattle.bson_convert.specs.declared.error.Error.{Error}
@@ -32,7 +32,7 @@ returns-in_err-text-clause-accepts c = λ t v is means.
     let o = c.args.options in
     let bytes = c.args.bytes.items in
     let fault = c.in_err-text.field-0.0 in
-    let refused = subst (IsRefusedIn o fault) c.deref.ensures.value
+    let refused = subst (IsRejectedIn o fault) c.deref.ensures.value
     (c.in_err-text.ensures.fault c.deref.result.now c.in_ok-attempt.ensures.ok) in
     let result : Result (Unit {0}) Error = Err fault in
     rw (p.1, p.2) (accepted o bytes t v is means result refused)

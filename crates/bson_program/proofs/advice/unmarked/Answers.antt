@@ -4,9 +4,9 @@ use Rattle.bson_program.proofs.advice.unmarked.Goals as goal
 
 pub returns-then-starts_with : goal.returns-then-starts_with
 returns-then-starts_with c =
-    let bytes = c.args.head.now in
+    let bytes = c.args.first_bytes.now in
     part_of_part (take (length bytes - 3) (drop 3 bytes)) (drop 3 bytes) bytes (start_of (length bytes - 3) (drop 3 bytes))
     (end_of 3 bytes)
 
 pub returns-else-starts_with : goal.returns-else-starts_with
-returns-else-starts_with c = all_of c.args.head.now
+returns-else-starts_with c = all_of c.args.first_bytes.now

@@ -3,4 +3,4 @@ use Rattle.bson_program.proofs.Verdicts.{line_within}
 use Rattle.bson_program.proofs.hints.split_line.Goals as goal
 
 pub split_at-requires : goal.split_at-requires
-split_at-requires c = omega (arith, line_within c.args.head.now)
+split_at-requires c = omega (arith, line_within c.args.first_bytes.now)

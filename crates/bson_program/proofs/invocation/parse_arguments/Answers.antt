@@ -1,79 +1,79 @@
 use Rattle.std.proofs.Common.{◌≡◌, ◌∙◌, None, ap, arith, inr, length, map, string_bytes, subst, sym, take}
 use Rattle.std.proofs.lemmas.List.{length-map, take_all}
 use Rattle.std.specs.Option.{IfSome}
-use Rattle.bson_program.specs.Invocation.{none, AreGiven, IsWordAfter, IsMisuse}
-use Rattle.bson_program.specs.declared.arguments.Given.{Given}
+use Rattle.bson_program.specs.Invocation.{none, AreParsed, IsArgAfter, IsUsageError}
+use Rattle.bson_program.specs.declared.arguments.ArgsSoFar.{ArgsSoFar}
 use Rattle.bson_program.proofs.Asking.{answer, following, help_behind, more_given, refused_behind, still_there, version_there}
 use Rattle.bson_program.proofs.Asking.{word_there, IsThere}
 use Rattle.bson_program.proofs.invocation.parse_arguments.Goals as goal
 
 pub returns-in-Help : goal.returns-in-Help
 returns-in-Help c =
-    let words = map string_bytes c.args.words.items in
-    let there = following string_bytes c.args.words.items c.deref-word-items.result.now _ _ _ c.loop-word.given
-    c.deref-word-items.ensures.value (omega arith) c.word-item.is c.as_str.ensures.value c.loop-word.invariant.given in
-    help_behind words c.loop-word.given c.as_str.result.now c.in_ok-take.field-0 _ there c.in_ok-take.ensures.parsed c.in-Help.is
+    let args = map string_bytes c.args.args.items in
+    let there = following string_bytes c.args.args.items c.deref-arg-items.result.now _ _ _ c.loop-arg.args_so_far
+    c.deref-arg-items.ensures.value (omega arith) c.arg-item.is c.as_str.ensures.value c.loop-arg.invariant.args_so_far in
+    help_behind args c.loop-arg.args_so_far c.as_str.result.now c.in_ok-take.field-0 _ there c.in_ok-take.ensures.parsed c.in-Help.is
     c.command-command.ensures
 
 pub returns-in-Version : goal.returns-in-Version
 returns-in-Version c =
-    let words = map string_bytes c.args.words.items in
-    let there = word_there string_bytes c.args.words.items c.deref-word-items.result.now _ _ _
-    c.deref-word-items.ensures.value (omega arith) c.word-item.is c.as_str.ensures.value in
-    version_there words c.as_str.result.now c.loop-word.given c.in_ok-take.field-0 there c.in_ok-take.ensures.parsed c.in-Version.is
+    let args = map string_bytes c.args.args.items in
+    let there = word_there string_bytes c.args.args.items c.deref-arg-items.result.now _ _ _
+    c.deref-arg-items.ensures.value (omega arith) c.arg-item.is c.as_str.ensures.value in
+    version_there args c.as_str.result.now c.loop-arg.args_so_far c.in_ok-take.field-0 there c.in_ok-take.ensures.parsed c.in-Version.is
 
 pub returns-in-Wrong : goal.returns-in-Wrong
 returns-in-Wrong c =
-    let words = map string_bytes c.args.words.items in
-    let given = c.loop-word.given in
-    let there = following string_bytes c.args.words.items c.deref-word-items.result.now _ _ _ given
-    c.deref-word-items.ensures.value (omega arith) c.word-item.is c.as_str.ensures.value c.loop-word.invariant.given in
-    let same : string_bytes c.in_ok-word-in-Wrong.word ≡ c.as_str.result.now =
-    c.in_ok-word-in-Wrong.ensures.ok ∙ c.as_str-in-Wrong.ensures.value ∙ sym c.as_str.ensures.value in
-    let refused = refused_behind words given c.as_str.result.now c.in_ok-take.field-0 c.in-Wrong.misuse
+    let args = map string_bytes c.args.args.items in
+    let args_so_far = c.loop-arg.args_so_far in
+    let there = following string_bytes c.args.args.items c.deref-arg-items.result.now _ _ _ args_so_far
+    c.deref-arg-items.ensures.value (omega arith) c.arg-item.is c.as_str.ensures.value c.loop-arg.invariant.args_so_far in
+    let same : string_bytes c.in_ok-arg-in-Wrong.arg ≡ c.as_str.result.now =
+    c.in_ok-arg-in-Wrong.ensures.ok ∙ c.as_str-in-Wrong.ensures.value ∙ sym c.as_str.ensures.value in
+    let refused = refused_behind args args_so_far c.as_str.result.now c.in_ok-take.field-0 c.in-Wrong.usage_error
     c.in_ok-take.ensures.parsed c.in-Wrong.is in (
-      given,
+      args_so_far,
       c.command-command.ensures,
       inr (
-        subst (IsWordAfter words given) (sym same) there,
-        subst (λ word. IsMisuse given word c.in-Wrong.misuse) (sym same) refused,
+        subst (IsArgAfter args args_so_far) (sym same) there,
+        subst (λ arg. IsUsageError args_so_far arg c.in-Wrong.usage_error) (sym same) refused,
       ),
     )
 
-pub loop-word-preserved : goal.loop-word-preserved
-loop-word-preserved c =
-    let words = map string_bytes c.args.words.items in
-    let there = word_there string_bytes c.args.words.items c.deref-word-items.result.now _ _ _
-    c.deref-word-items.ensures.value (omega arith) c.word-item.is c.as_str.ensures.value in
+pub loop-arg-preserved : goal.loop-arg-preserved
+loop-arg-preserved c =
+    let args = map string_bytes c.args.args.items in
+    let there = word_there string_bytes c.args.args.items c.deref-arg-items.result.now _ _ _
+    c.deref-arg-items.ensures.value (omega arith) c.arg-item.is c.as_str.ensures.value in
     record {
-      given = more_given string_bytes c.args.words.items c.deref-word-items.result.now _ _ c.as_str.result.now
-          c.loop-word.given c.take.new.self c.deref-word-items.ensures.value (omega arith) c.word-item.is
-          c.as_str.ensures.value c.loop-word.invariant.given c.take.ensures.given;
-      verb = still_there words c.as_str.result.now c.loop-word.given.purpose c.take.new.self.purpose c.loop-word.given.task
-          c.take.new.self.task there c.loop-word.invariant.verb c.take.ensures.verb;
+      args_so_far = more_given string_bytes c.args.args.items c.deref-arg-items.result.now _ _ c.as_str.result.now
+          c.loop-arg.args_so_far c.take.new.self c.deref-arg-items.ensures.value (omega arith) c.arg-item.is
+          c.as_str.ensures.value c.loop-arg.invariant.args_so_far c.take.ensures.args_so_far;
+      named_task = still_there args c.as_str.result.now c.loop-arg.args_so_far.purpose c.take.new.self.purpose c.loop-arg.args_so_far.task
+          c.take.new.self.task there c.loop-arg.invariant.named_task c.take.ensures.named_task;
     }
 
-pub loop-word-init : goal.loop-word-init
-loop-word-init c =
-    let words = map string_bytes c.args.words.items in
-    let first = c.new-given.ensures.first in
-    let unnamed : c.new-given.result.task ≡ None = ap (λ (g : Given). g.task) first in
+pub loop-arg-init : goal.loop-arg-init
+loop-arg-init c =
+    let args = map string_bytes c.args.args.items in
+    let first = c.new-args_so_far.ensures.first in
+    let unnamed : c.new-args_so_far.result.task ≡ None = ap (λ (g : ArgsSoFar). g.task) first in
     record {
-      given = none c.new-given.result first c.new-given.ensures.inputs;
-      verb = subst (λ task. IfSome task (IsThere words c.new-given.result.purpose)) (sym unnamed) tt;
+      args_so_far = none c.new-args_so_far.result first c.new-args_so_far.ensures.inputs;
+      named_task = subst (λ task. IfSome task (IsThere args c.new-args_so_far.result.purpose)) (sym unnamed) tt;
     }
 
 pub returns : goal.returns
 returns c =
-    let words = c.args.words.items in
-    let whole : take c.loop-word.word-index (map string_bytes words) ≡ map string_bytes words =
-    take_all c.loop-word.word-index (map string_bytes words)
+    let args = c.args.args.items in
+    let whole : take c.loop-arg.arg-index (map string_bytes args) ≡ map string_bytes args =
+    take_all c.loop-arg.arg-index (map string_bytes args)
     (omega (
       arith,
-      length-map words string_bytes,
-      ap length c.deref-word-items.ensures.value,
-      c.loop-word-test.false,
+      length-map args string_bytes,
+      ap length c.deref-arg-items.ensures.value,
+      c.loop-arg-test.false,
     )) in
-    answer (map string_bytes words) c.loop-word.given c.answer.result
-    (subst (λ ws. AreGiven ws c.loop-word.given) whole c.loop-word.invariant.given) c.loop-word.invariant.verb
+    answer (map string_bytes args) c.loop-arg.args_so_far c.answer.result
+    (subst (λ ws. AreParsed ws c.loop-arg.args_so_far) whole c.loop-arg.invariant.args_so_far) c.loop-arg.invariant.named_task
     c.answer.ensures

@@ -1,10 +1,10 @@
 use Rattle.std.specs.Prelude.{IfSome, map, string_bytes, take}
-use Rattle.bson_program.specs.Invocation.{AreGiven}
+use Rattle.bson_program.specs.Invocation.{AreParsed}
 use Rattle.bson_program.proofs.Asking.{IsThere}
 use Rattle.bson_program.proofs.invocation.parse_arguments.Given as goal
 
-abbrev pub invariant-loop-word : goal.invariant-loop-word
-invariant-loop-word l = record {
-  given : AreGiven (take l.word-index (map string_bytes l.fn.words.items)) l.given;
-  verb : IfSome l.given.task (IsThere (map string_bytes l.fn.words.items) l.given.purpose);
+abbrev pub invariant-loop-arg : goal.invariant-loop-arg
+invariant-loop-arg l = record {
+  args_so_far : AreParsed (take l.arg-index (map string_bytes l.fn.args.items)) l.args_so_far;
+  named_task : IfSome l.args_so_far.task (IsThere (map string_bytes l.fn.args.items) l.args_so_far.purpose);
 }

@@ -5,6 +5,6 @@ use Rattle.bson_program.proofs.messages.push_named.Goals as goal
 
 pub returns-then-starts_with : goal.returns-then-starts_with
 returns-then-starts_with c =
-    named_behind c.extend_from_slice-then-starts_with.result c.args.named.now.items _ _ _ c.args.name.now c.args.verdict.now _
+    named_behind c.extend_from_slice-then-starts_with.result c.args.named.now.items _ _ _ c.args.name.now c.args.diagnostic.now _
     (c.in_ok-extend_from_slice.ensures.items ∙ ap (λ n. c.args.named.now.items ++ n) c.as_bytes.ensures.value) c.in_ok-push.ensures.items
-    c.extend_from_slice-then-starts_with.ensures.items (take_rest c.args.verdict.now 11) (sym c.starts_with.ensures.value ∙ c.if-starts_with.true)
+    c.extend_from_slice-then-starts_with.ensures.items (take_rest c.args.diagnostic.now 11) (sym c.starts_with.ensures.value ∙ c.if-starts_with.true)

@@ -2,7 +2,7 @@ use Rattle.std.proofs.Common.{Result, Err, subst}
 use Rattle.std.proofs.lemmas.Result.{err_from_is_err_and}
 use Rattle.std.specs.Prelude.{string_bytes}
 use Rattle.bson_convert.proofs.Offered.{accepted}
-use Rattle.bson_convert.specs.Convert.{IsRefusedIn}
+use Rattle.bson_convert.specs.Convert.{IsRejectedIn}
 use Rattle.bson_convert.specs.declared.error.Error.{Error}
 use Rattle.bson_tokens.proofs.Offered.{if_ok}
 use Rattle.bson_run.specs.InOrder.{IsConvertedTextInOrder}
@@ -14,7 +14,7 @@ returns-in_err-written-clause-accepts c = λ t v is means.
     let p = err_from_is_err_and c.from_residual.result c.from_residual.ensures.1 in
     let o = c.args.options in
     let fault = c.in_err-written.field-0.0 in
-    let refused = subst (IsRefusedIn o fault) c.as_str.ensures.value c.in_err-written.ensures.fault in
+    let refused = subst (IsRejectedIn o fault) c.as_str.ensures.value c.in_err-written.ensures.fault in
     let result : Result (Unit {0}) Error = Err fault in
     rw (p.1, p.2) (accepted o (string_bytes c.args.text) t v is means result refused)
 

@@ -3,7 +3,7 @@ use Rattle.std.proofs.lemmas.Result.{IfErr-weaker, IfOk-weaker}
 use Rattle.bson.specs.View.{bson_view}
 use Rattle.bson_model.specs.Value.{document}
 use Rattle.bson_run.proofs.EncodeLaws.{encoded, is_meant, unencoded, unread}
-use Rattle.bson_run.specs.Encode.{Encodes, IsBytesOf, IsUnencodedBy, IsUnencodedFor}
+use Rattle.bson_run.specs.Encode.{Encodes, IsBytesOf, IsEncodeErrorBy, IsEncodeErrorFor}
 use Rattle.bson_run.proofs.encode.encode_whole.Goals as goal
 
 pub returns-in-Ok-clause-ok : goal.returns-in-Ok-clause-ok
@@ -25,7 +25,7 @@ returns-in-Ok-clause-fault c =
     let o = c.args.options in
     let text = c.args.bytes.now in
     let value = bson_view c.in-Ok.value in
-    IfErr-weaker c.bytes_of.result (IsUnencodedFor (λ v. v ≡ value)) (λ fault. IsUnencodedBy o.key_order o fault text)
+    IfErr-weaker c.bytes_of.result (IsEncodeErrorFor (λ v. v ≡ value)) (λ fault. IsEncodeErrorBy o.key_order o fault text)
     (λ fault is. unencoded o.key_order o text value fault c.in-Ok.ensures.ok is) c.bytes_of.ensures.fault
 
 pub returns-in-Err-clause-accepts : goal.returns-in-Err-clause-accepts

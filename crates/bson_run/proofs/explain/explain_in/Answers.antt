@@ -1,5 +1,5 @@
 use Rattle.std.proofs.Common.{subst, sym}
-use Rattle.bson_run.specs.Place.{IsWhere}
+use Rattle.bson_run.specs.ErrorMessages.{IsPositionMessage}
 use Rattle.bson_run.proofs.Explaining.{where_from}
 use Rattle.bson_run.proofs.LinesLaws.{oks_with}
 use Rattle.bson_run.proofs.explain.explain_in.Goals as goal
@@ -10,4 +10,4 @@ returns c =
     let fault = c.args.fault.now in
     let found = c.in_ok-explanation_in.field-0 in
     oks_with c.message.result c.message.ensures
-    (λ words e. subst (IsWhere text fault) (sym e) (where_from text fault found c.in_ok-explanation_in.ensures))
+    (λ full_message e. subst (IsPositionMessage text fault) (sym e) (where_from text fault found c.in_ok-explanation_in.ensures))

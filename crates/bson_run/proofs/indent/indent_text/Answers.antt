@@ -6,11 +6,11 @@ use Rattle.bson_run.proofs.indent.indent_text.Goals as goal
 pub loop-token-preserved : goal.loop-token-preserved
 loop-token-preserved c =
     let (w, utf8) = c.loop-token.invariant in
-    let laid = c.in_ok-put.ensures.laid c.args.spaces w.indent w.at in (
+    let indented_text = c.in_ok-write_token.ensures.indented_text c.args.spaces w.indent w.at in (
       one_more c.args.spaces (tokens c.args.text.now) c.loop-token.reader c.next.new.self (token_of c.in-Some.token)
-          c.loop-token.layout c.put.new.self c.in-Some.ensures.value w laid,
-      utf8_more c.args.spaces w.indent c.loop-token.layout c.put.new.self (token_of c.in-Some.token) laid
-          c.in_ok-put.ensures.utf8 utf8,
+          c.loop-token.layout c.write_token.new.self c.in-Some.ensures.value w indented_text,
+      utf8_more c.args.spaces w.indent c.loop-token.layout c.write_token.new.self (token_of c.in-Some.token) indented_text
+          c.in_ok-write_token.ensures.utf8 utf8,
     )
 
 pub returns-clause-layout : goal.returns-clause-layout

@@ -1,7 +1,7 @@
 use Rattle.std.proofs.Common.{string_bytes, subst}
 use Rattle.std.specs.Prelude.{IfOk}
 use Rattle.bson_run.specs.InOrder.{IsConvertedTextBy}
-use Rattle.bson_run.specs.Indent.{IsLaidOut}
+use Rattle.bson_run.specs.Indent.{IsIndentedOutput}
 use Rattle.bson_run.proofs.LinesLaws.{oks_with}
 use Rattle.bson_run.proofs.TwiceIndented.{indented, indented_kept}
 use Rattle.bson_run.proofs.indented.convert_indented.Goals as goal
@@ -12,9 +12,9 @@ returns-clause-ok c =
     let bytes = c.args.bytes.now in
     let text = string_bytes c.in_ok-text.text in
     let is = subst (λ mode. IsConvertedTextBy o.key_order o mode bytes text) c.mode_of.ensures c.in_ok-text.ensures.ok in
-    oks_with c.lay_out.result c.lay_out.ensures.ok (λ output laid.
+    oks_with c.lay_out.result c.lay_out.ensures.ok (λ output indented_text.
     indented o.key_order o c.args.form c.args.spaces bytes text is output.items
-    (subst (λ s. IsLaidOut c.args.spaces s output.items) c.deref.ensures laid))
+    (subst (λ s. IsIndentedOutput c.args.spaces s output.items) c.deref.ensures indented_text))
 
 pub returns-clause-again : goal.returns-clause-again
 returns-clause-again c =
@@ -23,5 +23,5 @@ returns-clause-again c =
     let text = string_bytes c.in_ok-text.text in
     let is = subst (λ mode. IsConvertedTextBy o.key_order o mode bytes text) c.mode_of.ensures c.in_ok-text.ensures.ok in
     indented_kept o.key_order o c.args.form c.args.spaces bytes text is c.lay_out.result
-    (subst (λ s. IfOk c.lay_out.result (λ output. IsLaidOut c.args.spaces s output.items)) c.deref.ensures c.lay_out.ensures.ok)
+    (subst (λ s. IfOk c.lay_out.result (λ output. IsIndentedOutput c.args.spaces s output.items)) c.deref.ensures c.lay_out.ensures.ok)
     c.lay_out.ensures.utf8

@@ -7,21 +7,21 @@ pub returns-in_err-write_out-clause-fails : goal.returns-in_err-write_out-clause
 returns-in_err-write_out-clause-fails g c =
     let p = err_from_is_err_and c.from_residual.result c.from_residual.ensures.1 in
     let cut = c.in_err-write_out.ensures in
-    rw (p.1, p.2) (λ before given after had reported running consumed.
-    block_cut c.take-step.result c.in_err-write_out.field-0.0 c.args.block.now c.args.collected.now
-    c.take-step.new.self c.write_out.new.collected c.take-step.ensures.ok c.take-step.ensures.fault cut.fault cut.same
-    before given after had _ _ reported _ _ cut.cut running consumed)
+    rw (p.1, p.2) (λ before given after output_before diagnostics_before running consumed.
+    block_cut c.take-step.result c.in_err-write_out.field-0.0 c.args.block.now c.args.state.now
+    c.take-step.new.self c.write_out.new.state c.take-step.ensures.ok c.take-step.ensures.fault cut.fault cut.same
+    before given after output_before _ _ diagnostics_before _ _ cut.cut running consumed)
 
 pub returns-clause-ok : goal.returns-clause-ok
 returns-clause-ok g c =
     let out = c.in_ok-write_out.ensures in
-    oks c.take-step.result c.take-step.ensures.ok (λ takes before given after had reported running consumed.
-    block_done c.args.block.now c.args.collected.now c.take-step.new.self c.write_out.new.collected before given after had
-    _ _ reported _ _ takes out.ok out.written out.reports_appended running consumed)
+    oks c.take-step.result c.take-step.ensures.ok (λ takes before given after output_before diagnostics_before running consumed.
+    block_done c.args.block.now c.args.state.now c.take-step.new.self c.write_out.new.state before given after output_before
+    _ _ diagnostics_before _ _ takes out.ok out.written out.reports_appended running consumed)
 
 pub returns-clause-fails : goal.returns-clause-fails
 returns-clause-fails g c =
     let out = c.in_ok-write_out.ensures in
-    errs_alone c.take-step.result c.take-step.ensures.fault (λ e stops before given after had reported running consumed.
-    block_fails e c.args.block.now c.args.collected.now c.take-step.new.self c.write_out.new.collected before
-    given after had _ _ reported _ _ stops out.ok out.written out.reports_appended running consumed)
+    errs_alone c.take-step.result c.take-step.ensures.fault (λ e stops before given after output_before diagnostics_before running consumed.
+    block_fails e c.args.block.now c.args.state.now c.take-step.new.self c.write_out.new.state before
+    given after output_before _ _ diagnostics_before _ _ stops out.ok out.written out.reports_appended running consumed)

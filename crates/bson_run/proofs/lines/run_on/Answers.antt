@@ -8,12 +8,12 @@ use Rattle.bson_run.proofs.lines.run_on.Goals as goal
 pub loop-init : goal.loop-init
 loop-init g c = record {
   room = c.requires.room;
-  running = starts _ _ _ c.args.collected.now c.requires.start;
+  running = starts _ _ _ c.args.state.now c.requires.start;
 }
 
 pub returns-in_default-clause-fails : goal.returns-in_default-clause-fails
 returns-in_default-clause-fails g c =
-    unread _ _ _ _ _ _ _ c.loop.collected c.in_default.ensures.bytes c.loop.invariant.running
+    unread _ _ _ _ _ _ _ c.loop.state c.in_default.ensures.bytes c.loop.invariant.running
 
 pub returns-then-count-eq0-clause-done : goal.returns-then-count-eq0-clause-done
 returns-then-count-eq0-clause-done g c =
@@ -38,4 +38,4 @@ loop-preserved g c = record {
 
 pub returns-clause-fails : goal.returns-clause-fails
 returns-clause-fails g c =
-    unread _ _ _ _ _ _ _ c.loop.collected (Keeps-refl (g.R.Read.remaining c.loop.reader)) c.loop.invariant.running
+    unread _ _ _ _ _ _ _ c.loop.state (Keeps-refl (g.R.Read.remaining c.loop.reader)) c.loop.invariant.running

@@ -1,7 +1,7 @@
 use Rattle.std.specs.Prelude.{◌≡◌, string_bytes}
 use Rattle.std.specs.List.{flat_map}
-use Rattle.bson_run.specs.Place.{letter}
+use Rattle.bson_run.specs.ErrorMessages.{char_or_escape}
 use Rattle.bson_run.proofs.shorten.shorten.Given as goal
 
 abbrev pub invariant-loop-c : goal.invariant-loop-c
-invariant-loop-c l = string_bytes l.said ≡ flat_map (letter l.escapes) l.yielded
+invariant-loop-c l = string_bytes l.shortened ≡ flat_map (char_or_escape l.escapes) l.yielded

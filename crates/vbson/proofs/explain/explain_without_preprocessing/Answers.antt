@@ -2,7 +2,7 @@ use Rattle.std.proofs.Common.{rules, ◌≡◌, ◌≢◌, inl, inr, []}
 use Rattle.std.proofs.lemmas.Result.{IfErr-weaker, IfOk-weaker}
 use Rattle.bson_bytes.specs.declared.error.Error.{Error as PathError}
 use Rattle.bson_bytes.specs.declared.error.Error.TheVariants as sizes
-use Rattle.bson_convert.specs.Convert.{IsRefusedIn}
+use Rattle.bson_convert.specs.Convert.{IsRejectedIn}
 use Rattle.bson_convert.specs.declared.error.Error.TheVariants.{OutOfMemory}
 use Rattle.bson_run.specs.declared.explain.Explanation.TheVariants.{Other}
 use Rattle.vbson.specs.Explain.{ExplainsWithoutPreprocessing, ExplainsError, HasTooLongPath, IsUnexplained, ReportsExplanation}
@@ -22,7 +22,7 @@ returns-in-Ok-clause-too_long c =
     let o = c.args.options in
     let text = c.args.text.now in
     IfErr-weaker c.accepted.result (λ (e : PathError). e ≡ sizes.OutOfMemory)
-    (λ (e : PathError). IsUnexplained e (λ fault. IsRefusedIn o fault text)) (λ e is reported. absurd (reported is))
+    (λ (e : PathError). IsUnexplained e (λ fault. IsRejectedIn o fault text)) (λ e is reported. absurd (reported is))
     c.accepted.ensures.memory
 
 -- the arm before this one is that of running out of memory
@@ -43,5 +43,5 @@ returns-clause-too_long c =
     let text = c.args.text.now in
     let fault = c.in-Err.fault in
     IfErr-weaker c.rejected.result (λ (e : PathError). e ≢ sizes.OutOfMemory → HasTooLongPath fault)
-    (λ (e : PathError). IsUnexplained e (λ f. IsRefusedIn o f text))
+    (λ (e : PathError). IsUnexplained e (λ f. IsRejectedIn o f text))
     (λ e too_long some. (fault, c.in-Err.ensures.fault, too_long some)) c.rejected.ensures.too_long

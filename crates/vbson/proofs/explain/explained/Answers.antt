@@ -3,7 +3,7 @@ use Rattle.std.proofs.lemmas.Result.{IfErr-weaker, IfOk-weaker}
 use Rattle.std.specs.Prelude.{string_bytes}
 use Rattle.bson_bytes.specs.declared.error.Error.{Error as PathError}
 use Rattle.bson_bytes.specs.declared.error.Error.TheVariants as sizes
-use Rattle.bson_convert.specs.Convert.{IsRefusedIn}
+use Rattle.bson_convert.specs.Convert.{IsRejectedIn}
 use Rattle.bson_run.specs.Preprocessed.{preprocessed_of}
 use Rattle.vbson.proofs.Explained.{long_first, long_of_read, of_read, refused_first}
 use Rattle.vbson.specs.Explain.{Explains, ExplainsWithoutPreprocessing, ExplainsError, HasTooLongPath, IsTooLong, IsUnexplained}
@@ -45,10 +45,10 @@ returns-in-Ok-Some-clause-too_long c =
     let stands : IsReadAs (preprocessing_of options) text read =
     subst (λ q. IsReadAs q text read) c.preprocessing_of.ensures (subst (IsReadAs p text) (sym c.as_bytes.ensures.value) new_text) in
     IfErr-weaker c.explain_without_preprocessing.result
-    (λ (e : PathError). IsUnexplained e (λ fault. IsRefusedIn c.options_of.result fault read))
+    (λ (e : PathError). IsUnexplained e (λ fault. IsRejectedIn c.options_of.result fault read))
     (λ (e : PathError). e ≢ sizes.OutOfMemory → IsTooLong options text)
     (λ e h. long_of_read options text read e stands
-    (subst (λ o. IsUnexplained e (λ fault. IsRefusedIn o fault read)) c.options_of.ensures h))
+    (subst (λ o. IsUnexplained e (λ fault. IsRejectedIn o fault read)) c.options_of.ensures h))
     c.explain_without_preprocessing.ensures.too_long
 
 pub returns-in-Ok-None-clause-error_report : goal.returns-in-Ok-None-clause-error_report
@@ -81,10 +81,10 @@ returns-in-Ok-None-clause-too_long c =
     let stands : IsReadAs (preprocessing_of options) text text =
     subst (λ q. IsReadAs q text text) c.preprocessing_of.ensures itself in
     IfErr-weaker c.explain_without_preprocessing-in-Ok-None.result
-    (λ (e : PathError). IsUnexplained e (λ fault. IsRefusedIn c.options_of-in-Ok-None.result fault text))
+    (λ (e : PathError). IsUnexplained e (λ fault. IsRejectedIn c.options_of-in-Ok-None.result fault text))
     (λ (e : PathError). e ≢ sizes.OutOfMemory → IsTooLong options text)
     (λ e h. long_of_read options text text e stands
-    (subst (λ o. IsUnexplained e (λ fault. IsRefusedIn o fault text)) c.options_of-in-Ok-None.ensures h))
+    (subst (λ o. IsUnexplained e (λ fault. IsRejectedIn o fault text)) c.options_of-in-Ok-None.ensures h))
     c.explain_without_preprocessing-in-Ok-None.ensures.too_long
 
 -- the arm before this one is that of running out of memory

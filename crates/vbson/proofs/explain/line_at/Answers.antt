@@ -1,7 +1,7 @@
 use Rattle.std.proofs.Common.{◌≡◌, ◌++◌, ◌∙◌, IsUtf8, ap, rules, string_bytes, subst}
 use Rattle.std.proofs.lemmas.Str.{IsUtf8-string_bytes}
 use Rattle.bson_convert.specs.Convert.{newline}
-use Rattle.bson_convert.specs.Words.{words_of}
+use Rattle.bson_convert.specs.Messages.{words_of}
 use Rattle.vbson.proofs.Utf8.{before_newline}
 use Rattle.vbson.proofs.explain.line_at.Goals as goal
 

@@ -14,7 +14,7 @@ returns-clause-written c =
     let new = c.put_text.new.out.items in
     let name = c.in_ok-put_name.ensures.put in
     let begins = c.in_ok-start.ensures.written in
-    let reported = rw c.in_ok-map_err.was at (turned {P = (put_text s mark ≡ Ok new) × (length mark ≤ length new)}
+    let diagnostics_before = rw c.in_ok-map_err.was at (turned {P = (put_text s mark ≡ Ok new) × (length mark ≤ length new)}
     c.put_text.result c.map_err.result new (put_text s mark) c.map_err.ensures.variant c.put_text.ensures.put
     c.put_text.ensures.grows (λ put grows. (put, grows))) in
     let here = room c.in_ok-start.start named mark begins in
@@ -22,7 +22,7 @@ returns-clause-written c =
     let is = ap length name in (
       is_utf8-from_IsUtf8 s c.utf8.code,
       begins.0 ∙ is,
-      subst (λ b. put_text s b ≡ Ok new) (begins.1 ∙ ap put_length_placeholder name) reported.0,
-      omega (arith, here, begins.0, longer, is, reported.1),
-      omega (arith, here, reported.1),
+      subst (λ b. put_text s b ≡ Ok new) (begins.1 ∙ ap put_length_placeholder name) diagnostics_before.0,
+      omega (arith, here, begins.0, longer, is, diagnostics_before.1),
+      omega (arith, here, diagnostics_before.1),
     )

@@ -1,0 +1,172 @@
+//! A text that is written as another is read, and why one means nothing.
+//!
+//! If a text cannot be written as it is read, it is normalized: each object has each key once, in
+//! ascending order. The normalized text has the same tree. One walk over it finds the first fault. If
+//! there is none, the normalized text is written as it is read.
+ghost use Rattle.std.specs.Prelude.{◌≡◌, IfOk, IfErr, IsUtf8, OnOk, ℕ, List, string_bytes};
+ghost use Rattle.serde_json.specs.Read.{read};
+ghost use Rattle.bson_tokens.specs.Normalized.{IsNormalizedText};
+ghost use Rattle.bson_tokens.specs.ReadOutcomes.{InvalidIfNotRead};
+ghost use Rattle.bson_convert.specs.Convert.{IsAccepted, IsConvertedText, IsRejectedIn, IsAttemptResult, IsUtf8Attempt};
+ghost use Rattle.bson.specs.declared.extjson.options.Options.{Options};
+
+use crate::error::Error;
+use crate::mode::Mode;
+use bson::extjson::{Form, Options};
+use bson_text::first_fault::{first_fault_in, first_fault_of_normalized};
+use bson_text::filter::{show_text, sort_text};
+use bson_text::traversal_error::TraversalError;
+use bson_tokens::arrangement::Arrangement;
+use bson_tokens::normalize::normalize_text;
+use json::Scratch;
+use std::alloc::{AllocError, Global};
+
+/// The result of reading bytes once.
+///
+/// ```
+/// let options = Options::default();
+/// let bytes = br#"{"a": 1.5, "a": 7}"#.as_slice();
+/// if let Ok(Attempt::Normalized(text)) = try_text(alloc, options, Mode::Relaxed, bytes) {
+///     println!(rt; "{text}")?; // {"a":7}
+/// }
+/// ```
+#[derive(Drop)]
+pub enum Attempt {
+    /// The text that the mode asks for.
+    Written(Vec<u8>),
+    /// The text of the same tree that is to be read in its place. The tree has a meaning.
+    Normalized(String),
+}
+
+/// Writes the text of the value that the bytes mean, as the mode says, while they are read. If the
+/// text cannot be written so, the normalized text of the bytes is returned, unless it has a fault.
+///
+/// # Errors
+///
+/// - `NotJson`: the bytes are not UTF-8, or `serde_json` reads no tree from them.
+/// - `NotExtendedJson`: the tree has no meaning. It has the tree's first fault.
+/// - `OutOfMemory`: an allocation failed.
+pub fn try_text(alloc: Global, options: Options, mode: Mode, bytes: &[u8]) -> Result<Attempt, Error>
+    ensures ok { IfOk result (λ attempt. IsAttemptResult options mode bytes.now attempt) }
+    ensures utf8 { IfOk result IsUtf8Attempt }
+    ensures fault { IfErr result (λ fault. IsRejectedIn options fault bytes.now) }
+{
+    try_line(alloc, options, mode, bytes, &mut Scratch::new(alloc))
+}
+
+/// [`try_text`] with the memory of a run.
+pub(crate) fn try_line(
+    alloc: Global,
+    options: Options,
+    mode: Mode,
+    bytes: &[u8],
+    scratch: &mut Scratch,
+) -> Result<Attempt, Error>
+    ensures ok { IfOk result (λ attempt. IsAttemptResult options mode bytes.now attempt) }
+    ensures utf8 { IfOk result IsUtf8Attempt }
+    ensures fault { IfErr result (λ fault. IsRejectedIn options fault bytes.now) }
+{
+    let Ok(text) = simdutf8::compat::from_utf8(bytes) else {
+        return Err(Error::NotJson);
+    };
+    match stream_text(alloc, options, mode, text, scratch) {
+        Ok(written) => Ok(Attempt::Written(written)),
+        Err(TraversalError::OutOfMemory) => Err(Error::OutOfMemory),
+        Err(_) => Ok(Attempt::Normalized(normalize_faultless(alloc, options, text)?)),
+    }
+}
+
+/// The text that the mode asks for of an normalized text that has a meaning.
+pub(crate) fn read_normalized(
+    alloc: Global,
+    options: Options,
+    mode: Mode,
+    normalized: &str,
+) -> Result<Vec<u8>, Error>
+    ensures ok { IfOk result (λ text. IsConvertedText options mode normalized.now text.items) }
+    ensures utf8 { IfOk result (λ text. IsUtf8 text.items) }
+    ensures fault { IfErr result (λ fault. fault ≡ Error.OutOfMemory) }
+{
+    match stream_text(alloc, options, mode, normalized, &mut Scratch::new(alloc)) {
+        Ok(written) => Ok(written),
+        // Only memory: the keys ascend and have a meaning.
+        Err(_) => Err(Error::OutOfMemory),
+    }
+}
+
+// The text that the mode asks for of the value that the text means.
+fn stream_text(
+    alloc: Global,
+    options: Options,
+    mode: Mode,
+    text: &str,
+    scratch: &mut Scratch,
+) -> Result<Vec<u8>, TraversalError>
+    ensures ok { IfOk result (λ written. IsConvertedText options mode text.now written.items) }
+    ensures utf8 { IfOk result (λ written. IsUtf8 written.items) }
+{
+    match mode {
+        Mode::Canonical => sort_text(alloc, options.doubles, Form::Canonical, text, scratch),
+        Mode::Relaxed => sort_text(alloc, options.doubles, Form::Relaxed, text, scratch),
+        Mode::Show => show_text(alloc, options.doubles, text, scratch),
+    }
+}
+
+/// Returns the JSON text of the text's tree with each key once in its object.
+///
+/// # Errors
+///
+/// - `NotJson`: `serde_json` reads no tree from the text.
+/// - `OutOfMemory`: an allocation failed.
+pub fn normalize(alloc: Global, arrangement: Arrangement, text: &str) -> Result<String, Error>
+    ensures ok { IfOk result (λ normalized. IsNormalizedText arrangement text.now (string_bytes normalized)) }
+    ensures same { IfOk result (λ normalized. read (string_bytes normalized) ≡ read text.now) }
+    ensures fault { (options : Options) → IfErr result (λ fault. IsRejectedIn options fault text.now) }
+{
+    match normalize_text(alloc, arrangement, text) {
+        Ok(normalized) => Ok(normalized),
+        Err(error) => Err(no_tree(error)),
+    }
+}
+
+// The normalized text by ascending keys of a text that has a meaning.
+fn normalize_faultless(alloc: Global, options: Options, text: &str) -> Result<String, Error>
+    ensures ok { IfOk result (λ normalized. IsAccepted options (string_bytes normalized)) }
+    ensures same { IfOk result (λ normalized. read (string_bytes normalized) ≡ read text.now) }
+    ensures fault { IfErr result (λ fault. IsRejectedIn options fault text.now) }
+{
+    let normalized = normalize(alloc, Arrangement::Ascending, text)?;
+    match first_fault_of_normalized(alloc, options.doubles, normalized.as_str()) {
+        Ok(None) => Ok(normalized),
+        Ok(Some(place)) => Err(Error::NotExtendedJson(place)),
+        Err(AllocError) => Err(Error::OutOfMemory),
+    }
+}
+
+/// Checks that a text is JSON and has a meaning. No value is made.
+///
+/// # Errors
+///
+/// - `NotJson`: `serde_json` reads no tree from the text.
+/// - `NotExtendedJson`: the tree has no meaning. It has the tree's first fault.
+/// - `OutOfMemory`: an allocation failed.
+pub fn refuse(alloc: Global, options: Options, text: &str) -> Result<(), Error>
+    ensures ok { OnOk result (IsAccepted options text.now) }
+    ensures fault { IfErr result (λ fault. IsRejectedIn options fault text.now) }
+{
+    match first_fault_in(alloc, options.doubles, text) {
+        Ok(None) => Ok(()),
+        Ok(Some(place)) => Err(Error::NotExtendedJson(place)),
+        Err(error) => Err(no_tree(error)),
+    }
+}
+
+// The fault of a text of which no tree was read.
+fn no_tree(error: json::Error) -> Error
+    ensures { (options : Options) (bytes : List ℕ) → InvalidIfNotRead (read bytes) error → IsRejectedIn options result bytes }
+{
+    match error {
+        json::Error::Invalid => Error::NotJson,
+        _ => Error::OutOfMemory,
+    }
+}

@@ -1,0 +1,18 @@
+use Rattle.std.proofs.Common.{ap, refl, sym, ◌∙◌}
+use Rattle.bson_program.specs.Hints.{hint_line}
+use Rattle.bson_program.proofs.rejection_hint.rejection_help.Goals as goal
+
+pub returns-in-Ok-hint_line : goal.returns-in-Ok-hint_line
+returns-in-Ok-hint_line c = (
+  record {
+    input = c.args.invocation.now.input;
+    encodes = c.writes_bytes.result;
+    is_standard = c.eq.result;
+    advice = c.args.advice;
+  },
+  c.in_ok-hint.hint,
+  refl,
+  refl,
+  sym c.in_ok-hint.ensures,
+  c.in-Ok-hint_line.ensures ∙ ap (hint_line c.args.name.now c.in_ok-hint.hint) (c.as_str.ensures.value ∙ c.in-Ok.ensures),
+)

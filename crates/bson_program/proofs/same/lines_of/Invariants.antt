@@ -1,9 +1,0 @@
-use Rattle.std.specs.Prelude.{◌≡◌, ◌++◌, length, map}
-use Rattle.bson_program.specs.Messages.{spans}
-use Rattle.bson_program.proofs.same.lines_of.Given as goal
-
-abbrev pub invariant-loop-rest : goal.invariant-loop-rest
-invariant-loop-rest l = map (λ line. line.now) l.lines.items ++ spans l.rest ≡ spans l.output
-
-abbrev pub decreases-loop-rest : goal.decreases-loop-rest
-decreases-loop-rest l = length l.rest

@@ -1,0 +1,56 @@
+-- Which writer stops a run over files, the settings of a run over documents, and the path of an output.
+use Rattle.std.specs.Prelude.{◌≡◌, ◌≢◌, ◌++◌, ℕ, List, Option, None, Some, codes, string_bytes, MatchOption, String, true}
+use Rattle.std.specs.Fmt.{decimal}
+use Rattle.std.specs.declared.alloc.Global.{Global}
+use Rattle.std.specs.declared.io.Error.{Error}
+use Rattle.bson_codec.specs.declared.documents.Line as documents
+use Rattle.bson_codec.specs.declared.documents.Line.TheVariants as line
+use Rattle.bson.specs.Form.TheVariants as forms
+use Rattle.bson_convert.specs.declared.mode.Mode.TheVariants.{Canonical, Relaxed, Show}
+use Rattle.bson_run.specs.declared.task.Task.{Task}
+use Rattle.bson_run.specs.declared.task.Task.TheVariants as task
+use Rattle.bson_program.specs.Messages.{with_file_names, message_prefix, is_standard}
+use Rattle.bson_program.specs.declared.invocation.Input as invocation
+use Rattle.bson_program.specs.declared.invocation.Input.TheVariants.{Documents}
+use Rattle.bson_program.specs.declared.invocation.Invocation.{Invocation}
+use Rattle.bson_program.specs.declared.output.Part.{Part}
+use Rattle.bson_program.specs.declared.run.RunFailure.{RunFailure}
+use Rattle.bson_program.specs.declared.run.RunFailure.TheVariants.{Input, Output}
+
+-- the file of this name can't be read
+abbrev pub IsReadFailure : (name : List ℕ) → RunFailure → Type 0
+IsReadFailure name (Input it error) = it.now ≡ name
+IsReadFailure name failure = ⊥
+
+-- ---- writers
+
+-- the writer that failed: that of diagnostics, if the cause of its failure is kept, or else the output
+abbrev pub IsWriterFailure : Invocation → (diagnostics_error output_error : Option Error) → RunFailure → Type 0
+IsWriterFailure invocation diagnostics_error output_error (Output name error) = MatchOption diagnostics_error
+    ((name.now ≡ string_bytes invocation.output) × (error ≡ output_error)) (λ cause. (name.now ≡ codes "-") × (error ≡ Some cause))
+IsWriterFailure invocation diagnostics_error output_error failure = ⊥
+
+-- the name before diagnostics: that of their file, or for documents of standard input that of the program
+abbrev pub IsDiagnosticsPrefix : invocation.Input → (name : List ℕ) → Option (String Global) → Type 0
+IsDiagnosticsPrefix input name None = (is_standard name ≡ true) × (input ≢ Documents)
+IsDiagnosticsPrefix input name (Some title) = (string_bytes title ≡ message_prefix name) × (is_standard name ≡ true → input ≡ Documents)
+
+-- the diagnostics for a file of this name
+abbrev pub diagnostics_of_file : Option (String Global) → (diagnostics : List ℕ) → List ℕ
+diagnostics_of_file None diagnostics = diagnostics
+diagnostics_of_file (Some name) diagnostics = with_file_names (string_bytes name) diagnostics
+
+-- ---- documents
+
+-- the line for each document: its text in the mode, the text of Display, or nothing
+abbrev pub document_line : Task → documents.Line
+document_line (task.Write Canonical) = line.Text forms.Canonical
+document_line (task.Write Relaxed) = line.Text forms.Relaxed
+document_line (task.Write Show) = line.Shown
+document_line other = line.Nothing
+
+-- ---- files
+
+-- the part has the path of the file that it replaces, and a number
+abbrev pub IsNumberedPart : Part → Type 0
+IsNumberedPart part = (n : ℕ) × (string_bytes part.path ≡ string_bytes part.file ++ codes "." ++ decimal n ++ codes ".part")

@@ -1,0 +1,159 @@
+//! The output of one text, on any number of lines.
+ghost use Rattle.std.specs.Prelude.{◌≡◌, ◌≢◌, ◌⊎◌, IfOk, IfErr, IfSome, None, OnOk, string_bytes};
+ghost use Rattle.bson_convert.specs.Convert.{IsRejectedIn};
+ghost use Rattle.bson_run.specs.Accepted.{HasOutput, IsUtf8Accepted};
+ghost use Rattle.bson_run.specs.Indent.{mode_of};
+ghost use Rattle.bson_run.specs.Lines.{ChecksIn, WritesText};
+ghost use Rattle.bson_program.specs.SingleText.{ChecksText, WritesOutput, IsCheckFailure, IsTextRejected, WritesIndented};
+ghost use Rattle.bson_program.specs.SingleText.{WritesPreprocessed, checked_part, without_newline};
+
+use crate::invocation::Invocation;
+use bson::extjson::{Form, Options};
+use bson_convert::canonical::check_canonical;
+use bson_convert::convert::convert_sorted;
+use bson_convert::conversion_attempt::refuse;
+use bson_convert::error::Error;
+use bson_convert::mode::Mode;
+use bson_run::accepted::Accepted;
+use bson_run::encode::encode;
+use bson_run::indented::convert_indented;
+use bson_run::task::{Criterion, Task, InnerTask};
+use bson_run::preprocessed::preprocess_text;
+use std::alloc::Global;
+
+/// From so many bytes on the memory of a text counts for more than a walk over it.
+const LARGE_TEXT: usize = 1 << 24;
+
+/// Returns what one text gives.
+pub fn accept(alloc: Global, invocation: &Invocation, bytes: &[u8]) -> Result<Accepted, Error>
+    ensures ok { IfOk result (HasOutput invocation.now.options (WritesOutput invocation.now invocation.now.task bytes.now)) }
+    ensures utf8 { WritesText invocation.now.task → IfOk result IsUtf8Accepted }
+    ensures fault { IfErr result (λ fault. IsTextRejected invocation.now.options invocation.now.task fault bytes.now) }
+{
+    match invocation.task {
+        Task::Write(mode) => accept_text(alloc, invocation, mode, bytes),
+        Task::Check(criterion) => check(alloc, invocation, criterion, bytes),
+        Task::Encode => Ok(Accepted::Output(encode(alloc, invocation.options, bytes)?)),
+        Task::Preprocessed(preprocessing, inner_task) => match preprocess_text(
+            alloc,
+            preprocessing,
+            bytes,
+        )? {
+            Some(upgraded) => accept_upgraded(alloc, invocation, inner_task, upgraded),
+            None => accept_preprocessed(alloc, invocation, inner_task, bytes),
+        },
+    }
+}
+
+// Returns the output of the newer text. A long one is checked for its error before it is written, so that of
+// the two texts it alone is in memory next to the output.
+fn accept_upgraded(
+    alloc: Global,
+    invocation: &Invocation,
+    inner_task: InnerTask,
+    upgraded: String,
+) -> Result<Accepted, Error>
+    ensures ok { IfOk result (HasOutput invocation.now.options (WritesPreprocessed invocation.now inner_task (string_bytes upgraded))) }
+    ensures utf8 { IfOk result IsUtf8Accepted }
+    ensures fault { IfErr result (λ fault. IsRejectedIn invocation.now.options fault (string_bytes upgraded)) }
+{
+    if upgraded.len() < LARGE_TEXT || invocation.indent.is_some() {
+        return accept_preprocessed(alloc, invocation, inner_task, upgraded.as_bytes());
+    }
+    refuse(alloc, invocation.options, upgraded.as_str())?;
+    match inner_task {
+        InnerTask::Write(mode) => Ok(Accepted::Normalized(mode, upgraded)),
+        InnerTask::Check => check(alloc, invocation, Criterion::Valid, upgraded.as_bytes()),
+    }
+}
+
+// Returns the output of a text that was preprocessed.
+fn accept_preprocessed(
+    alloc: Global,
+    invocation: &Invocation,
+    inner_task: InnerTask,
+    bytes: &[u8],
+) -> Result<Accepted, Error>
+    ensures ok { IfOk result (HasOutput invocation.now.options (WritesPreprocessed invocation.now inner_task bytes.now)) }
+    ensures utf8 { IfOk result IsUtf8Accepted }
+    ensures fault { IfErr result (λ fault. IsRejectedIn invocation.now.options fault bytes.now) }
+{
+    match inner_task {
+        InnerTask::Write(mode) => accept_text(alloc, invocation, mode, bytes),
+        InnerTask::Check => check(alloc, invocation, Criterion::Valid, bytes),
+    }
+}
+
+// The output in the mode, over several lines where that is asked for.
+fn accept_text(
+    alloc: Global,
+    invocation: &Invocation,
+    mode: Mode,
+    bytes: &[u8],
+) -> Result<Accepted, Error>
+    ensures ok { IfOk result (HasOutput invocation.now.options (WritesIndented invocation.now.options invocation.now.indent mode bytes.now)) }
+    ensures utf8 { IfOk result IsUtf8Accepted }
+    ensures fault { IfErr result (λ fault. IsRejectedIn invocation.now.options fault bytes.now) }
+{
+    let options = invocation.options;
+    match layout(invocation, mode) {
+        Some((form, spaces)) => {
+            Ok(Accepted::Output(convert_indented(alloc, options, form, spaces, bytes)?))
+        }
+        None => Accepted::of(alloc, options, mode, bytes),
+    }
+}
+
+// Nothing, of a text that the criterion accepts.
+fn check(
+    alloc: Global,
+    invocation: &Invocation,
+    criterion: Criterion,
+    bytes: &[u8],
+) -> Result<Accepted, Error>
+    ensures ok { IfOk result (HasOutput invocation.now.options (ChecksText invocation.now.options criterion bytes.now)) }
+    ensures utf8 { IfOk result IsUtf8Accepted }
+    ensures fault { IfErr result (λ fault. IsCheckFailure invocation.now.options criterion fault bytes.now) }
+{
+    check_criterion(alloc, invocation.options, criterion, bytes)?;
+    Ok(Accepted::Output(Vec::new(alloc)))
+}
+
+// Judges a text by a criterion. A canonical text may have a newline at its end.
+fn check_criterion(alloc: Global, options: Options, criterion: Criterion, bytes: &[u8]) -> Result<(), Error>
+    ensures ok { OnOk result (ChecksIn options criterion (checked_part criterion bytes.now)) }
+    ensures fault { IfErr result (λ fault. IsCheckFailure options criterion fault bytes.now) }
+{
+    match criterion {
+        Criterion::Valid => {
+            convert_sorted(alloc, options, Mode::Canonical, bytes)?;
+            Ok(())
+        }
+        Criterion::Canonical => check_canonical(alloc, options, strip_newline(bytes)),
+    }
+}
+
+// The bytes before a newline at their end.
+fn strip_newline(bytes: &[u8]) -> &[u8]
+    ensures { result.now ≡ without_newline bytes.now }
+{
+    if bytes.ends_with(b"\n") {
+        &bytes[..bytes.len() - 1]
+    } else {
+        bytes
+    }
+}
+
+// Returns the form that is written over several lines, and the number of spaces.
+fn layout(invocation: &Invocation, mode: Mode) -> Option<(Form, usize)>
+    ensures some { IfSome result (λ laid. (mode ≡ mode_of laid.0) × (mode ≢ Mode.Show)
+        × (invocation.now.indent ≡ Some laid.1)) }
+    ensures none { result ≡ None → (invocation.now.indent ≡ None) ⊎ (mode ≡ Mode.Show) }
+{
+    let spaces = invocation.indent?;
+    match mode {
+        Mode::Canonical => Some((Form::Canonical, spaces)),
+        Mode::Relaxed => Some((Form::Relaxed, spaces)),
+        Mode::Show => None,
+    }
+}

@@ -1,0 +1,206 @@
+//! The messages about arguments that the program does not accept.
+ghost use Rattle.std.specs.Prelude.{◌≡◌, ℕ, List, IfOk, string_bytes};
+ghost use Rattle.bson_program.specs.Flags.{flag_name};
+ghost use Rattle.bson_program.specs.UsageErrors.{command_name, full_name, kind_of_arg, mode_without, see, usage_error_message};
+ghost use Rattle.bson_program.specs.Messages.{escaped_name};
+ghost use Rattle.bson_program.specs.Invocation.{mode_arg};
+ghost use Rattle.bson_convert.specs.Messages.{name_of_mode};
+ghost use Rattle.bson_run.specs.TaskNames.{task_name};
+ghost use Rattle.bson_run.specs.declared.task.Task.{Task};
+
+use crate::invocation::{Command, Flag, UsageError, Purpose, Wrong};
+use crate::messages::escape_name;
+use bson_convert::mode::Mode;
+use bson_run::task::{Criterion, Task, InnerTask};
+use std::alloc::{AllocError, Global};
+
+/// Returns the line that names what is wrong with the arguments.
+pub fn usage_error_line(alloc: Global, wrong: &Wrong) -> Result<String, AllocError>
+    ensures { IfOk result (λ line. string_bytes line ≡ usage_error_message wrong.now.command wrong.now.usage_error (string_bytes wrong.now.arg)) }
+{
+    let command = wrong.command;
+    match wrong.usage_error {
+        UsageError::UnknownOption => unknown_option(alloc, command, wrong.arg.as_str()),
+        UsageError::UnknownMode => unknown_mode(alloc, command, wrong.arg.as_str()),
+        UsageError::RemovedOption => removed_option(alloc, command, wrong.arg.as_str()),
+        UsageError::Twice(flag) => {
+            let name = flag_name(flag);
+            format!(in alloc; "bson: {name} is given twice")
+        }
+        UsageError::NoValue(flag) => no_value(alloc, flag),
+        UsageError::UnsupportedOption(flag, purpose, task) => unsupported_option(alloc, command, flag, purpose, task),
+        UsageError::NoMode => {
+            let kind = kind_of_arg(command);
+            format!(in alloc; "bson: no {kind} is given")
+        }
+        UsageError::TwoFiles => two_files(alloc, command),
+        UsageError::StandardTwice => String::from_str(alloc, "bson: standard input is given twice"),
+        UsageError::NotUtf8 => String::from_str(alloc, "bson: an argument is not UTF-8"),
+    }
+}
+
+// Names an option that no command has.
+fn unknown_option(alloc: Global, command: Command, arg: &str) -> Result<String, AllocError>
+    ensures { IfOk result (λ line. string_bytes line ≡ usage_error_message command UsageError.UnknownOption arg.now) }
+{
+    let (arg, see) = (escape_name(alloc, arg)?, see(alloc, command)?);
+    format!(in alloc; "bson: unknown option '{arg}'{see}")
+}
+
+// Names an argument that is not a command or a mode.
+fn unknown_mode(alloc: Global, command: Command, arg: &str) -> Result<String, AllocError>
+    ensures { IfOk result (λ line. string_bytes line ≡ usage_error_message command UsageError.UnknownMode arg.now) }
+{
+    let kind = kind_of_arg(command);
+    let shown = escape_name(alloc, arg)?;
+    let help = see(alloc, command)?;
+    format!(in alloc; "bson: unknown {kind} '{shown}'{help}")
+}
+
+// Names an option of an earlier version.
+fn removed_option(alloc: Global, command: Command, arg: &str) -> Result<String, AllocError>
+    ensures { IfOk result (λ line. string_bytes line ≡ usage_error_message command UsageError.RemovedOption arg.now) }
+{
+    let shown = escape_name(alloc, arg)?;
+    let help = see(alloc, command)?;
+    format!(in alloc; "bson: {shown} is the default now{help}")
+}
+
+// Says which value an option needs.
+fn no_value(alloc: Global, flag: Flag) -> Result<String, AllocError>
+    ensures { (command : Command) → (arg : List ℕ) → IfOk result (λ line. string_bytes line ≡ usage_error_message command (UsageError.NoValue flag) arg) }
+{
+    match flag {
+        Flag::Indent => String::from_str(alloc, "bson: --indent needs a number from 1 to 16"),
+        Flag::Jobs => String::from_str(alloc, "bson: --jobs needs a number from 1 to 9999"),
+        _ => {
+            let name = flag_name(flag);
+            format!(in alloc; "bson: {name} needs a file")
+        }
+    }
+}
+
+// Names a mode and an option that it does not have.
+fn unsupported_option(
+    alloc: Global,
+    command: Command,
+    flag: Flag,
+    purpose: Purpose,
+    task: Task,
+) -> Result<String, AllocError>
+    ensures { (arg : List ℕ) → IfOk result (λ line. string_bytes line ≡ usage_error_message command (UsageError.UnsupportedOption flag purpose task) arg) }
+{
+    let name = full_name(alloc, command, mode_without(flag, purpose, task))?;
+    let option = flag_name(flag);
+    format!(in alloc; "bson: {name} does not accept {option}")
+}
+
+// Says that a comparison needs two files.
+fn two_files(alloc: Global, command: Command) -> Result<String, AllocError>
+    ensures { (arg : List ℕ) → IfOk result (λ line. string_bytes line ≡ usage_error_message command UsageError.TwoFiles arg) }
+{
+    let name = full_name(alloc, command, "same")?;
+    format!(in alloc; "bson: {name} needs two files")
+}
+
+// Says where the help is.
+fn see(alloc: Global, command: Command) -> Result<String, AllocError>
+    ensures { IfOk result (λ text. string_bytes text ≡ see command) }
+{
+    let name = command_name(command);
+    format!(in alloc; " (see {name} --help)")
+}
+
+// Returns a mode with its command.
+fn full_name(alloc: Global, command: Command, mode: &str) -> Result<String, AllocError>
+    ensures { IfOk result (λ name. string_bytes name ≡ full_name command mode.now) }
+{
+    match command {
+        Command::Lines => format!(in alloc; "lines {mode}"),
+        Command::Decode => format!(in alloc; "decode {mode}"),
+        Command::All | Command::Text | Command::Encode => String::from_str(alloc, mode),
+    }
+}
+
+// Returns the program and command before a command's options.
+fn command_name(command: Command) -> &'static str
+    ensures { result.now ≡ command_name command }
+{
+    match command {
+        Command::All | Command::Text => "bson",
+        Command::Lines => "bson lines",
+        Command::Decode => "bson decode",
+        Command::Encode => "bson encode",
+    }
+}
+
+// Returns what an argument is expected to be.
+fn kind_of_arg(command: Command) -> &'static str
+    ensures { result.now ≡ kind_of_arg command }
+{
+    match command {
+        Command::All => "command",
+        _ => "mode",
+    }
+}
+
+// Returns the mode that does not have an option, and after it the option because of which it does not.
+fn mode_without(flag: Flag, purpose: Purpose, task: Task) -> &'static str
+    ensures { result.now ≡ mode_without flag purpose task }
+{
+    match task {
+        Task::Check(Criterion::Canonical) if flag != Flag::Canonical => "check --canonical",
+        other => mode_arg(purpose, other),
+    }
+}
+
+/// Returns the argument that names a mode.
+pub fn mode_arg(purpose: Purpose, task: Task) -> &'static str
+    ensures { result.now ≡ mode_arg purpose task }
+{
+    match purpose {
+        Purpose::Output => task_name(task),
+        Purpose::Digests => "hash",
+        Purpose::Comparison => "same",
+    }
+}
+
+// Returns the name of a task.
+fn task_name(task: Task) -> &'static str
+    ensures { result.now ≡ task_name task }
+{
+    match task {
+        Task::Write(mode) | Task::Preprocessed(_, InnerTask::Write(mode)) => mode_name(mode),
+        Task::Check(_) | Task::Preprocessed(_, InnerTask::Check) => "check",
+        Task::Encode => "encode",
+    }
+}
+
+// Returns the name of a mode.
+fn mode_name(mode: Mode) -> &'static str
+    ensures { result.now ≡ name_of_mode mode }
+{
+    match mode {
+        Mode::Canonical => "canonical",
+        Mode::Relaxed => "relaxed",
+        Mode::Show => "show",
+    }
+}
+
+// Returns the name of an option.
+fn flag_name(flag: Flag) -> &'static str
+    ensures { result.now ≡ flag_name flag }
+{
+    match flag {
+        Flag::SortKeys => "--sort-keys",
+        Flag::Strict => "--strict",
+        Flag::Legacy => "--legacy",
+        Flag::NoDoubleKeys => "--no-double-keys",
+        Flag::Canonical => "--canonical",
+        Flag::Indent => "--indent",
+        Flag::KeepGoing => "--keep-going",
+        Flag::Jobs => "--jobs",
+        Flag::Output => "--output",
+        Flag::Unordered => "--unordered",
+    }
+}

@@ -1,0 +1,10 @@
+use Rattle.std.proofs.Common.{◌≡◌, ◌++◌, IfOk, string_bytes, append_assoc, codes, subst}
+use Rattle.std.specs.Fmt.{decimal}
+use Rattle.bson_convert.specs.Convert.{newline}
+use Rattle.bson_run.proofs.line_run_state.diagnostic_line.Goals as goal
+
+pub returns : goal.returns
+returns c =
+    subst (λ message. IfOk c.format.result (λ diagnostics_before. string_bytes diagnostics_before ≡ codes "bson: line " ++ decimal c.args.number
+    ++ codes ": " ++ message ++ c.args.place.now ++ newline)) c.message-message.ensures.message
+    (simp append_assoc c.format.ensures.ok)

@@ -1,0 +1,197 @@
+-- The message that says where the error of a rejected text is.
+use Rattle.std.specs.Prelude.{◌≡◌, ◌≢◌, ◌⊎◌, ◌↔◌, ◌+◌, ◌<◌, ◌/◌, ◌%◌, ◌==◌, ℕ, List, [], ◌∷◌, ◌++◌, codes, length, nat_lt, take, sum_by, Some, IsUtf8, string_bytes, Bool, true, false, not, suc, ◌-◌, min}
+use Rattle.std.specs.Prelude.{count_by, reverse, take_while}
+use Rattle.std.specs.Prelude.{if◌then◌else◌}
+use Rattle.std.specs.Char.{is_control, digit_char, encode_utf8}
+use Rattle.std.specs.Fmt.{decimal}
+use Rattle.std.specs.List.{flat_map}
+use Rattle.std.specs.Str.{chars}
+use Rattle.json.specs.Json.{skip_value}
+use Rattle.json.specs.Lex.{tokens}
+use Rattle.json.specs.Token.{Token, begin_object, end_object, begin_array, end_array, bad}
+use Rattle.serde_json.specs.Data.{Data}
+use Rattle.serde_json.specs.Read.{max_depth}
+use Rattle.bson.specs.TextMeaning.{IsNotJsonText, IsTextOf}
+use Rattle.bson_tree.specs.Place.{path_text, path_of}
+use Rattle.bson_tree.specs.declared.place.Place.{Place}
+use Rattle.bson_tree.specs.declared.place.Reason.{Reason}
+use Rattle.bson_tree.specs.declared.place.Reason.TheVariants.{BadObjectId, WrongShape}
+use Rattle.bson_convert.specs.declared.error.Error.{Error}
+use Rattle.bson_convert.specs.declared.error.Error.TheVariants.{NotJson, NotExtendedJson, NotCanonical}
+use Rattle.bson_run.specs.declared.explain.Explanation.{Explanation}
+use Rattle.bson_run.specs.declared.explain.Explanation.TheVariants as explained
+use Rattle.bson_run.specs.declared.rule.Rule.{Rule}
+use Rattle.bson_run.specs.declared.rule.Rule.TheVariants.{Utf8, UnexpectedEnd, TrailingData, OutOfRange}
+use Rattle.bson_run.specs.declared.rule.Rule.TheVariants.{NoValue, Number, ControlCharacter, Escape, ExpectedElement}
+use Rattle.bson_run.specs.declared.rule.Rule.TheVariants.{Quotes, Separator, ExpectedColonAndValue, Depth, RewrittenDepth}
+use Rattle.bson_run.specs.TaskNames.{rule_message}
+
+-- an empty path is left out
+abbrev pub path_message : List ℕ → List ℕ
+path_message [] = []
+path_message (x ∷ xs) = codes " at " ++ x ∷ xs
+
+-- a character in a message: as its escape in JSON if it breaks a line or controls a terminal, any other unchanged
+abbrev pub escaped_char : ℕ → List ℕ
+escaped_char c = if c == 0x2028 then codes "\\u2028"
+    else (if c == 0x2029 then codes "\\u2029"
+    else (if is_control c then codes "\\u00" ++ digit_char (c / 16) ∷ digit_char (c % 16) ∷ [] else encode_utf8 c))
+
+-- a character by its escape, where escapes are wanted, or as it is
+abbrev pub char_or_escape : (escapes : Bool) → ℕ → List ℕ
+char_or_escape true = escaped_char
+char_or_escape false = encode_utf8
+
+-- the first characters of a message, and two points if there are more
+abbrev pub truncated : ℕ → (ℕ → List ℕ) → List ℕ → List ℕ
+truncated max_chars write_char full_message =
+    flat_map write_char (take max_chars (chars full_message)) ++ (if nat_lt max_chars (length (chars full_message)) then codes ".." else [])
+
+-- a message cut to 300 characters
+abbrev pub escaped_message : List ℕ → List ℕ
+escaped_message full_message = truncated 300 escaped_char full_message
+
+-- the quote of a value: 60 characters
+abbrev pub found_message : List ℕ → List ℕ
+found_message value = codes "; found " ++ truncated 60 encode_utf8 value
+
+-- it is a contiguous part of the text
+abbrev pub IsSubslice : List ℕ → List ℕ → Type 0
+IsSubslice part text = (front : List ℕ) × (rest : List ℕ) × (text ≡ front ++ part ++ rest)
+
+-- nothing, or the quote of a part of the text; no contract says that it is the value at the path
+abbrev pub IsQuotedValue : List ℕ → List ℕ → Type 0
+IsQuotedValue text full_message = (full_message ≡ []) ⊎ ((part : List ℕ) × IsSubslice part text × (full_message ≡ found_message part))
+
+-- what was expected, and after it what was found in the text; any message for an object id
+abbrev pub IsReasonMessage : List ℕ → Reason → List ℕ → Type 0
+IsReasonMessage text (WrongShape expected) full_message =
+    (quote : List ℕ) × IsQuotedValue text quote × (full_message ≡ expected.now ++ quote)
+IsReasonMessage text (BadObjectId why) full_message = Unit {0}
+
+-- the path of the error, and its reason
+abbrev pub IsPathMessage : List ℕ → Place → List ℕ → Type 0
+IsPathMessage text place full_message =
+    (message : List ℕ) × IsReasonMessage text place.reason message
+    × (full_message ≡ path_message (escaped_message (path_text (path_of place))) ++ codes " (" ++ escaped_message message ++ codes ")")
+
+-- the bytes are UTF-8 and one value by the grammar of JSON, arrays and objects nesting as deep as texts may (RFC 8259)
+abbrev pub HasGrammar : List ℕ → Type 0
+HasGrammar bytes = IsUtf8 bytes × (skip_value max_depth (tokens bytes) ≡ Some [])
+
+-- the bytes are the text of a tree: they have the grammar, and each number is in range
+abbrev pub HasTree : List ℕ → Type 0
+HasTree bytes = (t : Data) × IsTextOf bytes t
+
+-- the text begins with one value, and has more input after it
+abbrev pub HasTrailingData : List ℕ → Type 0
+HasTrailingData bytes =
+    IsUtf8 bytes × ((t : Token) × (ts : List Token) × (skip_value max_depth (tokens bytes) ≡ Some (t ∷ ts)))
+
+-- how many brackets a token opens, and how many it closes
+abbrev pub opens : Token → ℕ
+opens begin_object = 1
+opens begin_array = 1
+opens token = 0
+
+abbrev pub closes : Token → ℕ
+closes end_object = 1
+closes end_array = 1
+closes token = 0
+
+-- after some of the tokens more brackets are open than the limit allows
+abbrev pub NestsDeeper : List Token → Type 0
+NestsDeeper ts =
+    (front : List Token) × (rest : List Token) × (ts ≡ front ++ rest)
+    × (sum_by closes front + max_depth < sum_by opens front)
+
+-- some bytes of the text are not a token
+abbrev pub HasInvalidToken : List Token → Type 0
+HasInvalidToken ts = (front : List Token) × (rest : List Token) × (ts ≡ front ++ bad ∷ rest)
+
+-- the rules for bytes that are not a token
+abbrev pub IsInvalidTokenRule : Rule → Type 0
+IsInvalidTokenRule NoValue = Unit {0}
+IsInvalidTokenRule Number = Unit {0}
+IsInvalidTokenRule ControlCharacter = Unit {0}
+IsInvalidTokenRule Escape = Unit {0}
+IsInvalidTokenRule ExpectedElement = Unit {0}
+IsInvalidTokenRule rule = ⊥
+
+-- which rule bytes break that are not JSON: three rules are named if and only if they are broken; blank input ends
+-- too early; a nesting or token rule is named only if there is such a position. Bytes that are JSON are rejected only
+-- if the rewritten text, which is read instead, nests too deep
+pub record BreaksRule (bytes : List ℕ) (rule : Rule) : Type 0 where
+  pub utf8 : rule ≡ Utf8 ↔ ¬ (IsUtf8 bytes)
+  pub number : rule ≡ OutOfRange ↔ HasGrammar bytes × IsNotJsonText bytes
+  pub rewritten : rule ≡ RewrittenDepth ↔ HasTree bytes
+  pub more : rule ≡ TrailingData ↔ HasTrailingData bytes
+  pub blank : IsUtf8 bytes → tokens bytes ≡ [] → rule ≡ UnexpectedEnd
+  pub depth : rule ≡ Depth → NestsDeeper (tokens bytes)
+  pub no_token : IsInvalidTokenRule rule → HasInvalidToken (tokens bytes)
+
+-- the bytes before a place among them, which are not all
+abbrev pub bytes_before : (offset : ℕ) → List ℕ → List ℕ
+bytes_before offset bytes = take (min offset (length bytes - 1)) bytes
+
+-- its line, and its column in that line, both counted from 1
+abbrev pub line_at : (offset : ℕ) → List ℕ → ℕ
+line_at offset bytes = suc (count_by (λ x. x == 10) (bytes_before offset bytes))
+
+abbrev pub column_at : (offset : ℕ) → List ℕ → ℕ
+column_at offset bytes = suc (length (take_while (λ x. not (x == 10)) (reverse (bytes_before offset bytes))))
+
+-- a column, which one no contract says, and the rule that is broken there
+abbrev pub column_and_rule : ℕ → Rule → List ℕ
+column_and_rule n rule = codes " at column " ++ decimal n ++ codes " (" ++ rule_message rule ++ codes ")"
+
+-- the column of the first byte in which a text differs from the canonical one
+abbrev pub column_message : ℕ → List ℕ
+column_message column = codes " at column " ++ decimal column
+
+-- the column at which bytes are not JSON, and the rule that they break
+abbrev pub IsSyntaxPosition : List ℕ → List ℕ → Type 0
+IsSyntaxPosition bytes full_message = (n : ℕ) × (rule : Rule) × BreaksRule bytes rule × (full_message ≡ column_and_rule n rule)
+
+-- the fault is not that of a text
+abbrev pub IsNotTextError : Error → Type 0
+IsNotTextError NotJson = ⊥
+IsNotTextError (NotExtendedJson place) = ⊥
+IsNotTextError (NotCanonical column) = ⊥
+IsNotTextError other = Unit {0}
+
+-- why a text is rejected: the rule that it breaks, or the path of its error and the reason in a message, or nothing
+abbrev pub IsExplanation : List ℕ → Error → Explanation → Type 0
+IsExplanation text fault (explained.Syntax syntax_error) = (fault ≡ NotJson) × BreaksRule text syntax_error.rule
+IsExplanation text fault (explained.Value place reason) =
+    (fault ≡ NotExtendedJson place.now)
+    × ((message : List ℕ) × IsReasonMessage text place.now.reason message × (string_bytes reason ≡ escaped_message message))
+IsExplanation text fault (explained.Difference column) = fault ≡ NotCanonical column
+IsExplanation text fault explained.Other = IsNotTextError fault
+
+-- the message of an explanation
+abbrev pub explanation_message : List ℕ → Explanation → List ℕ
+explanation_message text (explained.Syntax syntax_error) = column_and_rule (column_at syntax_error.offset text) syntax_error.rule
+explanation_message text (explained.Value place reason) =
+    path_message (escaped_message (path_text (path_of place.now))) ++ codes " (" ++ string_bytes reason ++ codes ")"
+explanation_message text (explained.Difference column) = column_message column
+explanation_message text explained.Other = []
+
+-- where the error of a text is; nothing for an error that is not one of a text
+abbrev pub IsPositionMessage : List ℕ → Error → List ℕ → Type 0
+IsPositionMessage text NotJson full_message = IsSyntaxPosition text full_message
+IsPositionMessage text (NotExtendedJson place) full_message = IsPathMessage text place full_message
+IsPositionMessage text (NotCanonical column) full_message = full_message ≡ column_message column
+IsPositionMessage text other full_message = full_message ≡ []
+
+-- ---- for private clauses
+
+-- a rule that a text breaks which is UTF-8 and begins with no value
+abbrev pub IsValueRule : Rule → Type 0
+IsValueRule rule = (rule ≢ Utf8) × (rule ≢ OutOfRange) × (rule ≢ TrailingData) × (rule ≢ RewrittenDepth)
+
+-- a rule that a token breaks at its position, with this number of open brackets
+abbrev pub IsTokenRule : ℕ → Token → Rule → Type 0
+IsTokenRule depth token rule =
+    (rule ≡ Quotes) ⊎ (rule ≡ Separator) ⊎ (rule ≡ ExpectedColonAndValue)
+    ⊎ ((rule ≡ Depth) × (closes token ≡ 0) × (max_depth < depth + opens token))

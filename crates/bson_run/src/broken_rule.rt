@@ -1,0 +1,166 @@
+//! Which rule of JSON a text breaks that begins with no value: found in one pass over its tokens.
+ghost use Rattle.std.specs.Prelude.{◌≡◌, ◌≢◌, ◌⊎◌, ◌≤◌, ◌+◌, None, IfOk, MatchOption};
+ghost use Rattle.json.specs.Json.{skip_value};
+ghost use Rattle.json.specs.Lex.{tokens};
+ghost use Rattle.json.specs.Reads.{token_of};
+ghost use Rattle.serde_json.specs.Read.{max_depth};
+ghost use Rattle.bson_run.specs.ErrorMessages.{BreaksRule, IsTokenRule, IsValueRule, closes, opens};
+
+use crate::rule::Rule;
+use bson_tokens::MAX_DEPTH;
+use json::{Reader, Scratch, Token};
+use std::alloc::AllocError;
+
+/// Returns the first rule that the value of a text breaks, if the text has no value.
+pub(crate) fn find_broken_rule(text: &str, scratch: &mut Scratch) -> Result<Rule, AllocError>
+    requires { skip_value max_depth (tokens text.now) ≡ None }
+    ensures { IfOk result (λ rule. BreaksRule text.now rule) }
+{
+    let mut reader = Reader::new(text, scratch)?;
+    let mut open = OpenBrackets {
+        objects: 0,
+        depth: 0,
+        expects_value: false,
+        expects_colon: false,
+    };
+    while let Some(token) = reader.next() {
+        if let Token::Bad = token
+            && !open.expects_colon
+        {
+            let at = reader.offset();
+            return Ok(rule_at_invalid_token(text.as_bytes(), at, open.expects_key()));
+        }
+        if let Some(rule) = open.pass(token) {
+            return Ok(rule);
+        }
+    }
+    Ok(Rule::UnexpectedEnd)
+}
+
+// The open brackets between two tokens.
+#[derive(Drop)]
+struct OpenBrackets {
+    // One bit for each bracket, the innermost at the low end: set if the bracket opens an object.
+    objects: u128,
+    // How many brackets there are.
+    depth: usize,
+    // A key and its colon were read, and no value yet.
+    expects_value: bool,
+    // A string was read in the place of a key, and no colon after it.
+    expects_colon: bool,
+}
+
+impl OpenBrackets {
+    // Whether the innermost bracket opens an object.
+    fn is_object(&self) -> bool {
+        self.objects & 1 == 1
+    }
+
+    fn expects_key(&self) -> bool {
+        self.is_object() && !self.expects_value
+    }
+
+    // Passes a token, or returns the rule that the token breaks at this position.
+    fn pass(&mut self, token: Token<'_>) -> Option<Rule>
+        ensures { MatchOption result
+            (self.new.depth + closes (token_of token.entry) ≡ self.old.depth + opens (token_of token.entry))
+            (λ rule. IsTokenRule self.old.depth (token_of token.entry) rule) }
+    {
+        if self.expects_colon {
+            return Some(Rule::ExpectedColonAndValue);
+        }
+        match token {
+            Token::Key(_) => return self.pass_key(),
+            Token::EndObject => return self.close(true),
+            Token::EndArray => return self.close(false),
+            Token::String(_) if self.expects_key() => self.expects_colon = true,
+            _ if self.expects_key() => return Some(Rule::Quotes),
+            Token::BeginObject => return self.open(true),
+            Token::BeginArray => return self.open(false),
+            _ => self.expects_value = false,
+        }
+        None
+    }
+
+    fn pass_key(&mut self) -> Option<Rule>
+        ensures { MatchOption result (self.new.depth ≡ self.old.depth) (λ rule. rule ≡ Rule.Separator) }
+    {
+        if !self.expects_key() {
+            return Some(Rule::Separator);
+        }
+        self.expects_value = true;
+        None
+    }
+
+    fn open(&mut self, is_object: bool) -> Option<Rule>
+        ensures { MatchOption result (self.new.depth ≡ self.old.depth + 1)
+            (λ rule. (rule ≡ Rule.Depth) × (127 ≤ self.old.depth)) }
+    {
+        if self.depth >= MAX_DEPTH {
+            return Some(Rule::Depth);
+        }
+        self.depth += 1;
+        self.objects = (self.objects << 1) | u128::from(is_object);
+        self.expects_value = false;
+        None
+    }
+
+    fn close(&mut self, is_object: bool) -> Option<Rule>
+        ensures { MatchOption result (self.new.depth + 1 ≡ self.old.depth)
+            (λ rule. (rule ≡ Rule.ExpectedColonAndValue) ⊎ (rule ≡ Rule.Separator)) }
+    {
+        if self.expects_value {
+            return Some(Rule::ExpectedColonAndValue);
+        }
+        if self.depth == 0 || self.is_object() != is_object {
+            return Some(Rule::Separator);
+        }
+        self.depth -= 1;
+        self.objects >>= 1;
+        None
+    }
+}
+
+// Returns the rule that is broken at bytes that are not a token, by the byte there and the last byte
+// before it that is not blank.
+fn rule_at_invalid_token(bytes: &[u8], at: usize, expects_key: bool) -> Rule
+    ensures { IsValueRule result × (result ≢ Rule.Depth) }
+{
+    let (before, there) = bytes.split_at(at.min(bytes.len()));
+    let Some((first, rest)) = there.split_first() else {
+        return Rule::UnexpectedEnd;
+    };
+    match before.trim_ascii_end().last() {
+        Some(b',') if matches!(*first, b',' | b':' | b']' | b'}') => Rule::ExpectedElement,
+        None | Some(b',' | b':' | b'[' | b'{') => rule_at_value_start(*first, rest, expects_key),
+        Some(_) => Rule::Separator,
+    }
+}
+
+// The rule that is broken where a value, or a key, may begin.
+fn rule_at_value_start(first: u8, rest: &[u8], expects_key: bool) -> Rule
+    ensures { IsValueRule result × (result ≢ Rule.Depth) }
+{
+    match first {
+        b'"' => rule_in_string(rest),
+        _ if expects_key => Rule::Quotes,
+        b'\'' | b'`' => Rule::Quotes,
+        b'0'..=b'9' | b'-' | b'+' | b'.' => Rule::Number,
+        _ => Rule::NoValue,
+    }
+}
+
+// Returns the rule that a string breaks. The bytes are those after its opening quote.
+fn rule_in_string(bytes: &[u8]) -> Rule
+    ensures { IsValueRule result × (result ≢ Rule.Depth) }
+{
+    let mut is_escaped = false;
+    for byte in bytes {
+        match *byte {
+            0..=0x1f => return Rule::ControlCharacter,
+            b'"' if !is_escaped => return Rule::Escape,
+            other => is_escaped = other == b'\\' && !is_escaped,
+        }
+    }
+    Rule::UnexpectedEnd
+}

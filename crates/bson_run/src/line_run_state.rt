@@ -1,0 +1,359 @@
+//! The state of a run over lines: the buffered line, and the output of the lines before it.
+ghost use Rattle.std.specs.Prelude.{◌≡◌, ◌⊎◌, ◌++◌, ◌+◌, [], ◌∷◌, ◌<◌, length, IfOk, IfErr, take};
+ghost use Rattle.std.specs.Prelude.{OnOk, OnErr, None, Ok, IsTrue, ◌↔◌, string_bytes};
+ghost use Rattle.std.specs.Prelude.{MatchOption, IfSome, IsUtf8, ◌≢◌, slice_index};
+ghost use Rattle.bson_run.specs.Lines.{IsBlank, IsRejectedLineIn, IsStoppedIn, IsDiagnostic, WritesIn};
+ghost use Rattle.bson_convert.specs.Convert.{IsRejectedIn};
+ghost use Rattle.bson_run.specs.Lines.{diagnostic_at, buffered_text, line_text, ChecksIn, WritesPreprocessedIn, WritesText};
+ghost use Rattle.bson_run.specs.LinesSteps.{EndsLastLine, LineCountFits, HaveSameResults, IsLineCountOverflow};
+ghost use Rattle.bson_run.specs.LinesSteps.{IsConversionFailure, HasNoNewline, IsStart, IsDiagnosticAppended, StopsAtLastLine, StopsInBytes};
+ghost use Rattle.bson_run.specs.LinesSteps.{ReadsBytes, EndsLine};
+ghost use Rattle.bson_run.specs.declared.task.OnRefusal.TheVariants.{Stop};
+ghost use Rattle.bson_run.specs.ErrorMessages.{IsPositionMessage};
+ghost use Rattle.bson_run.specs.declared.task.Task.{Task};
+ghost use Rattle.bson_run.specs.declared.task.Task.TheVariants.{Check, Preprocessed};
+ghost use Rattle.bson.specs.declared.extjson.options.Options.{Options};
+
+use crate::convert::convert_by;
+use crate::encode::encode_line;
+use crate::explain::explain_under;
+use crate::task::{Criterion, OnRefusal, Preprocessing, Task, InnerTask};
+use crate::preprocessed::preprocess_text;
+use bson::extjson::Options;
+use bson_convert::canonical::check_canonical_line;
+use bson_convert::convert::convert_line;
+use bson_convert::error::Error;
+use bson_convert::mode::Mode;
+use json::Scratch;
+use memchr::memchr;
+use std::alloc::{AllocError, Global};
+
+/// The result of a step over a line.
+type Step = Result<(), Error>;
+
+/// U+FEFF in UTF-8.
+const BYTE_ORDER_MARK: [u8; 3] = [0xef, 0xbb, 0xbf];
+
+/// An output of more bytes is long.
+const LARGE_OUTPUT: usize = 1 << 20;
+
+/// The options and the task of a run.
+#[derive(Clone, Copy)]
+pub struct Settings {
+    pub options: Options,
+    pub task: Task,
+    pub on_refusal: OnRefusal,
+}
+
+/// The buffered line, and the output and diagnostics of the lines before it that are not written yet.
+#[derive(Drop)]
+pub struct LineRunState {
+    pub line: Vec<u8>,
+    pub output: Vec<u8>,
+    pub diagnostics: Vec<u8>,
+    pub lines: u64,
+    pub refused: u64,
+    /// The memory for reading a line, made once in a run.
+    pub scratch: Scratch,
+}
+
+// Returns the offset of the first newline.
+fn newline_at(bytes: &[u8]) -> Option<usize>
+    ensures { MatchOption result (HasNoNewline bytes.now) (λ at. (at < length bytes.now) × HasNoNewline (take at bytes.now)
+        × (slice_index bytes.now at ≡ 10)) }
+{
+    memchr(b'\n', bytes)
+}
+
+// Returns the text of a line that comes after this number of lines.
+fn text(before: u64, line: &[u8]) -> &[u8]
+    ensures { result.now ≡ line_text before line.now }
+{
+    if before == 0 && line.starts_with(&BYTE_ORDER_MARK) {
+        &line[3..]
+    } else {
+        line
+    }
+}
+
+// Whether there are only spaces, tabs and carriage returns.
+fn is_blank(text: &[u8]) -> bool
+    ensures { IsTrue result ↔ IsBlank text.now }
+{
+    text.iter()
+        .all(|byte| *byte == b' ' || *byte == b'\t' || *byte == b'\r')
+}
+
+// Returns the output for the text, or nothing for a blank text.
+fn convert_or_check(
+    alloc: Global,
+    settings: Settings,
+    text: &[u8],
+    scratch: &mut Scratch,
+) -> Result<Option<Vec<u8>>, Error>
+    ensures blank { result ≡ Ok None → IsBlank text.now }
+    ensures ok { IfOk result (λ some. IfSome some (λ output. WritesIn settings.options settings.task text.now output.items)) }
+    ensures utf8 { WritesText settings.task → IfOk result (λ some. IfSome some (λ output. IsUtf8 output.items)) }
+    ensures fault { IfErr result (λ fault. IsConversionFailure settings.options settings.task fault text.now) }
+{
+    if is_blank(text) {
+        return Ok(None);
+    }
+    let options = settings.options;
+    match settings.task {
+        Task::Write(mode) => {
+            Ok(Some(convert_by(alloc, options.key_order, options, mode, text, scratch)?))
+        }
+        Task::Check(criterion) => {
+            check(alloc, options, criterion, text, scratch)?;
+            Ok(Some(Vec::new(alloc)))
+        }
+        Task::Encode => Ok(Some(encode_line(alloc, options, text, scratch)?)),
+        Task::Preprocessed(preprocessing, inner_task) => {
+            Ok(Some(check_preprocessed(alloc, options, preprocessing, inner_task, text, scratch)?))
+        }
+    }
+}
+
+// Checks a text that is not blank by a criterion.
+fn check(
+    alloc: Global,
+    options: Options,
+    criterion: Criterion,
+    text: &[u8],
+    scratch: &mut Scratch,
+) -> Result<(), Error>
+    requires { ¬ IsBlank text.now }
+    ensures ok { OnOk result (ChecksIn options criterion text.now) }
+    ensures fault { IfErr result (λ fault. IsConversionFailure options (Check criterion) fault text.now) }
+{
+    match criterion {
+        Criterion::Valid => {
+            convert_line(alloc, options, Mode::Canonical, text, scratch)?;
+            Ok(())
+        }
+        Criterion::Canonical => check_canonical_line(alloc, options, text, scratch),
+    }
+}
+
+// Returns the output for a text that is not blank, after preprocessing.
+fn check_preprocessed(
+    alloc: Global,
+    options: Options,
+    preprocessing: Preprocessing,
+    inner_task: InnerTask,
+    text: &[u8],
+    scratch: &mut Scratch,
+) -> Result<Vec<u8>, Error>
+    requires { ¬ IsBlank text.now }
+    ensures ok { IfOk result (λ output. WritesIn options (Preprocessed preprocessing inner_task) text.now output.items) }
+    ensures utf8 { IfOk result (λ output. IsUtf8 output.items) }
+    ensures fault { IfErr result (λ fault. IsConversionFailure options (Preprocessed preprocessing inner_task) fault text.now) }
+{
+    match preprocess_text(alloc, preprocessing, text)? {
+        Some(upgraded) => run_inner_task(alloc, options, inner_task, upgraded.as_bytes(), scratch),
+        None => run_inner_task(alloc, options, inner_task, text, scratch),
+    }
+}
+
+fn run_inner_task(
+    alloc: Global,
+    options: Options,
+    inner_task: InnerTask,
+    text: &[u8],
+    scratch: &mut Scratch,
+) -> Result<Vec<u8>, Error>
+    ensures ok { IfOk result (λ output. WritesPreprocessedIn options inner_task text.now output.items) }
+    ensures utf8 { IfOk result (λ output. IsUtf8 output.items) }
+    ensures fault { IfErr result (λ fault. IsRejectedIn options fault text.now) }
+{
+    match inner_task {
+        InnerTask::Write(mode) => convert_by(alloc, options.key_order, options, mode, text, scratch),
+        InnerTask::Check => {
+            convert_line(alloc, options, Mode::Canonical, text, scratch)?;
+            Ok(Vec::new(alloc))
+        }
+    }
+}
+
+// Returns the diagnostic for a rejected line: its number, the message of the error, and the path.
+fn diagnostic_line(alloc: Global, number: u64, fault: &Error, place: &str) -> Result<String, AllocError>
+    ensures { IfOk result (λ diagnostics. string_bytes diagnostics ≡ diagnostic_at number fault.now place.now) }
+{
+    let message = fault.message();
+    format!(in alloc; "bson: line {number}: {message}{place}\n")
+}
+
+/// Removes the bytes, and frees the memory of many.
+pub(crate) fn empty(bytes: &mut Vec<u8>)
+    ensures { bytes.new.items ≡ [] }
+{
+    let is_long = bytes.len() > LARGE_OUTPUT;
+    bytes.clear();
+    if is_long {
+        bytes.shrink_to_fit();
+    }
+}
+
+// Adds more bytes.
+fn append(bytes: &mut Vec<u8>, more: &[u8]) -> Step
+    ensures ok { OnOk result (bytes.new.items ≡ bytes.old.items ++ more.now) }
+    ensures err { OnErr result (bytes.new.items ≡ bytes.old.items) }
+    ensures fault { IfErr result (λ e. e ≡ Error.OutOfMemory) }
+{
+    match bytes.extend_from_slice(more) {
+        Ok(()) => Ok(()),
+        Err(_) => Err(Error::OutOfMemory),
+    }
+}
+
+impl LineRunState {
+    /// Makes the state before the first line.
+    pub fn new(alloc: Global) -> LineRunState
+        ensures start { IsStart result }
+        ensures room { LineCountFits result }
+    {
+        LineRunState {
+            line: Vec::new(alloc),
+            output: Vec::new(alloc),
+            diagnostics: Vec::new(alloc),
+            lines: 0,
+            refused: 0,
+            scratch: Scratch::new(alloc),
+        }
+    }
+
+    /// Returns where the line that is being read is wrong, as the message of `explain_under`.
+    ///
+    /// # Errors
+    ///
+    /// `AllocError` if an allocation fails.
+    pub fn place(&self, alloc: Global, task: Task, fault: &Error) -> Result<String, AllocError>
+        ensures { IfOk result (λ place. IsPositionMessage (buffered_text self.now) fault.now (string_bytes place)) }
+    {
+        explain_under(alloc, task, fault, text(self.lines, &self.line))
+    }
+
+    // Appends bytes to the line.
+    fn extend_line(&mut self, span: &[u8]) -> Step
+        ensures ok { OnOk result (self.new.line.items ≡ self.old.line.items ++ span.now) }
+        ensures same { HaveSameResults self.old self.new }
+        ensures fault { IfErr result (λ e. e ≡ Error.OutOfMemory) }
+    {
+        append(&mut self.line, span)
+    }
+
+    // Finishes the buffered line: its output or diagnostic is added, and the next line is empty.
+    fn end_line(&mut self, alloc: Global, settings: Settings) -> Step
+        requires room { LineCountFits self.old }
+        ensures room { LineCountFits self.new }
+        ensures ok { OnOk result (EndsLine settings.options settings.task settings.on_refusal self.old self.new) }
+        ensures same { OnErr result (HaveSameResults self.old self.new) }
+        ensures keeps_line { OnErr result (self.new.line ≡ self.old.line) }
+        ensures fault { IfErr result
+            (λ e. IsStoppedIn settings.options settings.task settings.on_refusal e (line_text self.old.lines self.old.line.items)) }
+        ensures count { IfErr result (λ e. IsLineCountOverflow e self.old.lines) }
+    {
+        if self.lines + 1 == u64::MAX {
+            // A count that no run reaches.
+            return Err(Error::CannotRead);
+        }
+        let line = text(self.lines, &self.line);
+        match convert_or_check(alloc, settings, line, &mut self.scratch) {
+            Ok(None) => {}
+            Ok(Some(output)) => self.add(output)?,
+            Err(fault) => self.refuse(alloc, settings, fault)?,
+        }
+        self.line.clear();
+        self.lines += 1;
+        Ok(())
+    }
+
+    // Adds the output of a line. A long output is moved, so that it is not in memory twice.
+    fn add(&mut self, output: Vec<u8>) -> Step
+        ensures ok { OnOk result (self.new.output.items ≡ self.old.output.items ++ output.items) }
+        ensures err { OnErr result (self.new.output.items ≡ self.old.output.items) }
+        ensures same { (self.new.line ≡ self.old.line) × (self.new.diagnostics ≡ self.old.diagnostics)
+            × (self.new.lines ≡ self.old.lines) × (self.new.refused ≡ self.old.refused) }
+        ensures fault { IfErr result (λ e. e ≡ Error.OutOfMemory) }
+    {
+        if self.output.is_empty() && output.len() > LARGE_OUTPUT {
+            self.output = output;
+            return Ok(());
+        }
+        append(&mut self.output, &output)
+    }
+
+    // Adds a diagnostic, if rejected lines do not stop the run.
+    fn refuse(&mut self, alloc: Global, settings: Settings, fault: Error) -> Step
+        requires room { LineCountFits self.old }
+        ensures ok { OnOk result ((fault ≢ Error.OutOfMemory) × (settings.on_refusal ≢ Stop)
+            × (self.new.refused ≡ self.old.refused + 1)
+            × ((options : Options) (task : Task) → IsDiagnosticAppended options task (self.old.lines + 1) fault
+            (line_text self.old.lines self.old.line.items) self.old.diagnostics.items self.new.diagnostics.items)) }
+        ensures err { OnErr result ((self.new.diagnostics.items ≡ self.old.diagnostics.items)
+            × (self.new.refused ≡ self.old.refused)) }
+        ensures same { (self.new.line ≡ self.old.line) × (self.new.output ≡ self.old.output)
+            × (self.new.lines ≡ self.old.lines) }
+        ensures fault { IfErr result (λ e. (e ≡ Error.OutOfMemory) ⊎ ((settings.on_refusal ≡ Stop) × (e ≡ fault))) }
+    {
+        if fault.is_memory() {
+            return Err(fault);
+        }
+        if settings.on_refusal == OnRefusal::Stop {
+            return Err(fault);
+        }
+        match self.add_diagnostic(alloc, settings.task, &fault) {
+            Ok(()) => {}
+            Err(_) => return Err(Error::OutOfMemory),
+        }
+        self.refused += 1;
+        Ok(())
+    }
+
+    // Adds the diagnostic on the line.
+    fn add_diagnostic(&mut self, alloc: Global, task: Task, fault: &Error) -> Result<(), AllocError>
+        requires room { LineCountFits self.old }
+        ensures ok { OnOk result
+            ((options : Options) (task : Task) → IsDiagnosticAppended options task (self.old.lines + 1) fault.now
+            (line_text self.old.lines self.old.line.items) self.old.diagnostics.items self.new.diagnostics.items) }
+        ensures err { OnErr result (self.new.diagnostics.items ≡ self.old.diagnostics.items) }
+        ensures same { (self.new.line ≡ self.old.line) × (self.new.output ≡ self.old.output)
+            × (self.new.lines ≡ self.old.lines) × (self.new.refused ≡ self.old.refused) }
+    {
+        let place = self.place(alloc, task, fault)?;
+        let diagnostic_line = diagnostic_line(alloc, self.lines + 1, fault, &place)?;
+        self.diagnostics.extend_from_slice(diagnostic_line.as_bytes())
+    }
+
+    /// Reads bytes: each line that ends in them, and the beginning of the next.
+    pub fn take(&mut self, alloc: Global, settings: Settings, bytes: &[u8]) -> Step
+        requires room { LineCountFits self.old }
+        ensures room { LineCountFits self.new }
+        ensures ok { OnOk result (ReadsBytes settings.options settings.task settings.on_refusal bytes.now self.old self.new) }
+        ensures fault { IfErr result (λ e. StopsInBytes settings.options settings.task settings.on_refusal bytes.now e self.old self.new) }
+        ensures count { IfErr result (λ e. IsLineCountOverflow e self.new.lines) }
+    {
+        let mut rest = bytes;
+        while let Some(at) = newline_at(rest) {
+            self.extend_line(&rest[..at])?;
+            self.end_line(alloc, settings)?;
+            rest = &rest[at + 1..];
+        }
+        self.extend_line(rest)
+    }
+
+    /// Finishes a last line that has no newline, unless it is empty.
+    pub fn take_last(&mut self, alloc: Global, settings: Settings) -> Step
+        requires room { LineCountFits self.old }
+        ensures room { LineCountFits self.new }
+        ensures ok { OnOk result (EndsLastLine settings.options settings.task settings.on_refusal self.old self.new) }
+        ensures fault { IfErr result (λ e. StopsAtLastLine settings.options settings.task settings.on_refusal e self.old self.new) }
+        ensures count { IfErr result (λ e. IsLineCountOverflow e self.new.lines) }
+    {
+        if self.line.is_empty() {
+            return Ok(());
+        }
+        self.end_line(alloc, settings)
+    }
+}

@@ -1,0 +1,170 @@
+//! The offset at which bytes are not JSON.
+ghost use Rattle.std.specs.Prelude.{◌≡◌, ◌↔◌, IfOk, IsTrue, false, string_bytes};
+ghost use Rattle.bson.specs.TextMeaning.{IsNotJsonText};
+ghost use Rattle.bson_run.specs.ErrorMessages.{BreaksRule, HasGrammar, HasTree, column_and_rule, bytes_before, column_at, line_at};
+
+use crate::broken_rule::find_broken_rule;
+use crate::rule::Rule;
+use bson_tokens::MAX_DEPTH;
+use bson_tokens::arrangement::Arrangement;
+use bson_tokens::normalize::normalize_text;
+use bson_tokens::number::number;
+use json::{Reader, Scratch, Token};
+use std::alloc::{AllocError, Global};
+
+/// The offset at which bytes are not JSON, for a message.
+///
+/// ```
+/// let text: &[u8] = b"[1,\n 2 3]";
+/// let syntax_error = SyntaxError::of(alloc, text)?;
+/// println!(rt; "{}:{}", syntax_error.line(text), syntax_error.column(text))?; // 2:4
+/// ```
+#[derive(Clone, Copy, Debug)]
+pub struct SyntaxError {
+    /// The number of bytes before it.
+    pub offset: usize,
+    /// The bytes have the grammar of JSON, and the number there is out of the range of doubles.
+    pub is_number: bool,
+    /// Which rule of JSON they break.
+    pub rule: Rule,
+}
+
+impl SyntaxError {
+    /// Finds the place at which a text stops to be JSON, and the rule that it breaks there.
+    ///
+    /// It is the first byte that is not UTF-8. If all are, it is the first token that its place does
+    /// not allow, or the token after a bracket that nests deeper than 127. If the bytes have the
+    /// grammar of JSON, it is the first number whose nearest double is not finite. No tree is made,
+    /// and memory is that of the bytes.
+    ///
+    /// If the bytes are JSON, it is their first byte. Their rule is `RewrittenDepth`, since they are
+    /// rejected as not JSON only if a rewritten text is read instead, and nests too deep.
+    ///
+    /// # Errors
+    ///
+    /// Returns `AllocError` if a request for memory is refused.
+    pub fn of(alloc: Global, bytes: &[u8]) -> Result<SyntaxError, AllocError>
+        ensures grammar { IfOk result (λ syntax_error. IsTrue syntax_error.is_number ↔ HasGrammar bytes.now × IsNotJsonText bytes.now) }
+        ensures rule { IfOk result (λ syntax_error. BreaksRule bytes.now syntax_error.rule) }
+    {
+        match simdutf8::compat::from_utf8(bytes) {
+            Ok(text) => find_syntax_error(alloc, text),
+            Err(error) => Ok(SyntaxError {
+                offset: error.valid_up_to(),
+                is_number: false,
+                rule: Rule::Utf8,
+            }),
+        }
+    }
+
+    /// Returns its line, counted from 1.
+    pub fn line(self, bytes: &[u8]) -> usize
+        ensures { result ≡ line_at self.offset bytes.now }
+    {
+        let before = self.before(bytes);
+        1 + before.iter().filter(|byte| **byte == b'\n').count()
+    }
+
+    /// Returns the column of the byte there, or of the last byte if the bytes end, counted from 1.
+    pub fn column(self, bytes: &[u8]) -> usize
+        ensures { result ≡ column_at self.offset bytes.now }
+    {
+        let line = self.before(bytes).iter().rev();
+        1 + line.take_while(|byte| **byte != b'\n').count()
+    }
+
+    /// Returns the end of a message, after the name of the error: the column and the rule.
+    ///
+    /// # Errors
+    ///
+    /// `AllocError` if an allocation fails.
+    pub fn message(self, alloc: Global, bytes: &[u8]) -> Result<String, AllocError>
+        ensures { IfOk result (λ full_message. string_bytes full_message ≡ column_and_rule (column_at self.offset bytes.now) self.rule) }
+    {
+        let column = self.column(bytes);
+        let rule = self.rule.message();
+        format!(in alloc; " at column {column} ({rule})")
+    }
+
+    // The bytes before it, which are not all.
+    fn before(self, bytes: &[u8]) -> &[u8]
+        ensures { result.now ≡ bytes_before self.offset bytes.now }
+    {
+        &bytes[..self.offset.min(bytes.len().saturating_sub(1))]
+    }
+}
+
+// Finds the offset at which the text is not JSON.
+fn find_syntax_error(alloc: Global, text: &str) -> Result<SyntaxError, AllocError>
+    ensures grammar { IfOk result (λ syntax_error. IsTrue syntax_error.is_number ↔ HasGrammar text.now × IsNotJsonText text.now) }
+    ensures rule { IfOk result (λ syntax_error. BreaksRule text.now syntax_error.rule) }
+{
+    let mut scratch = Scratch::new(alloc);
+    let mut reader = Reader::new(text, &mut scratch)?;
+    if reader.skip_value(MAX_DEPTH).is_err() {
+        let offset = reader.offset();
+        return Ok(SyntaxError {
+            offset,
+            is_number: false,
+            rule: find_broken_rule(text, &mut scratch)?,
+        });
+    }
+    if let Some(_) = reader.next() {
+        return Ok(SyntaxError {
+            offset: reader.offset(),
+            is_number: false,
+            rule: Rule::TrailingData,
+        });
+    }
+    if has_tree(alloc, text)? {
+        return Ok(SyntaxError {
+            offset: 0,
+            is_number: false,
+            rule: Rule::RewrittenDepth,
+        });
+    }
+    Ok(SyntaxError {
+        offset: number_out_of_range(text, &mut scratch)?,
+        is_number: true,
+        rule: Rule::OutOfRange,
+    })
+}
+
+// Whether a text is that of a tree: it has the grammar of JSON, and its numbers are in range.
+fn has_tree(alloc: Global, text: &str) -> Result<bool, AllocError>
+    ensures yes { IfOk result (λ has. IsTrue has → HasTree text.now) }
+    ensures no { IfOk result (λ has. has ≡ false → IsNotJsonText text.now) }
+{
+    match normalize_text(alloc, Arrangement::FirstPositions, text) {
+        Ok(_) => Ok(true),
+        Err(json::Error::Invalid) => Ok(false),
+        Err(_) => Err(AllocError),
+    }
+}
+
+// Returns the offset of the first number that has no finite double, or 0 if there is none.
+fn number_out_of_range(text: &str, scratch: &mut Scratch) -> Result<usize, AllocError> {
+    let mut reader = Reader::new(text, scratch)?;
+    let mut following = 0usize;
+    while let Some(token) = reader.next() {
+        if is_out_of_range(token) {
+            return Ok(following.saturating_add(blanks(text.as_bytes(), following)));
+        }
+        following = reader.offset();
+    }
+    Ok(0)
+}
+
+fn is_out_of_range(token: Token<'_>) -> bool {
+    matches!(token, Token::Number(digits) if number(digits).is_none())
+}
+
+// Counts the bytes from there on before a number.
+fn blanks(bytes: &[u8], from: usize) -> usize {
+    let is_digit = |byte: &u8| *byte == b'-' || byte.is_ascii_digit();
+    bytes
+        .iter()
+        .skip(from)
+        .take_while(|byte| !is_digit(*byte))
+        .count()
+}
