@@ -2,20 +2,20 @@
 //!
 //! `get` looks up by key, `insert` puts and takes, `entry` is the place of one key, `by_index` is the
 //! pair at one place, and `iter` walks the pairs. The typed look-ups stand in `getters`.
+mod by_index;
 mod entry;
 mod get;
 mod getters;
 mod insert;
 mod iter;
-mod by_index;
 
 use crate::bson::Bson;
 use bson_store::SmallPairs;
+pub use by_index::PlaceMut;
 pub use entry::{Entry, OccupiedEntry, VacantEntry};
 pub use getters::{ValueAccessError, ValueAccessResult};
 pub use insert::Refused;
 pub use iter::{IntoIter, Iter, Keys, Values};
-pub use by_index::PlaceMut;
 use std::alloc::Global;
 
 /// A document of BSON 1.1: a list of pairs of a key and a value, in the order in which the keys

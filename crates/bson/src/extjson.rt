@@ -6,6 +6,7 @@
 //! keys), which has `without_allocation` for scalars whose text is made where it is written;
 //! `text_reader` (values from texts) with `text_error`; `bson_writer` (values in memory, made as a
 //! text is read).
+mod bson_writer;
 mod builder;
 pub mod de;
 mod key_order;
@@ -13,10 +14,9 @@ mod options;
 mod read;
 pub(crate) mod scalars;
 mod ser;
-mod text_writer;
 mod text_error;
 mod text_reader;
-mod bson_writer;
+mod text_writer;
 mod without_allocation;
 mod write;
 

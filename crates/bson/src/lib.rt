@@ -12,15 +12,15 @@ mod bson;
 mod clone;
 mod conversions;
 mod debug;
+mod display;
 pub mod document;
 mod element_type;
+mod equality;
 pub mod extjson;
 mod hash;
 mod kinds;
 mod pretty;
-mod equality;
 mod scalar;
-mod display;
 pub mod store;
 
 pub use bson::{Array, Bson, JavaScriptCodeWithScope};

@@ -6,31 +6,31 @@
 //! or as text (`text_sink`). `raw_document` has documents that remain bytes.
 #![tactic(auto)]
 
-pub mod typed_getters;
-pub mod raw_document;
-pub mod raw_element;
+pub mod duplicate_keys;
 pub mod error;
 pub mod fault;
 pub mod find_key;
 pub mod fixed_scalar;
-pub mod raw_iter;
-pub mod duplicate_keys;
 pub mod laws;
 pub mod nothing_sink;
-pub mod read_parts;
-pub mod write_parts;
+pub mod raw_document;
+pub mod raw_element;
+pub mod raw_iter;
 pub mod raw_read;
+pub mod raw_value;
+pub mod read_parts;
 mod read_scalars;
 pub mod sink;
 mod skip_value;
 pub mod source;
 pub mod stop;
 pub mod text_sink;
-pub mod raw_value;
+pub mod typed_getters;
+pub mod write_parts;
 
-pub use typed_getters::{ValueAccessError, ValueAccessResult};
 pub use raw_document::{RawArray, RawDocument};
 pub use raw_iter::{RawArrayIter, RawIter};
 pub use raw_value::{
     RawBinaryRef, RawBsonRef, RawDbPointerRef, RawJavaScriptCodeWithScopeRef, RawRegexRef,
 };
+pub use typed_getters::{ValueAccessError, ValueAccessResult};

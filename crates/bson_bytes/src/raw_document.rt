@@ -3,9 +3,9 @@ ghost use Rattle.std.specs.Prelude.{◌≡◌, true};
 ghost use Rattle.std.specs.Result.{is_ok};
 ghost use Rattle.bson_bytes.specs.Reading.{read_first_document};
 
-use crate::raw_element::document_bytes;
 use crate::fault::Fault;
 use crate::nothing_sink;
+use crate::raw_element::document_bytes;
 
 /// A document that remains its bytes, which were validated once. It borrows the bytes and copies
 /// nothing.

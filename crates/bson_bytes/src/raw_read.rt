@@ -13,13 +13,14 @@ ghost use Rattle.bson_bytes.specs.ReadElements.{without_rest};
 ghost use Rattle.bson_bytes.specs.NestedValues.{IsNested, is_nested_type};
 ghost use Rattle.bson_bytes.specs.RawView.{raw_view};
 
-use crate::raw_document::{RawArray, RawDocument};
 use crate::fault::{Fault, FaultKind, fault_at};
-use crate::read_parts::{
-    read_byte, read_bytes, read_name, read_16_bytes, read_length, read_string, read_12_bytes, read_u32, read_u64,
-};
+use crate::raw_document::{RawArray, RawDocument};
 use crate::raw_value::{
     RawBinaryRef, RawBsonRef, RawDbPointerRef, RawJavaScriptCodeWithScopeRef, RawRegexRef,
+};
+use crate::read_parts::{
+    read_12_bytes, read_16_bytes, read_byte, read_bytes, read_length, read_name, read_string,
+    read_u32, read_u64,
 };
 use bson_decimal::Decimal128;
 use bson_types::datetime::DateTime;

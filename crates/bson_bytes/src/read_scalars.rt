@@ -10,7 +10,8 @@ ghost use Rattle.bson_bytes.specs.Source.{ReadsTo};
 use crate::fault::FaultKind;
 use crate::fixed_scalar::FixedScalar;
 use crate::read_parts::{
-    read_byte, read_bytes, read_name, read_16_bytes, read_length, read_string, read_12_bytes, read_u32, read_u64,
+    read_12_bytes, read_16_bytes, read_byte, read_bytes, read_length, read_name, read_string,
+    read_u32, read_u64,
 };
 use crate::sink::ValueSink;
 use crate::stop::{Stop, fault_at};

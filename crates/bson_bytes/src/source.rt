@@ -7,10 +7,11 @@ ghost use Rattle.bson_bytes.specs.Source.{ReadsTo, ReadsAllTo, earlier_keys};
 
 use crate::fault::FaultKind;
 use crate::fixed_scalar::FixedScalar;
-use crate::read_parts::{read_byte, type_of_tag, read_length, read_string};
+use crate::read_parts::{read_byte, read_length, read_string, type_of_tag};
 use crate::read_scalars::{
-    read_empty_value, read_binary, read_boolean, read_code, read_date, read_decimal, read_double, read_object_id, read_int32,
-    read_int64, read_pointer, read_regex, read_string_value, read_symbol, read_timestamp,
+    read_binary, read_boolean, read_code, read_date, read_decimal, read_double, read_empty_value,
+    read_int32, read_int64, read_object_id, read_pointer, read_regex, read_string_value,
+    read_symbol, read_timestamp,
 };
 use crate::sink::ValueSink;
 use crate::stop::{Stop, fault_at};

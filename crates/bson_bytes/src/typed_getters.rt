@@ -8,8 +8,8 @@ ghost use Rattle.bson_bytes.specs.TypedGetters.{array_value, binary_of, boolean_
 ghost use Rattle.bson_bytes.specs.TypedGetters.{int32_value, int64_value, object_id_value, regex_of, string_value, timestamp_value};
 ghost use Rattle.bson_bytes.specs.TypedGetters.{binary_parts, regex_parts, timestamp_parts};
 
-use crate::raw_document::{RawArray, RawDocument};
 use crate::find_key::find;
+use crate::raw_document::{RawArray, RawDocument};
 use crate::raw_read::read_valid_value;
 use crate::raw_value::{RawBinaryRef, RawBsonRef, RawRegexRef};
 use bson_decimal::Decimal128;

@@ -9,12 +9,12 @@ ghost use Rattle.bson.specs.View.{document_view};
 ghost use Rattle.bson_codec.specs.ReadErrors.{IsReadFault, IsFaultWithoutMemory, IsInBytes, error_with_offset};
 ghost use Rattle.bson_codec.specs.declared.de.Error.TheVariants as errors;
 
-use crate::read_to_memory::{read_first_document, read_document};
+use crate::read_to_memory::{read_document, read_first_document};
 use crate::ser;
 use crate::ser::to_vec;
 use bson::Document;
-pub use bson_bytes::fault::FaultKind;
 pub use bson_bytes::duplicate_keys::DuplicateKeys;
+pub use bson_bytes::fault::FaultKind;
 use bson_bytes::nothing_sink;
 use bson_bytes::stop::Stop;
 use std::alloc::{AllocError, Global};

@@ -7,7 +7,7 @@ ghost use Rattle.bson_text.specs.TraversalErrors.{MayFail};
 use crate::put_scalars::{put_scalar, type_of};
 use bson_bytes::error::Error;
 use bson_bytes::read_parts::has_no_nul;
-use bson_bytes::write_parts::{put_end, put_length, put_name, put_length_placeholder, put_text};
+use bson_bytes::write_parts::{put_end, put_length, put_length_placeholder, put_name, put_text};
 use bson_scalar::scalar::Scalar;
 use bson_text::distinct_keys::are_distinct;
 use bson_text::traversal_error::Stop;

@@ -9,14 +9,14 @@ mod element_writer;
 pub mod laws;
 pub mod pack;
 mod pair_list;
+mod put_scalars;
+mod put_values;
 mod read_to_memory;
 pub mod run_end;
-mod put_scalars;
 pub mod ser;
 pub mod stream;
 pub mod text;
 mod value_sink;
-mod put_values;
 
 pub use de::{
     ReadOptions, from_bytes, from_slice, front, front_of_bytes, is_canonical, is_document,

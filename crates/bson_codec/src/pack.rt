@@ -4,8 +4,8 @@ ghost use Rattle.bson_codec.specs.PackedText.{IsPackedText};
 
 use crate::element_writer::ElementWriter;
 use bson_scalar::form::Doubles;
-use bson_text::traversal_error::TraversalError;
 use bson_text::traversal::write_document_text;
+use bson_text::traversal_error::TraversalError;
 use bson_tokens::arrangement::Arrangement;
 use bson_tokens::normalize::normalize_text;
 use json::Scratch;

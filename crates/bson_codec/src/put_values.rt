@@ -9,8 +9,8 @@ ghost use Rattle.bson_model.specs.Value.{array};
 use crate::ser::Result;
 use bson::{Bson, Document, JavaScriptCodeWithScope};
 use bson_bytes::write_parts::{
-    put_binary, put_end, put_key, put_length, put_name, put_pointer, put_regex, put_length_placeholder, put_text,
-    put_timestamp, put_u32, put_u64,
+    put_binary, put_end, put_key, put_length, put_length_placeholder, put_name, put_pointer,
+    put_regex, put_text, put_timestamp, put_u32, put_u64,
 };
 use bson_types::spec::ElementType;
 use itoa::Buffer;

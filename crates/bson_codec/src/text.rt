@@ -7,7 +7,7 @@ ghost use Rattle.bson_codec.specs.DocumentText.{IsDocumentTextOf};
 ghost use Rattle.bson_codec.specs.declared.de.Error.TheVariants as errors;
 ghost use Rattle.bson_model.specs.Value.{Pairs};
 
-use crate::de::{Error, from_slice, add_offset};
+use crate::de::{Error, add_offset, from_slice};
 use bson::Bson;
 use bson::extjson::{Doubles, Form, KeyOrder, Options, WriteError};
 use bson_bytes::stop::Stop;

@@ -2,8 +2,8 @@
 ghost use Rattle.std.specs.Prelude.{◌≡◌, ◌≢◌, MatchBool};
 ghost use Rattle.bson_convert.specs.Messages.{fault_kind, error_message};
 
-use crate::fault::Fault;
 use crate::encode_error::NoBytes;
+use crate::fault::Fault;
 use bson_tree::place::{Place, Reason};
 
 /// Why a conversion failed.

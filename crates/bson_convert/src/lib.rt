@@ -10,13 +10,13 @@
 #![tactic(auto)]
 
 pub mod canonical;
-pub mod convert;
 pub mod conversion_attempt;
+pub mod convert;
+pub mod encode_error;
 pub mod error;
 pub mod fault;
 pub mod laws;
 pub mod mode;
-pub mod encode_error;
 pub mod program;
 pub mod run;
 pub mod stream;

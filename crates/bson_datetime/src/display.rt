@@ -105,12 +105,22 @@ impl fmt::Display for CivilText {
 
     fn fmt<W: fmt::Write>(&self, f: &mut fmt::Formatter<W>) -> fmt::Result {
         let at = self.at.to_plain();
-        let year = Year { value: at.date.year };
-        let month = TwoDigits { value: at.date.month };
+        let year = Year {
+            value: at.date.year,
+        };
+        let month = TwoDigits {
+            value: at.date.month,
+        };
         let day = TwoDigits { value: at.date.day };
-        let hour = Hour { value: at.time.hour };
-        let minute = TwoDigits { value: at.time.minute };
-        let second = TwoDigits { value: at.time.second };
+        let hour = Hour {
+            value: at.time.hour,
+        };
+        let minute = TwoDigits {
+            value: at.time.minute,
+        };
+        let second = TwoDigits {
+            value: at.time.second,
+        };
         let fraction = Fraction {
             value: (at.time.subsec_nanosecond / 1_000_000) as u16,
         };

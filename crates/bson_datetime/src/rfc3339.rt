@@ -103,7 +103,10 @@ fn time_part(input: &[u8]) -> Option<(u32, &[u8])>
     let (minute, input) = two_digits_below(input, 60)?;
     let input = after_byte(input, b':')?;
     let (second, input) = two_digits_below(input, 60)?;
-    Some((hour as u32 * 3600 + minute as u32 * 60 + second as u32, input))
+    Some((
+        hour as u32 * 3600 + minute as u32 * 60 + second as u32,
+        input,
+    ))
 }
 
 // The nanoseconds of the digits of a fraction, of which nine count.

@@ -24,7 +24,10 @@ impl<'a> Digits<'a> {
     pub(crate) fn new(integer_digits: &'a [u8], fraction: &'a [u8]) -> Digits<'a>
         ensures { result ≡ integer_digits.now ++ fraction.now }
     {
-        Digits { integer_digits, fraction }
+        Digits {
+            integer_digits,
+            fraction,
+        }
     }
 
     pub(crate) fn len(&self) -> usize

@@ -62,7 +62,11 @@ impl FromStr for Decimal128 {
             return Ok(Decimal128::from_bytes((sign_bit(negative) + number).to_le_bytes()));
         }
         let (coefficient, stored_exponent) = finite(rest)?;
-        Ok(Decimal128::from_bytes(encoded_finite(negative, coefficient, stored_exponent).to_le_bytes()))
+        Ok(Decimal128::from_bytes(encoded_finite(
+            negative,
+            coefficient,
+            stored_exponent,
+        ).to_le_bytes()))
     }
 }
 
@@ -220,7 +224,10 @@ fn coefficient_and_exponent(digits: Digits, exponent: usize) -> Result<(u128, u1
     let (digits, exponent) = raise_to_least(digits, exponent)?;
     let zeros = zeros_to_add(&digits, exponent)?;
     let coefficient = coefficient(&digits, zeros, has_digit)?;
-    Ok((coefficient, (exponent.min(SHIFTED_GREATEST) - SHIFTED_LEAST) as u16))
+    Ok((
+        coefficient,
+        (exponent.min(SHIFTED_GREATEST) - SHIFTED_LEAST) as u16,
+    ))
 }
 
 // Whether this byte continues a character in UTF-8.

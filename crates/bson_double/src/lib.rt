@@ -9,6 +9,7 @@
 #![tactic(auto)]
 
 mod compare;
+mod format;
 pub mod laws;
 mod limbs;
 mod nearest;
@@ -16,7 +17,6 @@ mod parse;
 mod shortest;
 #[cfg(test)]
 mod tests;
-mod format;
 
-pub use parse::{DoubleError, double_of_text, is_finite};
 pub use format::double_text;
+pub use parse::{DoubleError, double_of_text, is_finite};

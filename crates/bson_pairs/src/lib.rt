@@ -8,8 +8,8 @@ ghost use Rattle.bson.specs.Same.{same};
 ghost use Rattle.bson.specs.Normal.{normal_form, as_read_back, plain};
 ghost use Rattle.bson.specs.Texts.{IsWriteErrorIn};
 
-pub mod round_trip;
 pub mod bytes;
+pub mod round_trip;
 pub mod second_conversion;
 
 use bson::Bson;

@@ -70,7 +70,11 @@ pub fn round_trip_text(alloc: Global, text: &str, depth: usize) -> Result<String
 }
 
 /// Converts bytes to a text, and that to bytes.
-pub fn round_trip_bytes(alloc: Global, bytes: &[u8], depth: usize) -> Result<Vec<u8>, RoundTripError>
+pub fn round_trip_bytes(
+    alloc: Global,
+    bytes: &[u8],
+    depth: usize,
+) -> Result<Vec<u8>, RoundTripError>
     // The canonical bytes of a document round-trip.
     ensures same { (ps : Pairs) → IsCanonical depth bytes.now ps → RoundTrips ps
         → IfOk result (λ round_trip. round_trip.items ≡ bytes.now) }

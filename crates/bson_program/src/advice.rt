@@ -10,19 +10,19 @@ use crate::hints::{has_content, split_line, starts_text};
 use crate::invocation::{Input, Invocation};
 use crate::progress::FIRST_BYTES;
 use crate::run::RunFailure;
-use crate::texts::{BYTE_ORDER_MARK, reads_several};
 use crate::single_text::accept;
+use crate::texts::{BYTE_ORDER_MARK, reads_several};
 use bson::extjson::{Doubles, Options};
 use bson_codec::run_end::RunFault;
 use bson_convert::conversion_attempt::refuse;
-use bson_convert::error::Error;
 use bson_convert::encode_error::NoBytes;
+use bson_convert::error::Error;
 use bson_json::sequence::split_text;
 use bson_run::lines::Counts;
-use bson_run::task::{Criterion, Preprocessing, Task};
 use bson_run::preprocessed::preprocess_text;
 use bson_run::rule::Rule;
 use bson_run::syntax_error;
+use bson_run::task::{Criterion, Preprocessing, Task};
 use bson_scalar::doubles::NUMBER_MESSAGE;
 use bson_tree::place::{Place, Reason};
 use std::alloc::Global;
@@ -71,7 +71,11 @@ pub fn advice_for(
     }
     match ended {
         Err(RunFailure::Text(_, _, _, _)) => {
-            first_advice(alloc, invocation, uncut(invocation.input, unmarked(first_bytes)))
+            first_advice(
+                alloc,
+                invocation,
+                uncut(invocation.input, unmarked(first_bytes)),
+            )
         }
         _ => None,
     }

@@ -5,7 +5,7 @@ ghost use Rattle.bson_program.specs.Invocation.{AllOptionsSupported, AreTwoFiles
 ghost use Rattle.bson_run.specs.declared.task.Task.{Task};
 
 use crate::arguments::ArgsSoFar;
-use crate::invocation::{Flag, Input, UsageError, Purpose, STANDARD};
+use crate::invocation::{Flag, Input, Purpose, STANDARD, UsageError};
 use bson_convert::mode::Mode;
 use bson_run::task::{Criterion, Task};
 

@@ -5,12 +5,13 @@ ghost use Rattle.bson_program.specs.Invocation.{command_of, input_of, is_text, I
 ghost use Rattle.bson_program.specs.Invocation.{IsRequestOf, IsWrongRequest, IsInitial, IsValueInArg, IsNumbered, IsStored, IsParsed, SetsOption, AcceptsArg};
 ghost use Rattle.bson_run.specs.TaskNames.{task_name};
 
-use crate::option_effects::{
-    option_without_value, doubles_of, first_preprocessed, with_criterion, requested_order, requested_preprocessing, set,
-};
 use crate::allowed_options::find_option_error;
 use crate::invocation::{
-    Command, Flag, Input, Invocation, UsageError, Purpose, Request, STANDARD, Wrong,
+    Command, Flag, Input, Invocation, Purpose, Request, STANDARD, UsageError, Wrong,
+};
+use crate::option_effects::{
+    doubles_of, first_preprocessed, option_without_value, requested_order, requested_preprocessing,
+    set, with_criterion,
 };
 use crate::option_values::{inputs_of, is_dashed, number, output_in};
 use bson::extjson::Options;

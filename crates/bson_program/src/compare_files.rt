@@ -1,9 +1,9 @@
 //! A comparison of the values of two files.
+use crate::compare_outputs::{Difference, compare_outputs, difference_line};
 use crate::invocation::{Input, Invocation, STANDARD};
 use crate::messages::show_name;
 use crate::progress::Progress;
 use crate::run::{RunFailure, run_one, total, try_input};
-use crate::compare_outputs::{Difference, compare_outputs, difference_line};
 use crate::streams::{Sink, Target};
 use bson_convert::error;
 use std::alloc::{AllocError, Global};

@@ -172,7 +172,10 @@ fn is_utf16_little_endian(first_bytes: &[u8]) -> bool
         return false;
     }
     let is_text = is_opening(first_bytes[0]) && first_bytes[2] != 0;
-    is_text && first_bytes[1] == 0 && first_bytes[3] == 0 && (first_bytes.len() < 6 || first_bytes[5] == 0)
+    is_text
+        && first_bytes[1] == 0
+        && first_bytes[3] == 0
+        && (first_bytes.len() < 6 || first_bytes[5] == 0)
 }
 
 // The same with the higher byte first.
@@ -193,7 +196,12 @@ fn is_dump(first_bytes: &[u8]) -> bool
     if first_bytes.len() < 5 {
         return false;
     }
-    let length = little_endian(first_bytes[0], first_bytes[1], first_bytes[2], first_bytes[3]);
+    let length = little_endian(
+        first_bytes[0],
+        first_bytes[1],
+        first_bytes[2],
+        first_bytes[3],
+    );
     is_document_length(length, first_bytes[4]) && ends_in_zero(length, first_bytes)
 }
 

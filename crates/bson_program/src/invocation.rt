@@ -6,7 +6,7 @@ ghost use Rattle.bson_run.specs.declared.task.Preprocessing.{Preprocessing};
 
 use crate::arguments::{ArgsSoFar, ParsedArg};
 use bson::extjson::Options;
-use bson_run::task::{OnRefusal, Task, InnerTask};
+use bson_run::task::{InnerTask, OnRefusal, Task};
 use std::alloc::{AllocError, Global};
 
 /// The name of standard input among the files that are read, and of standard output.

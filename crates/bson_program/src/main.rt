@@ -9,35 +9,35 @@
 #![tactic(auto)]
 
 mod advice;
+mod allowed_options;
 mod arguments;
-mod option_effects;
 mod compare_files;
+mod compare_outputs;
 mod digests;
 mod dump;
-mod allowed_options;
+mod help_text;
 mod hints;
 mod invocation;
 mod messages;
-mod usage_error;
+mod option_effects;
+mod option_values;
 mod output;
 mod progress;
 mod rejection_hint;
 mod run;
-mod compare_outputs;
+mod single_text;
 mod streams;
 mod texts;
-mod option_values;
-mod single_text;
-mod help_text;
+mod usage_error;
 
 use crate::compare_files::{compare_files, line_for};
+use crate::help_text::{OUT_OF_MEMORY, VERSION, help_of, usage_of};
 use crate::invocation::{
-    Command, Invocation, UsageError, Purpose, Request, STANDARD, Wrong, parse_arguments,
+    Command, Invocation, Purpose, Request, STANDARD, UsageError, Wrong, parse_arguments,
 };
 use crate::messages::{failure_message, summary};
-use crate::usage_error::usage_error_line;
 use crate::run::{RunFailure, run};
-use crate::help_text::{OUT_OF_MEMORY, VERSION, help_of, usage_of};
+use crate::usage_error::usage_error_line;
 use bson_convert::fault::Fault;
 use bson_convert::program::{report_failure, words_given};
 use std::alloc::AllocError;
@@ -52,10 +52,8 @@ const NO_READER: u8 = 141;
 // nobody reads the output any more, and standard error shows nothing.
 fn main(rt: HostRuntime) -> ExitCode {
     match read_request(&rt) {
-        Ok(Request::Run(invocation)) if invocation.purpose == Purpose::Comparison => compare_invocation(
-            &rt,
-            &invocation,
-        ),
+        Ok(Request::Run(invocation)) if invocation.purpose == Purpose::Comparison =>
+            compare_invocation(&rt, &invocation),
         Ok(Request::Run(invocation)) => run_invocation(&rt, &invocation),
         Ok(Request::Help(command)) => print_text(&rt, help_of(command)),
         Ok(Request::Version) => print_text(&rt, VERSION),

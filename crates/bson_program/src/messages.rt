@@ -54,7 +54,9 @@ pub fn failure_message(alloc: Global, failure: RunFailure<'_>) -> Result<String,
             format!(in alloc; "bson: {name} is both an input and the output")
         }
         RunFailure::Terminal => String::from_str(alloc, TERMINAL),
-        RunFailure::Text(name, number, fault, place) => at_text(alloc, name, number, &fault, &place),
+        RunFailure::Text(name, number, fault, place) => at_text(
+            alloc, name, number, &fault, &place,
+        ),
         RunFailure::Document(name, end) => at_document(alloc, name, end),
     }
 }

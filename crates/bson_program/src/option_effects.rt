@@ -4,9 +4,9 @@ ghost use Rattle.std.specs.Prelude.{◌≡◌, true, if◌then◌else◌};
 ghost use Rattle.bson_program.specs.Invocation.{option_without_value, doubles_of, first_preprocessed, with_criterion, requested_order, requested_preprocessing};
 
 use crate::arguments::{Next, ParsedArg};
-use crate::invocation::{Flag, UsageError, Purpose};
+use crate::invocation::{Flag, Purpose, UsageError};
 use bson::extjson::{Doubles, KeyOrder};
-use bson_run::task::{Criterion, Preprocessing, Task, InnerTask};
+use bson_run::task::{Criterion, InnerTask, Preprocessing, Task};
 
 /// Sets what an option sets, unless it occurs twice.
 pub fn set(is_given: &mut bool, flag: Flag) -> ParsedArg

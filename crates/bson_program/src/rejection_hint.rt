@@ -7,8 +7,8 @@ use crate::advice::Advice;
 use crate::hints::{Hint, Rejected, hint_for};
 use crate::invocation::{Input, Invocation, Purpose, STANDARD};
 use crate::messages::show_name;
-use crate::usage_error::mode_arg;
 use crate::run::RunFailure;
+use crate::usage_error::mode_arg;
 use bson::extjson::{Doubles, KeyOrder};
 use bson_codec::run_end::RunFault;
 use bson_convert::error::Error;
@@ -179,7 +179,9 @@ fn write_hint(alloc: Global, hint: Hint, command: &str) -> Result<String, AllocE
             format!(in alloc; "has texts over several lines; './bson {command}' reads them")
         }
         Hint::LongTextsToEncode => {
-            format!(in alloc; "has texts over several lines; './bson {command}' makes a line of each")
+            format!(in alloc;
+                "has texts over several lines; './bson {command}' makes a line of each"
+            )
         }
         Hint::Gzip => String::from_str(alloc, "is compressed; give it through 'gzip -dc'"),
         Hint::Zstd => String::from_str(alloc, "is compressed; give it through 'zstd -dc'"),

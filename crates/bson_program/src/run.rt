@@ -10,7 +10,7 @@ use crate::dump::run_dump;
 use crate::invocation::{Input, Invocation, STANDARD};
 use crate::messages::message_prefix;
 use crate::output::Output;
-use crate::progress::{CountingReader, Progress, DiagnosticsWriter};
+use crate::progress::{CountingReader, DiagnosticsWriter, Progress};
 use crate::rejection_hint::{is_rejected, rejection_help};
 use crate::streams::{Sink, Source};
 use crate::texts::convert_texts;
@@ -141,7 +141,13 @@ pub fn run_one<'a>(
             report.has_double,
             &ended,
         );
-        if let Some(hint) = rejection_help(rt.alloc(), invocation, name, &reader.first_bytes, advice) {
+        if let Some(hint) = rejection_help(
+            rt.alloc(),
+            invocation,
+            name,
+            &reader.first_bytes,
+            advice,
+        ) {
             let _ = hints.push(hint);
         }
     }

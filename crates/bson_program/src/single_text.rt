@@ -10,15 +10,15 @@ ghost use Rattle.bson_program.specs.SingleText.{WritesPreprocessed, checked_part
 use crate::invocation::Invocation;
 use bson::extjson::{Form, Options};
 use bson_convert::canonical::check_canonical;
-use bson_convert::convert::convert_sorted;
 use bson_convert::conversion_attempt::refuse;
+use bson_convert::convert::convert_sorted;
 use bson_convert::error::Error;
 use bson_convert::mode::Mode;
 use bson_run::accepted::Accepted;
 use bson_run::encode::encode;
 use bson_run::indented::convert_indented;
-use bson_run::task::{Criterion, Task, InnerTask};
 use bson_run::preprocessed::preprocess_text;
+use bson_run::task::{Criterion, InnerTask, Task};
 use std::alloc::Global;
 
 /// From so many bytes on the memory of a text counts for more than a walk over it.
@@ -120,7 +120,12 @@ fn check(
 }
 
 // Judges a text by a criterion. A canonical text may have a newline at its end.
-fn check_criterion(alloc: Global, options: Options, criterion: Criterion, bytes: &[u8]) -> Result<(), Error>
+fn check_criterion(
+    alloc: Global,
+    options: Options,
+    criterion: Criterion,
+    bytes: &[u8],
+) -> Result<(), Error>
     ensures ok { OnOk result (ChecksIn options criterion (checked_part criterion bytes.now)) }
     ensures fault { IfErr result (λ fault. IsCheckFailure options criterion fault bytes.now) }
 {

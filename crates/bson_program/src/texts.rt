@@ -16,8 +16,8 @@ use bson_convert::stream::read_whole;
 use bson_json::sequence::split_text;
 use bson_run::accepted::Accepted;
 use bson_run::explain::explain_under;
-use bson_run::task::{Criterion, Task};
 use bson_run::syntax_error;
+use bson_run::task::{Criterion, Task};
 use std::alloc::{AllocError, Global};
 use std::io::{Read, Write};
 

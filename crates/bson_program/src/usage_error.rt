@@ -8,10 +8,10 @@ ghost use Rattle.bson_convert.specs.Messages.{name_of_mode};
 ghost use Rattle.bson_run.specs.TaskNames.{task_name};
 ghost use Rattle.bson_run.specs.declared.task.Task.{Task};
 
-use crate::invocation::{Command, Flag, UsageError, Purpose, Wrong};
+use crate::invocation::{Command, Flag, Purpose, UsageError, Wrong};
 use crate::messages::escape_name;
 use bson_convert::mode::Mode;
-use bson_run::task::{Criterion, Task, InnerTask};
+use bson_run::task::{Criterion, InnerTask, Task};
 use std::alloc::{AllocError, Global};
 
 /// Returns the line that names what is wrong with the arguments.
@@ -28,7 +28,9 @@ pub fn usage_error_line(alloc: Global, wrong: &Wrong) -> Result<String, AllocErr
             format!(in alloc; "bson: {name} is given twice")
         }
         UsageError::NoValue(flag) => no_value(alloc, flag),
-        UsageError::UnsupportedOption(flag, purpose, task) => unsupported_option(alloc, command, flag, purpose, task),
+        UsageError::UnsupportedOption(flag, purpose, task) => unsupported_option(
+            alloc, command, flag, purpose, task,
+        ),
         UsageError::NoMode => {
             let kind = kind_of_arg(command);
             format!(in alloc; "bson: no {kind} is given")

@@ -1,7 +1,7 @@
 //! `uuid CALL ARGS` and `binary CALL ARGS`: UUIDs, base64, and binaries that hold UUIDs.
+use crate::arguments::{parse_16_bytes, parse_byte, parse_bytes, split_at_space};
+use crate::row_error::{CallError, RowError, RowResult};
 use crate::row_output::RowOutput;
-use crate::row_error::{RowResult, CallError, RowError};
-use crate::arguments::{parse_byte, parse_bytes, split_at_space, parse_16_bytes};
 use bson::Bson;
 use bson::binary::Binary;
 use bson::spec::BinarySubtype;
@@ -110,7 +110,12 @@ pub(crate) fn call(alloc: Global, rest: &str, out: &mut RowOutput) -> RowResult 
     }
 }
 
-fn base64(alloc: Global, subtype: Option<BinarySubtype>, text: &str, out: &mut RowOutput) -> RowResult {
+fn base64(
+    alloc: Global,
+    subtype: Option<BinarySubtype>,
+    text: &str,
+    out: &mut RowOutput,
+) -> RowResult {
     put_binary(Binary::from_base64(alloc, text, subtype), out);
     Ok(())
 }

@@ -1,8 +1,8 @@
 //! `bytes CALL ARGS`: documents from BSON bytes and to them.
+use crate::arguments::{parse_bytes, parse_number, split_at_space};
+use crate::row_error::{RowError, RowResult};
 use crate::row_output::RowOutput;
 use crate::row_values::parse_document;
-use crate::row_error::{RowResult, RowError};
-use crate::arguments::{parse_bytes, split_at_space, parse_number};
 use bson::Document;
 use bson::extjson::{Doubles, Form, KeyOrder, Options};
 use bson_codec::de::{
@@ -54,7 +54,10 @@ fn nested(alloc: Global, name: &str, text: &str, out: &mut RowOutput) -> RowResu
     let bytes = parse_bytes(alloc, bytes)?;
     let bytes = bytes.as_slice();
     if name == "once_nested" {
-        let options = ReadOptions { depth, ..rejecting_duplicates() };
+        let options = ReadOptions {
+            depth,
+            ..rejecting_duplicates()
+        };
         out.write_result(from_bytes(alloc, options, bytes));
     } else {
         out.write_result(from_slice(alloc, bytes, depth));

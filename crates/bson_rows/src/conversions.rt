@@ -1,8 +1,8 @@
 //! `from KIND ARG`: the value that a conversion makes, by its element type and as it is shown.
+use crate::arguments::{parse_16_bytes, parse_number, split_at_space};
+use crate::row_error::{RowError, RowResult};
 use crate::row_output::RowOutput;
 use crate::row_values::{parse_document, parse_value};
-use crate::row_error::{RowResult, RowError};
-use crate::arguments::{split_at_space, parse_number, parse_16_bytes};
 use bson::{Array, Bson, DateTime, Decimal128, JavaScriptCodeWithScope, Regex};
 use std::alloc::{AllocError, Global};
 
@@ -39,8 +39,14 @@ fn of_text(alloc: Global, name: &str, text: &str, out: &mut RowOutput) -> RowRes
         "i64" => put(Bson::from(parse_number::<i64>(text)?), out),
         "u32" => put(Bson::from(parse_number::<u32>(text)?), out),
         "bool" => put(Bson::from(text == "true"), out),
-        "date" => put(Bson::from(DateTime::from_millis(parse_number::<i64>(text)?)), out),
-        "decimal" => put(Bson::from(Decimal128::from_bytes(parse_16_bytes(text)?)), out),
+        "date" => put(
+            Bson::from(DateTime::from_millis(parse_number::<i64>(text)?)),
+            out,
+        ),
+        "decimal" => put(
+            Bson::from(Decimal128::from_bytes(parse_16_bytes(text)?)),
+            out,
+        ),
         "String" => put(Bson::from(String::from_str(alloc, text)?), out),
         "nothing" => put(Bson::from_option(None), out),
         "default" => put(Bson::default(), out),
@@ -100,7 +106,11 @@ fn of_regex(alloc: Global, text: &str, out: &mut RowOutput) -> RowResult {
 }
 
 /// Puts the value of a copy, and before it whether it is another one.
-fn put_copy<T: PartialEq + Drop>(value: T, copy: Result<T, AllocError>, out: &mut RowOutput) -> RowResult
+fn put_copy<T: PartialEq + Drop>(
+    value: T,
+    copy: Result<T, AllocError>,
+    out: &mut RowOutput,
+) -> RowResult
 where
     Bson: From<T>,
 {

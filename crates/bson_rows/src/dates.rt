@@ -1,7 +1,7 @@
 //! `date CALL ARGS`: the calls of dates. A moment is a number of milliseconds, MIN or MAX.
+use crate::arguments::{parse_number, split_at_colon, split_at_space};
+use crate::row_error::{RowError, RowResult};
 use crate::row_output::RowOutput;
-use crate::row_error::{RowResult, RowError};
-use crate::arguments::{split_at_space, split_at_colon, parse_number};
 use bson::DateTime;
 use bson::datetime::{DateTimeBuilder, Day, Month, Year};
 use std::alloc::Global;

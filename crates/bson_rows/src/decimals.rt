@@ -1,7 +1,7 @@
 //! `decimal read TEXT`, `decimal bits TEXT`, `decimal print BYTES`: decimals of 128 bits.
+use crate::arguments::{parse_16_bytes, split_at_space};
+use crate::row_error::{RowError, RowResult};
 use crate::row_output::RowOutput;
-use crate::row_error::{RowResult, RowError};
-use crate::arguments::{split_at_space, parse_16_bytes};
 use bson::Decimal128;
 
 pub(crate) fn call(rest: &str, out: &mut RowOutput) -> RowResult {

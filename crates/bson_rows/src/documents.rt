@@ -6,9 +6,9 @@
 //! `values`.
 //!
 //! `entries KEY:N ..` is the document of the entries.
+use crate::arguments::{parse_number, split_at_colon};
+use crate::row_error::{RowError, RowResult};
 use crate::row_output::RowOutput;
-use crate::row_error::{RowResult, RowError};
-use crate::arguments::{split_at_colon, parse_number};
 use bson::document::Entry;
 use bson::store::Pair;
 use bson::{Bson, Document};
@@ -73,8 +73,18 @@ fn run_with_number(
     match name {
         "insert" => insert(alloc, document, key, parse_number::<i32>(value)?, out),
         "write" => write_value(document, key, parse_number::<i32>(value)?, out),
-        "place" => write_place(document, parse_number::<usize>(key)?, parse_number::<i32>(value)?, out),
-        "write_at" => write_at(document, parse_number::<usize>(key)?, parse_number::<i32>(value)?, out),
+        "place" => write_place(
+            document,
+            parse_number::<usize>(key)?,
+            parse_number::<i32>(value)?,
+            out,
+        ),
+        "write_at" => write_at(
+            document,
+            parse_number::<usize>(key)?,
+            parse_number::<i32>(value)?,
+            out,
+        ),
         _ => of_entry(alloc, document, name, key, value, out),
     }
 }

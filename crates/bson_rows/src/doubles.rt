@@ -1,7 +1,7 @@
 //! `double text PATTERN` and `double read TEXT`: finite doubles as decimal texts.
+use crate::arguments::{parse_double_bits, split_at_space};
+use crate::row_error::{RowError, RowResult};
 use crate::row_output::RowOutput;
-use crate::row_error::{RowResult, RowError};
-use crate::arguments::{split_at_space, parse_double_bits};
 use bson_double::{double_of_text, double_text, is_finite};
 
 pub(crate) fn call(rest: &str, out: &mut RowOutput) -> RowResult {

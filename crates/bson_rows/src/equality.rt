@@ -1,8 +1,8 @@
 //! `same VALUE and VALUE`, `hash VALUE`.
-use crate::row_output::RowOutput;
 use crate::fnv::Fnv;
+use crate::row_error::{RowError, RowResult};
+use crate::row_output::RowOutput;
 use crate::row_values::parse_value;
-use crate::row_error::{RowResult, RowError};
 use bson::Bson;
 use std::alloc::Global;
 use std::hash::{Hash, Hasher};

@@ -1,9 +1,9 @@
 //! `error NAME`: the refusals that no call answers by the row's arguments alone, out of memory
 //! among them, and what is written of them in the row's style.
+use crate::arguments::{parse_number, split_at_space};
+use crate::row_error::{RowError, RowResult};
 use crate::row_output::RowOutput;
 use crate::row_values::parse_value;
-use crate::row_error::{RowResult, RowError};
-use crate::arguments::{split_at_space, parse_number};
 use bson::document::Refused;
 use bson::extjson::WriteError;
 use bson::store::Stopped;

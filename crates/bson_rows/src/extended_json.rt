@@ -1,10 +1,10 @@
 //! Trees that are read, and values that are written: `canonical`, `relaxed`, `show`, `map` and
 //! `pretty`. A rejected text is read by both readers.
+use crate::arguments::{parse_number, split_at_space};
+use crate::row_error::{RowError, RowResult};
 use crate::row_output::{RowOutput, Style};
 use crate::row_values::{parse_tree, parse_value};
 use crate::value_steps;
-use crate::row_error::{RowResult, RowError};
-use crate::arguments::{split_at_space, parse_number};
 use bson::extjson::WriteError;
 use bson::extjson::de::{Error, Result as Read, TextError};
 use bson::{Bson, Document};
@@ -152,7 +152,11 @@ fn put_pretty(alloc: Global, value: &Bson, indent: usize, out: &mut RowOutput) {
     }
 }
 
-fn put_both(text: Result<String, AllocError>, own: Result<String, AllocError>, out: &mut RowOutput) {
+fn put_both(
+    text: Result<String, AllocError>,
+    own: Result<String, AllocError>,
+    out: &mut RowOutput,
+) {
     let are_equal = text == own;
     out.write_result(text);
     if !are_equal {

@@ -1,11 +1,11 @@
 //! `finite CALL VALUE`: trees and texts that are read, and values that are written, where finite
 //! doubles are.
-use crate::row_output::RowOutput;
+use crate::arguments::split_at_space;
 use crate::extended_json::{put_written, text_of};
+use crate::row_error::{RowError, RowResult};
+use crate::row_output::RowOutput;
 use crate::row_values::parse_tree;
 use crate::value_steps;
-use crate::row_error::{RowResult, RowError};
-use crate::arguments::split_at_space;
 use bson::extjson::de::{Result as Read, TextError};
 use bson::extjson::{Doubles, Form, KeyOrder, Options};
 use bson::{Bson, Document};

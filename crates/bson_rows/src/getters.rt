@@ -1,9 +1,9 @@
 //! `get KEY DOCUMENT`: what each typed getter of the document answers at the key, by Debug; and
 //! `get_i32 KEY DOCUMENT`, the result of that one.
+use crate::arguments::split_at_space;
+use crate::row_error::RowResult;
 use crate::row_output::RowOutput;
 use crate::row_values::parse_document;
-use crate::row_error::RowResult;
-use crate::arguments::split_at_space;
 use bson::Document;
 use bson::document::{ValueAccessError, ValueAccessResult};
 use std::alloc::Global;

@@ -1,8 +1,8 @@
 //! `json TEXT`, `json wide TEXT`: whether a text is JSON. A wide text has a number out of range.
 //! `is_canonical TEXT`: whether a text is the canonical text of its value, with finite doubles.
 //! `check_canonical TEXT`: the same, and why it is not.
+use crate::row_error::{RowError, RowResult};
 use crate::row_output::RowOutput;
-use crate::row_error::{RowResult, RowError};
 use bson::extjson::{Doubles, KeyOrder, Options};
 use bson_convert::canonical::{check_canonical, is_canonical_text};
 use bson_convert::error::Error;

@@ -6,7 +6,7 @@
 //! for each subject.
 #![tactic(auto)]
 
-mod row_output;
+mod arguments;
 mod binaries;
 mod codec;
 mod conversions;
@@ -14,28 +14,28 @@ mod dates;
 mod decimals;
 mod documents;
 mod doubles;
+mod equality;
 mod errors;
 mod extended_json;
 mod finite_doubles;
 mod fnv;
 mod getters;
-mod row_values;
-mod object_ids;
 mod json_checks;
-mod value_accessors;
+mod object_ids;
 mod ordered_keys;
 mod row;
-mod small_types;
-mod value_steps;
 mod row_error;
+mod row_output;
+mod row_values;
+mod small_types;
 mod stores;
 mod type_tags;
-mod equality;
+mod value_accessors;
+mod value_steps;
 mod vectors;
-mod arguments;
 
-use row_output::RowOutput;
 use row::run_row;
+use row_output::RowOutput;
 use std::io;
 
 /// The longest output line that is written without an allocation.

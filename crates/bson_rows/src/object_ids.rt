@@ -1,7 +1,7 @@
 //! `id CALL ARGS`: object ids.
+use crate::arguments::{parse_bytes, parse_number, split_at_space};
+use crate::row_error::{RowError, RowResult};
 use crate::row_output::RowOutput;
-use crate::row_error::{RowResult, RowError};
-use crate::arguments::{parse_bytes, split_at_space, parse_number};
 use bson::{DbPointer, ObjectId};
 use std::alloc::Global;
 

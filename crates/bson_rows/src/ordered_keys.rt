@@ -1,10 +1,10 @@
 //! `in_order FORM STEPS` and `in_order read TEXT`: values that are written in each document's own
 //! order of keys, and read in the order of the text.
-use crate::row_output::RowOutput;
-use crate::finite_doubles::put_text_read;
-use crate::value_steps;
-use crate::row_error::{RowResult, RowError};
 use crate::arguments::split_at_space;
+use crate::finite_doubles::put_text_read;
+use crate::row_error::{RowError, RowResult};
+use crate::row_output::RowOutput;
+use crate::value_steps;
 use bson::Bson;
 use bson::extjson::{Doubles, Form, KeyOrder, Options};
 use std::alloc::Global;

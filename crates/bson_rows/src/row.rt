@@ -1,10 +1,11 @@
 //! One row: dispatches its call by name.
-use crate::row_output::{RowOutput, Style};
-use crate::row_error::RowResult;
 use crate::arguments::split_at_space;
+use crate::row_error::RowResult;
+use crate::row_output::{RowOutput, Style};
 use crate::{
-    binaries, codec, conversions, dates, decimals, documents, doubles, errors, extended_json,
-    finite_doubles, getters, object_ids, json_checks, value_accessors, ordered_keys, small_types, stores, type_tags, equality, vectors,
+    binaries, codec, conversions, dates, decimals, documents, doubles, equality, errors,
+    extended_json, finite_doubles, getters, json_checks, object_ids, ordered_keys, small_types,
+    stores, type_tags, value_accessors, vectors,
 };
 use std::alloc::Global;
 

@@ -153,7 +153,10 @@ impl RowOutput {
     }
 
     /// Writes the result of a call.
-    pub(crate) fn write_result<T: Display + Debug + Drop, E: CallError>(&mut self, call_result: Result<T, E>) {
+    pub(crate) fn write_result<T: Display + Debug + Drop, E: CallError>(
+        &mut self,
+        call_result: Result<T, E>,
+    ) {
         match call_result {
             Ok(value) => self.write_value(&value),
             Err(error) => self.write_error(&error),
@@ -161,7 +164,10 @@ impl RowOutput {
     }
 
     /// Writes the result of a call, whose value has no Display.
-    pub(crate) fn write_debug_result<T: Debug + Drop, E: CallError>(&mut self, call_result: Result<T, E>) {
+    pub(crate) fn write_debug_result<T: Debug + Drop, E: CallError>(
+        &mut self,
+        call_result: Result<T, E>,
+    ) {
         match call_result {
             Ok(value) => self.write_debug_value(&value),
             Err(error) => self.write_error(&error),

@@ -1,6 +1,6 @@
 //! Parses the value that a row names: a JSON text that is read, or steps after `made`.
-use crate::value_steps;
 use crate::row_error::RowError;
+use crate::value_steps;
 use bson::extjson::de::Error;
 use bson::{Bson, Document};
 use serde_json::Value;

@@ -1,10 +1,10 @@
 //! `timestamp T,I`, `timestamp_order T,I T,I`, `regex PATTERN OPTIONS`, `code TEXT SCOPE`,
 //! `representation ORDER`: the kinds that are small structs, by themselves.
-use crate::row_output::RowOutput;
+use crate::arguments::{parse_number, split_at_space};
 use crate::binaries::order_of;
+use crate::row_error::{RowError, RowResult};
+use crate::row_output::RowOutput;
 use crate::row_values::parse_document;
-use crate::row_error::{RowResult, RowError};
-use crate::arguments::{split_at_space, parse_number};
 use bson::{JavaScriptCodeWithScope, Regex, Timestamp};
 use std::alloc::Global;
 

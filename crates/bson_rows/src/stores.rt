@@ -3,9 +3,9 @@
 //!
 //! Commands: `put:KEY:N`, `take:KEY`, `clear`; of `store` alone: `push:KEY:N`, `find:KEY`,
 //! `at:PLACE`, `write:PLACE:N`, `write_pair:PLACE:N`, `remove_at:PLACE`, `above:KEY`, `first`.
+use crate::arguments::{parse_number, split_at_colon, split_at_space};
+use crate::row_error::{RowError, RowResult};
 use crate::row_output::RowOutput;
-use crate::row_error::{RowResult, RowError};
-use crate::arguments::{split_at_space, split_at_colon, parse_number};
 use bson::store::{Command, IndexedPairs, PairStore, SmallPairs, replay};
 use bson_store::by_key;
 use bson_store::order::next_above;
@@ -93,7 +93,12 @@ fn push<S: PairStore<i32>>(store: &mut S, key: String, value: i32) -> RowResult 
 }
 
 /// The commands at a place.
-fn run_at<S: PairStore<i32>>(store: &mut S, name: &str, rest: &str, out: &mut RowOutput) -> RowResult {
+fn run_at<S: PairStore<i32>>(
+    store: &mut S,
+    name: &str,
+    rest: &str,
+    out: &mut RowOutput,
+) -> RowResult {
     let (place, value) = split_at_colon(rest);
     let at = parse_number::<usize>(place)?;
     if at >= store.len() {

@@ -1,7 +1,7 @@
 //! `tag BYTE`, `subtype BYTE`, `subtype own|reserved BYTE`: the tables of BSON 1.1.
-use crate::row_output::RowOutput;
-use crate::row_error::RowResult;
 use crate::arguments::{parse_byte, split_at_space};
+use crate::row_error::RowResult;
+use crate::row_output::RowOutput;
 use bson::spec::{BinarySubtype, ElementType};
 
 /// The element type of the tag, and its tag again.

@@ -1,7 +1,7 @@
 //! `kind VALUE`: the element type, and each accessor that answers, with what it answers, by Debug.
+use crate::row_error::RowResult;
 use crate::row_output::RowOutput;
 use crate::row_values::parse_value;
-use crate::row_error::RowResult;
 use crate::type_tags::put_element;
 use bson::Bson;
 use std::alloc::Global;

@@ -4,8 +4,10 @@
 //! `doc` and `list` begin an empty one; `put:KEY` and `add` put the topmost value into the document
 //! or the list below it; `scope:CODE` makes code of the document on top; each other step is a value
 //! of its kind.
+use crate::arguments::{
+    parse_16_bytes, parse_byte, parse_bytes, parse_double_bits, parse_number, split_at_colon,
+};
 use crate::row_error::RowError;
-use crate::arguments::{parse_byte, parse_bytes, split_at_colon, parse_number, parse_double_bits, parse_16_bytes};
 use bson::binary::Binary;
 use bson::spec::BinarySubtype;
 use bson::{Bson, DateTime, Decimal128, Document, JavaScriptCodeWithScope, Regex};

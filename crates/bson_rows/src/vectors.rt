@@ -1,8 +1,8 @@
 //! `vector CALL ARGS`: vectors and their bytes.
-use crate::row_output::RowOutput;
+use crate::arguments::{parse_bytes, parse_number, split_at_space};
 use crate::binaries::{binary_of, put_binary};
-use crate::row_error::{RowResult, RowError};
-use crate::arguments::{parse_bytes, split_at_space, parse_number};
+use crate::row_error::{RowError, RowResult};
+use crate::row_output::RowOutput;
 use bson::Bson;
 use bson::binary::{Binary, PackedBitVector, Result as Made, Vector};
 use std::alloc::Global;

@@ -7,8 +7,8 @@ ghost use Rattle.bson.specs.declared.extjson.key_order.KeyOrder.TheVariants.{Asc
 
 use crate::convert::{convert_whole_by, filter_once};
 use bson::extjson::{KeyOrder, Options};
-use bson_convert::convert::end_line;
 use bson_convert::conversion_attempt::{Attempt, normalize, refuse, try_text};
+use bson_convert::convert::end_line;
 use bson_convert::error::Error;
 use bson_convert::mode::Mode;
 use bson_tokens::arrangement::Arrangement;

@@ -8,8 +8,8 @@ ghost use Rattle.bson_convert.specs.Convert.{IsRejectedIn};
 ghost use Rattle.bson_run.specs.InOrder.{ConvertsBy, ConvertsInOrder, IsConvertedTextInOrder, IsFixedPointBy, IsFixedPointInOrder};
 
 use bson::extjson::{Form, KeyOrder, Options};
-use bson_convert::convert::{convert_line, convert_whole, end_line};
 use bson_convert::conversion_attempt::{normalize, refuse};
+use bson_convert::convert::{convert_line, convert_whole, end_line};
 use bson_convert::error::Error;
 use bson_convert::mode::Mode;
 use bson_text::filter::{filter_text, show_text_in_order};

@@ -4,11 +4,11 @@ ghost use Rattle.bson_tree.specs.Place.{path_text, path_of};
 ghost use Rattle.bson_run.specs.ErrorMessages.{IsExplanation, IsQuotedValue, IsReasonMessage, IsPositionMessage, column_message, path_message, escaped_message};
 ghost use Rattle.bson_run.specs.ErrorMessages.{explanation_message};
 
-use crate::task::{Preprocessing, Task};
 use crate::preprocessed::{DUPLICATE_KEY, preprocess_text};
 use crate::quoted_value::quote;
 use crate::shorten::shorten;
 use crate::syntax_error::SyntaxError;
+use crate::task::{Preprocessing, Task};
 use bson_convert::error::Error;
 use bson_tree::place::{Place, Reason, Segment};
 use std::alloc::{AllocError, Global};

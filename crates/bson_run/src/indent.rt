@@ -169,7 +169,12 @@ fn write_comma(out: &mut Vec<u8>, before: PreviousToken, begins: bool) -> Result
 }
 
 // Writes the white space between the last token and this one, after the comma.
-fn write_white_space(out: &mut Vec<u8>, before: PreviousToken, begins: bool, start: &[u8]) -> Result<(), AllocError>
+fn write_white_space(
+    out: &mut Vec<u8>,
+    before: PreviousToken,
+    begins: bool,
+    start: &[u8],
+) -> Result<(), AllocError>
     ensures { (indent : ℕ) → start.now ≡ line indent
         → OnOk result (out.new.items ≡ out.old.items ++ white_space (last_of before) begins indent) }
 {

@@ -14,17 +14,17 @@
 
 pub mod accepted;
 mod broken_rule;
-mod line_run_state;
 pub mod convert;
 pub mod encode;
 pub mod explain;
 pub mod indent;
 pub mod indented;
 pub mod laws;
+mod line_run_state;
 pub mod lines;
-pub mod task;
 pub mod preprocessed;
 mod quoted_value;
 pub mod rule;
 mod shorten;
 pub mod syntax_error;
+pub mod task;

@@ -17,8 +17,8 @@ ghost use Rattle.bson.specs.declared.extjson.options.Options.{Options};
 use crate::convert::convert_by;
 use crate::encode::encode_line;
 use crate::explain::explain_under;
-use crate::task::{Criterion, OnRefusal, Preprocessing, Task, InnerTask};
 use crate::preprocessed::preprocess_text;
+use crate::task::{Criterion, InnerTask, OnRefusal, Preprocessing, Task};
 use bson::extjson::Options;
 use bson_convert::canonical::check_canonical_line;
 use bson_convert::convert::convert_line;
@@ -168,7 +168,14 @@ fn run_inner_task(
     ensures fault { IfErr result (λ fault. IsRejectedIn options fault text.now) }
 {
     match inner_task {
-        InnerTask::Write(mode) => convert_by(alloc, options.key_order, options, mode, text, scratch),
+        InnerTask::Write(mode) => convert_by(
+            alloc,
+            options.key_order,
+            options,
+            mode,
+            text,
+            scratch,
+        ),
         InnerTask::Check => {
             convert_line(alloc, options, Mode::Canonical, text, scratch)?;
             Ok(Vec::new(alloc))
@@ -177,7 +184,12 @@ fn run_inner_task(
 }
 
 // Returns the diagnostic for a rejected line: its number, the message of the error, and the path.
-fn diagnostic_line(alloc: Global, number: u64, fault: &Error, place: &str) -> Result<String, AllocError>
+fn diagnostic_line(
+    alloc: Global,
+    number: u64,
+    fault: &Error,
+    place: &str,
+) -> Result<String, AllocError>
     ensures { IfOk result (λ diagnostics. string_bytes diagnostics ≡ diagnostic_at number fault.now place.now) }
 {
     let message = fault.message();
@@ -323,7 +335,8 @@ impl LineRunState {
     {
         let place = self.place(alloc, task, fault)?;
         let diagnostic_line = diagnostic_line(alloc, self.lines + 1, fault, &place)?;
-        self.diagnostics.extend_from_slice(diagnostic_line.as_bytes())
+        self.diagnostics
+            .extend_from_slice(diagnostic_line.as_bytes())
     }
 
     /// Reads bytes: each line that ends in them, and the beginning of the next.

@@ -25,7 +25,12 @@ pub(crate) fn shorten(
 }
 
 // Appends a character, or its escape if escapes are enabled.
-fn push_char(alloc: Global, shortened: &mut String, c: char, escapes: bool) -> Result<(), AllocError>
+fn push_char(
+    alloc: Global,
+    shortened: &mut String,
+    c: char,
+    escapes: bool,
+) -> Result<(), AllocError>
     ensures { OnOk result (string_bytes shortened.new ≡ string_bytes shortened.old ++ char_or_escape escapes c) }
 {
     if escapes {

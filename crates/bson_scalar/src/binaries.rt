@@ -17,10 +17,10 @@ ghost use Rattle.bson_scalar.specs.TreeParts.{object_of_one, object_of_two};
 ghost use Rattle.bson_scalar.specs.View.{scalar_view};
 
 use crate::error::Error;
+use crate::object_writer::{begin_object, end_object_of_one, write_two_texts_object};
 use crate::scalar::Scalar;
 use crate::sink::Sink;
 use crate::tree_parts::{are_bytes, expect, expect_string, expect_two_keys};
-use crate::object_writer::{begin_object, end_object_of_one, write_two_texts_object};
 use base64::engine::general_purpose::STANDARD;
 use bson_types::binary::{self, Binary};
 use bson_types::spec::BinarySubtype;

@@ -10,10 +10,10 @@ ghost use Rattle.bson_scalar.specs.TreeParts.{i64_at, natural, object_of_one};
 ghost use Rattle.bson_scalar.specs.View.{scalar_view};
 
 use crate::error::Error;
+use crate::object_writer::{begin_object, end_object_of_one};
 use crate::scalar::Scalar;
 use crate::sink::Sink;
 use crate::tree_parts::i64_of;
-use crate::object_writer::{begin_object, end_object_of_one};
 use serde_json::Value;
 use std::alloc::AllocError;
 

@@ -15,10 +15,12 @@ ghost use Rattle.bson_scalar.specs.View.{scalar_view};
 use crate::error::Error;
 use crate::form::Form;
 use crate::ints::int64_of;
+use crate::object_writer::{
+    begin_object, end_object_of_one, write_numeral_object, write_owned_text_object,
+};
 use crate::scalar::Scalar;
 use crate::sink::Sink;
 use crate::tree_parts::{expect, expect_single_key, expect_string};
-use crate::object_writer::{begin_object, end_object_of_one, write_numeral_object, write_owned_text_object};
 use bson_datetime::DateTime;
 use serde_json::Value;
 use std::alloc::{AllocError, Global};
@@ -46,7 +48,10 @@ fn millis_in(value: Value) -> Result<i64, Error>
         ),
         Value::Number(number) => expect(number.as_i64(), SHAPE_MESSAGE),
         value => {
-            let text = expect_string(expect_single_key(value, "$numberLong", SHAPE_MESSAGE)?, SHAPE_MESSAGE)?;
+            let text = expect_string(
+                expect_single_key(value, "$numberLong", SHAPE_MESSAGE)?,
+                SHAPE_MESSAGE,
+            )?;
             expect(int64_of(text.as_str()), SHAPE_MESSAGE)
         }
     }

@@ -8,10 +8,10 @@ ghost use Rattle.bson_scalar.specs.Reading.{decimal_pattern as decimal_in, decim
 ghost use Rattle.bson_scalar.specs.View.{scalar_view};
 
 use crate::error::Error;
+use crate::object_writer::write_owned_text_object;
 use crate::scalar::Scalar;
 use crate::sink::Sink;
 use crate::tree_parts::{expect, expect_string};
-use crate::object_writer::write_owned_text_object;
 use bson_decimal::Decimal128;
 use serde_json::Value;
 use std::alloc::{AllocError, Global};

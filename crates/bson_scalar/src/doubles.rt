@@ -17,10 +17,10 @@ ghost use Rattle.bson_scalar.specs.declared.form.Form.TheVariants.{Canonical, Re
 
 use crate::error::Error;
 use crate::form::{Doubles, Form};
+use crate::object_writer::write_text_object;
 use crate::scalar::Scalar;
 use crate::sink::Sink;
 use crate::tree_parts::{expect, expect_string};
-use crate::object_writer::write_text_object;
 use crate::write_error::WriteError;
 use serde_json::{Number, Value};
 use std::alloc::AllocError;

@@ -13,10 +13,13 @@ ghost use Rattle.bson_scalar.specs.TreeParts.{object_of_two};
 ghost use Rattle.bson_scalar.specs.View.{scalar_view};
 
 use crate::error::Error;
+use crate::object_writer::{
+    begin_object, begin_second_member, end_object_of_one, end_object_of_two,
+    write_owned_text_object,
+};
 use crate::scalar::Scalar;
 use crate::sink::Sink;
 use crate::tree_parts::{expect_single_key, expect_string, expect_two_keys};
-use crate::object_writer::{begin_object, begin_second_member, end_object_of_one, end_object_of_two, write_owned_text_object};
 use bson_types::db_pointer::DbPointer;
 use bson_types::oid::{self, ObjectId};
 use serde_json::Value;
@@ -51,7 +54,10 @@ pub(crate) fn read_pointer(alloc: Global, value: Value) -> Result<Scalar, Error>
 {
     let (id, name) = expect_two_keys(value, "$id", "$ref", POINTER_MESSAGE)?;
     let namespace = expect_string(name, POINTER_MESSAGE)?;
-    let text = expect_string(expect_single_key(id, "$oid", POINTER_MESSAGE)?, POINTER_MESSAGE)?;
+    let text = expect_string(
+        expect_single_key(id, "$oid", POINTER_MESSAGE)?,
+        POINTER_MESSAGE,
+    )?;
     let id = id_of(alloc, text.as_str())?;
     Ok(Scalar::DbPointer(DbPointer::new(namespace, id)))
 }

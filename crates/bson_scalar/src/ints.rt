@@ -9,10 +9,10 @@ ghost use Rattle.bson_scalar.specs.View.{scalar_view};
 
 use crate::error::Error;
 use crate::form::Form;
+use crate::object_writer::write_numeral_object;
 use crate::scalar::Scalar;
 use crate::sink::Sink;
 use crate::tree_parts::{expect, expect_string};
-use crate::object_writer::write_numeral_object;
 use serde_json::Value;
 use std::alloc::AllocError;
 

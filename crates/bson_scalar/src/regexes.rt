@@ -9,10 +9,10 @@ ghost use Rattle.bson_scalar.specs.Regexes.{regex_tree};
 ghost use Rattle.bson_scalar.specs.View.{scalar_view};
 
 use crate::error::Error;
+use crate::object_writer::{begin_object, end_object_of_one, write_two_texts_object};
 use crate::scalar::Scalar;
 use crate::sink::Sink;
 use crate::tree_parts::{expect_string, expect_two_keys};
-use crate::object_writer::{begin_object, end_object_of_one, write_two_texts_object};
 use bson_types::regex::{Regex, sort_characters};
 use serde_json::Value;
 use std::alloc::{AllocError, Global};

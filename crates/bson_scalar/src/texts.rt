@@ -7,10 +7,10 @@ ghost use Rattle.bson_scalar.specs.Texts.{symbol_tree, code_tree};
 ghost use Rattle.bson_scalar.specs.View.{scalar_view};
 
 use crate::error::Error;
+use crate::object_writer::write_owned_text_object;
 use crate::scalar::Scalar;
 use crate::sink::Sink;
 use crate::tree_parts::expect_string;
-use crate::object_writer::write_owned_text_object;
 use serde_json::Value;
 use std::alloc::AllocError;
 

@@ -9,10 +9,12 @@ ghost use Rattle.bson_scalar.specs.Timestamps.{timestamp_tree};
 ghost use Rattle.bson_scalar.specs.View.{scalar_view};
 
 use crate::error::Error;
+use crate::object_writer::{
+    begin_object, begin_second_member, end_object_of_one, end_object_of_two,
+};
 use crate::scalar::Scalar;
 use crate::sink::Sink;
 use crate::tree_parts::{expect_two_keys, u32_of};
-use crate::object_writer::{begin_object, begin_second_member, end_object_of_one, end_object_of_two};
 use bson_types::timestamp::Timestamp;
 use serde_json::Value;
 use std::alloc::AllocError;
@@ -26,7 +28,9 @@ pub(crate) fn read_timestamp(value: Value) -> Result<Scalar, Error>
     let (increment, time) = expect_two_keys(value, "i", "t", SHAPE_MESSAGE)?;
     match (u32_of(&time), u32_of(&increment)) {
         (Some(time), Some(increment)) => Ok(Scalar::Timestamp(Timestamp { time, increment })),
-        _ => Err(Error::DeserializationError { message: SHAPE_MESSAGE }),
+        _ => Err(Error::DeserializationError {
+            message: SHAPE_MESSAGE,
+        }),
     }
 }
 

@@ -33,7 +33,11 @@ pub(crate) fn expect_string(value: Value, message: &'static str) -> Result<Strin
 }
 
 // What an object of this key alone holds.
-pub(crate) fn expect_single_key(value: Value, key: &str, message: &'static str) -> Result<Value, Error>
+pub(crate) fn expect_single_key(
+    value: Value,
+    key: &str,
+    message: &'static str,
+) -> Result<Value, Error>
     ensures { IsReadResult view result (or_wrong_shape (single_key_member key.now (view value))) }
 {
     match single_key_of(value, key) {
@@ -64,7 +68,11 @@ fn are_keys(key: &str, other: &str, first: &str, second: &str) -> bool
     key == first && other == second
 }
 
-fn two_member_values(mut members: Map<String, Value>, first: &str, second: &str) -> Option<(Value, Value)>
+fn two_member_values(
+    mut members: Map<String, Value>,
+    first: &str,
+    second: &str,
+) -> Option<(Value, Value)>
     ensures { option_map (λ p. (view p.0, view p.1)) result
         ≡ two_members first.now second.now (object (members_view members.entries)) }
 {

@@ -60,7 +60,9 @@ pub(crate) fn ascends<V>(pairs: &Vec<Pair<V>>) -> bool
     ensures { IsTrue result → HasAscendingKeys (stored_pairs pairs.now.items) }
 {
     let mut count = 0;
-    'pairs: while count < pairs.len() && is_above_first_keys(pairs, count, pairs[count].key.as_str()) {
+    'pairs: while count < pairs.len()
+        && is_above_first_keys(pairs, count, pairs[count].key.as_str())
+    {
         count += 1;
     }
     count == pairs.len()

@@ -62,7 +62,11 @@ fn find_by_scan<V>(pairs: &Vec<Pair<V>>, key: &str) -> Option<usize>
 }
 
 // Inserts a copy of the key in the map, with its position.
-fn insert_position(positions: &mut BTreeMap<String, usize>, key: &String, at: usize) -> Result<(), AllocError>
+fn insert_position(
+    positions: &mut BTreeMap<String, usize>,
+    key: &String,
+    at: usize,
+) -> Result<(), AllocError>
     ensures ok { OnOk result ((k : List ℕ) → get_by_text positions.new k
         ≡ update bytes_eq (get_by_text positions.old) (string_bytes key.now) (Some at) k) }
     ensures err { OnErr result ((k : List ℕ) → get_by_text positions.new k ≡ get_by_text positions.old k) }

@@ -7,8 +7,10 @@ mod from_entries;
 mod into_iter;
 mod iter;
 
+use crate::key_index::{
+    Index, MAX_UNINDEXED, find_in_index, find_without_index, index_pushed_key, unindex_removed_key,
+};
 use crate::pair_store::PairStore;
-use crate::key_index::{MAX_UNINDEXED, Index, find_in_index, find_without_index, index_pushed_key, unindex_removed_key};
 pub use into_iter::IntoIter;
 pub use iter::Iter;
 use std::alloc::{AllocError, Global};

@@ -48,7 +48,11 @@ fn first_key_above<V>(pairs: &Vec<Pair<V>>, positions: &Vec<usize>, key: &str) -
 }
 
 // The position of the key.
-pub(crate) fn find_sorted<V>(pairs: &Vec<Pair<V>>, positions: &Vec<usize>, key: &str) -> Option<usize>
+pub(crate) fn find_sorted<V>(
+    pairs: &Vec<Pair<V>>,
+    positions: &Vec<usize>,
+    key: &str,
+) -> Option<usize>
     requires { AreSortedPositions positions.now.items (stored_pairs pairs.now.items) }
     ensures { result ≡ position_of key.now (stored_pairs pairs.now.items) }
 {

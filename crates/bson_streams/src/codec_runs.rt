@@ -64,7 +64,11 @@ pub(crate) fn documents(
         keep_going: on_refusal == OnRefusal::KeepGoing,
         ..Run::default()
     };
-    let (reader, writer, report) = (&mut streams.reader, &mut streams.writer, &mut streams.report);
+    let (reader, writer, report) = (
+        &mut streams.reader,
+        &mut streams.writer,
+        &mut streams.report,
+    );
     match run_documents(alloc, run, reader, writer, report) {
         Ok(counts) => format!(in alloc; "{} {}", counts.documents, counts.refused),
         Err(end) => {

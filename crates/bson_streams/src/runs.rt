@@ -24,7 +24,11 @@ pub(crate) struct RunStreams<'a> {
 }
 
 impl<'a> RunStreams<'a> {
-    fn of(alloc: Global, request: RunRequest, input: &'a [u8]) -> Result<RunStreams<'a>, AllocError> {
+    fn of(
+        alloc: Global,
+        request: RunRequest,
+        input: &'a [u8],
+    ) -> Result<RunStreams<'a>, AllocError> {
         Ok(RunStreams {
             reader: ChunkReader {
                 rest: input,
@@ -47,7 +51,11 @@ impl<'a> RunStreams<'a> {
 }
 
 /// Makes the run of the request. Returns its result, and the bytes that its writers accepted.
-pub(crate) fn execute(alloc: Global, request: RunRequest, input: &[u8]) -> Result<Vec<u8>, AllocError> {
+pub(crate) fn execute(
+    alloc: Global,
+    request: RunRequest,
+    input: &[u8],
+) -> Result<Vec<u8>, AllocError> {
     let mut streams = RunStreams::of(alloc, request, input)?;
     let outcome = match request.call {
         Call::Run(mode) => call_run(alloc, mode, &mut streams)?,
@@ -115,7 +123,11 @@ fn run_lines(
     on_refusal: OnRefusal,
     streams: &mut RunStreams<'_>,
 ) -> Result<String, AllocError> {
-    let (reader, writer, report) = (&mut streams.reader, &mut streams.writer, &mut streams.report);
+    let (reader, writer, report) = (
+        &mut streams.reader,
+        &mut streams.writer,
+        &mut streams.report,
+    );
     let mut run = LineRun::new(alloc, task, on_refusal);
     match run.run(alloc, reader, writer, report) {
         Ok(counts) => format!(in alloc; "{} {}", counts.lines, counts.refused),

@@ -6,8 +6,8 @@ ghost use Rattle.bson_text.specs.ErrorDenials.{RulesOutText};
 ghost use Rattle.bson_text.specs.ErrorPaths.{LocatesTextError};
 
 use crate::distinct_keys::are_distinct;
-use crate::traversal_error::TraversalError;
 use crate::traversal::write_text;
+use crate::traversal_error::TraversalError;
 use crate::value_writer::ValueWriter;
 use bson_scalar::form::Doubles;
 use bson_scalar::scalar::Scalar;

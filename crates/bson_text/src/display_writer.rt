@@ -12,8 +12,8 @@ ghost use Rattle.bson_text.specs.TraversalErrors.{MayFailAtDocumentEnd};
 ghost use Rattle.bson_text.specs.TraversalResults.{PairsWritten, keys_of, each_key_once};
 
 use crate::distinct_keys::are_distinct;
-use crate::sorted_writer::Mark;
 use crate::member_spans::{end_object, put_comma};
+use crate::sorted_writer::Mark;
 use crate::traversal_error::TraversalError;
 use crate::value_writer::ValueWriter;
 use bson_scalar::scalar::Scalar;

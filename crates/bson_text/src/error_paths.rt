@@ -112,7 +112,12 @@ fn or_wrapper(first_wrapper: Option<Wrapper>, key: &str) -> Option<Wrapper>
 }
 
 // Extends the path of an element's fault by its index in the array.
-pub(crate) fn error_in_element(reader: &mut Reader<'_>, depth: usize, at: usize, failure: TraversalError) -> TraversalError
+pub(crate) fn error_in_element(
+    reader: &mut Reader<'_>,
+    depth: usize,
+    at: usize,
+    failure: TraversalError,
+) -> TraversalError
     ensures located { IsElementError depth at failure reader.old result reader.new }
     ensures kind { IsSameKindOrMemory failure result }
 {
@@ -192,7 +197,11 @@ pub(crate) fn error_at_key(alloc: Global, key: &str, failure: TraversalError) ->
 }
 
 // Returns the fault that the object has the wrong shape, and skips its other members.
-pub(crate) fn wrong_shape_at_key(level: Level, reader: &mut Reader<'_>, message: &'static str) -> TraversalError
+pub(crate) fn wrong_shape_at_key(
+    level: Level,
+    reader: &mut Reader<'_>,
+    message: &'static str,
+) -> TraversalError
     ensures located { IsWrongShapeAtKey level.depth reader.old result reader.new }
     ensures kind { IsSameKindOrMemory Syntax result }
 {
@@ -203,7 +212,11 @@ pub(crate) fn wrong_shape_at_key(level: Level, reader: &mut Reader<'_>, message:
 }
 
 // Returns the fault that the object has the wrong shape, and skips a value and the other members.
-pub(crate) fn wrong_shape_at_value(level: Level, reader: &mut Reader<'_>, message: &'static str) -> TraversalError
+pub(crate) fn wrong_shape_at_value(
+    level: Level,
+    reader: &mut Reader<'_>,
+    message: &'static str,
+) -> TraversalError
     ensures located { IsWrongShapeAtValue level.depth reader.old result reader.new }
     ensures kind { IsSameKindOrMemory Syntax result }
 {
@@ -214,7 +227,11 @@ pub(crate) fn wrong_shape_at_value(level: Level, reader: &mut Reader<'_>, messag
 }
 
 // Extends the path of a fault in a scope by `$scope`.
-pub(crate) fn error_in_scope(level: Level, reader: &mut Reader<'_>, failure: TraversalError) -> TraversalError
+pub(crate) fn error_in_scope(
+    level: Level,
+    reader: &mut Reader<'_>,
+    failure: TraversalError,
+) -> TraversalError
     ensures located { IsErrorInScope level.depth failure reader.old result reader.new }
     ensures kind { IsSameKindOrMemory failure result }
 {

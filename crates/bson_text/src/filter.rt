@@ -6,11 +6,11 @@ ghost use Rattle.bson_text.specs.RejectedText.{IsRejectedText};
 ghost use Rattle.bson_scalar.specs.declared.form.Doubles.TheVariants.{Finite};
 
 use crate::display_writer::DisplayWriter;
-use crate::sorted_writer::SortedWriter;
 use crate::member_spans::memory_allowed;
-use crate::traversal_error::TraversalError;
+use crate::sorted_writer::SortedWriter;
 use crate::text_writer::TextWriter;
 use crate::traversal::write_text;
+use crate::traversal_error::TraversalError;
 use bson_scalar::form::{Doubles, Form};
 use bson_tokens::arrangement::Arrangement;
 use json::{Scratch, Writer};

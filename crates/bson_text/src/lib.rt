@@ -10,18 +10,18 @@
 //! (the texts of an object's members, in order).
 #![tactic(auto)]
 
+pub mod discard_writer;
+mod display_writer;
 pub mod distinct_keys;
-pub mod first_fault;
+mod error_paths;
 pub mod filter;
+pub mod first_fault;
 mod level;
 mod lookahead;
-pub mod discard_writer;
-mod wrapper_parts;
-mod error_paths;
-mod display_writer;
-mod sorted_writer;
 mod member_spans;
-pub mod traversal_error;
+mod sorted_writer;
 mod text_writer;
 pub mod traversal;
+pub mod traversal_error;
 pub mod value_writer;
+mod wrapper_parts;

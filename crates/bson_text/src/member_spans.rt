@@ -271,7 +271,12 @@ fn join_spans(
     out.push(b'{')?;
     let mut last: Option<&str> = None;
     for at in 0..indexes.len() {
-        let MemberSpan { key, start, end } = span_at(keys, member_starts, buffer.len(), indexes[at]);
+        let MemberSpan { key, start, end } = span_at(
+            keys,
+            member_starts,
+            buffer.len(),
+            indexes[at],
+        );
         if has_equal_next(keys, indexes, at, key) {
             continue;
         }

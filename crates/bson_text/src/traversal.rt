@@ -5,12 +5,14 @@ ghost use Rattle.bson_model.specs.OrderedTexts.{HasMeaningInOrder};
 ghost use Rattle.bson_text.specs.ErrorDenials.{RulesOutText};
 ghost use Rattle.bson_text.specs.ErrorPaths.{LocatesTextError};
 
+use crate::error_paths::{
+    error_in_element, error_in_member, error_in_scope, give_up, read_scalar, wrong_shape_at_value,
+};
 use crate::level::Level;
 use crate::lookahead::Lookahead;
-use crate::wrapper_parts::{Scope, end_object, misplaced_wrapper, read_scope, read_token, text_of};
-use crate::error_paths::{give_up, error_in_element, error_in_member, error_in_scope, read_scalar, wrong_shape_at_value};
 use crate::traversal_error::TraversalError;
 use crate::value_writer::ValueWriter;
+use crate::wrapper_parts::{Scope, end_object, misplaced_wrapper, read_scope, read_token, text_of};
 use bson_scalar::code::is_code_with_scope;
 use bson_scalar::form::Doubles;
 use bson_scalar::scalar::Scalar;
@@ -190,7 +192,9 @@ impl<'a, W: ValueWriter> Traversal<'a, W> {
             }
             Token::Bool(truth) => self.out.boolean(name, truth),
             Token::Null => self.out.null(name),
-            Token::EndObject | Token::EndArray | Token::Key(_) | Token::Bad => Err(TraversalError::Syntax),
+            Token::EndObject | Token::EndArray | Token::Key(_) | Token::Bad => Err(
+                TraversalError::Syntax,
+            ),
             Token::BeginArray => {
                 if level.depth == 0 {
                     return Err(TraversalError::Syntax);
@@ -226,7 +230,12 @@ impl<'a, W: ValueWriter> Traversal<'a, W> {
             let name = W::item_name(&mut buffer, index);
             match self.write_value(level, name) {
                 Ok(()) => {}
-                Err(failure) => return Err(error_in_element(&mut self.reader, level.depth, index, failure)),
+                Err(failure) => return Err(error_in_element(
+                    &mut self.reader,
+                    level.depth,
+                    index,
+                    failure,
+                )),
             }
             index = index.checked_add(1).ok_or(TraversalError::OutOfMemory)?;
         }
@@ -285,7 +294,11 @@ impl<'a, W: ValueWriter> Traversal<'a, W> {
         let mut next = first_key;
         'members: while let Some(key) = next {
             if let Some(wrapper) = misplaced_wrapper(is_document, key) {
-                return Err(wrong_shape_at_value(level, &mut self.reader, other_keys_reason(wrapper)));
+                return Err(wrong_shape_at_value(
+                    level,
+                    &mut self.reader,
+                    other_keys_reason(wrapper),
+                ));
             }
             let Ok(()) = self.keys.push(key) else {
                 return Err(TraversalError::OutOfMemory);

@@ -17,8 +17,8 @@ ghost use Rattle.bson_text.specs.TraversalErrors.{IsSameKindOrMemory};
 ghost use Rattle.bson_text.specs.TraversalResults.{IsEndOfCode};
 ghost use Rattle.bson_text.specs.declared.traversal_error.TraversalError.TheVariants.{Syntax};
 
+use crate::error_paths::{scalar_error, skip_items, wrong_shape_at_key, wrong_shape_at_value};
 use crate::level::Level;
-use crate::error_paths::{scalar_error, wrong_shape_at_key, wrong_shape_at_value, skip_items};
 use crate::traversal_error::TraversalError;
 use bson_scalar::doubles::read_number;
 use bson_scalar::form::Doubles;
@@ -60,7 +60,9 @@ pub(crate) fn read_scope(level: Level, reader: &mut Reader<'_>) -> Result<Scope,
             };
             Err(wrong_shape_at_key(level, reader, SCOPE_MESSAGE))
         }
-        Token::EndObject | Token::EndArray | Token::Key(_) | Token::Bad => Err(TraversalError::Syntax),
+        Token::EndObject | Token::EndArray | Token::Key(_) | Token::Bad => Err(
+            TraversalError::Syntax,
+        ),
     }
 }
 
@@ -78,7 +80,11 @@ pub(crate) fn text_of(tree: Value) -> Result<String, TraversalError>
 }
 
 // Returns the number of a token.
-pub(crate) fn read_token(alloc: Global, doubles: Doubles, text: &str) -> Result<Scalar, TraversalError>
+pub(crate) fn read_token(
+    alloc: Global,
+    doubles: Doubles,
+    text: &str,
+) -> Result<Scalar, TraversalError>
     ensures ok { IfOk result (λ x. (n : Num) × (number_of text.now ≡ Some n)
         × (number_read_in doubles n ≡ Ok (scalar_view x))) }
     ensures stops { IfErr result (λ e. NumberRuledOut doubles e text.now) }

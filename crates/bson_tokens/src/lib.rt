@@ -8,16 +8,16 @@
 #![tactic(auto)]
 
 pub mod arrangement;
-pub mod wrapper_content;
+pub mod find_duplicate;
+mod key_path;
+pub mod key_prefix;
 pub mod laws;
+mod member_order;
 pub mod normalize;
 mod normalizer;
 pub mod number;
-mod member_order;
-mod key_path;
-pub mod key_prefix;
 pub mod value_start;
-pub mod find_duplicate;
+pub mod wrapper_content;
 
 /// How deep arrays and objects may nest in a JSON text.
 pub const MAX_DEPTH: usize = 127;

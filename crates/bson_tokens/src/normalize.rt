@@ -12,9 +12,9 @@ ghost use Rattle.json.specs.declared.error.Error.TheVariants.{Invalid};
 
 use crate::MAX_DEPTH;
 use crate::arrangement::Arrangement;
+use crate::member_order::{MemberSpan, push_span};
 use crate::normalizer::{EARLY_LIMIT, Normalizer, into_text};
 use crate::number::number;
-use crate::member_order::{MemberSpan, push_span};
 use json::{Error, Reader, Scratch, Token};
 use std::alloc::Global;
 

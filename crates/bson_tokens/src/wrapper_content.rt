@@ -29,7 +29,11 @@ const MAX_KEYS: usize = 2;
 ///
 /// - `Invalid`: the next value is not valid, nests deeper, or has a number out of range.
 /// - `OutOfMemory`: a request for memory was refused.
-pub fn read_wrapper_content(alloc: Global, reader: &mut Reader<'_>, depth: usize) -> Result<Value, Error>
+pub fn read_wrapper_content(
+    alloc: Global,
+    reader: &mut Reader<'_>,
+    depth: usize,
+) -> Result<Value, Error>
     ensures ok { IfOk result
         (λ held. IsWrapperContent (converted of_json (value depth reader.old)) (view held) reader.new) }
     ensures broken { IfErr result (InvalidIfNotRead (converted of_json (value depth reader.old))) }

@@ -49,7 +49,9 @@ impl PackedBitVector {
     {
         let padding = padding.unwrap_or(0);
         if padding > 7 {
-            return Err(Error::Vector { message: PADDING_MESSAGE });
+            return Err(Error::Vector {
+                message: PADDING_MESSAGE,
+            });
         }
         if bytes.is_empty() && padding != 0 {
             return Err(Error::Vector {
@@ -73,7 +75,9 @@ impl PackedBitVector {
         ensures err { IfErr result IsVectorError }
     {
         if padding > 7 {
-            return Err(Error::Vector { message: PADDING_MESSAGE });
+            return Err(Error::Vector {
+                message: PADDING_MESSAGE,
+            });
         }
         PackedBitVector::new(with_zero_bits(bytes, padding), Some(padding))
     }

@@ -75,7 +75,9 @@ impl Vector {
         match bytes {
             [PACKED_BIT, padding, data @ ..] => packed_bits(alloc, *padding, data),
             [kind, padding, data @ ..] => numbers(alloc, *kind, *padding, data),
-            _ => Err(Error::Vector { message: HEADER_MESSAGE }),
+            _ => Err(Error::Vector {
+                message: HEADER_MESSAGE,
+            }),
         }
     }
 
@@ -104,7 +106,9 @@ impl Vector {
         match bytes {
             [PACKED_BIT, padding, data @ ..] => cleared_bits(alloc, *padding, data),
             [kind, padding, data @ ..] => numbers(alloc, *kind, *padding, data),
-            _ => Err(Error::Vector { message: HEADER_MESSAGE }),
+            _ => Err(Error::Vector {
+                message: HEADER_MESSAGE,
+            }),
         }
     }
 

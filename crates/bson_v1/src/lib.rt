@@ -6,7 +6,7 @@
 #![tactic(auto)]
 
 mod date;
-mod object_start;
 pub mod laws;
-mod v1_shapes;
+mod object_start;
 pub mod upgraded;
+mod v1_shapes;

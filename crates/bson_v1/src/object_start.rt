@@ -36,7 +36,11 @@ pub(crate) fn read_start<'a>(reader: &mut Reader<'a>) -> Result<ObjectStart<'a>,
 }
 
 // Reads on after a first string.
-fn read_second_member<'a>(key: &'a str, text: &'a str, reader: &mut Reader<'a>) -> Result<ObjectStart<'a>, Error>
+fn read_second_member<'a>(
+    key: &'a str,
+    text: &'a str,
+    reader: &mut Reader<'a>,
+) -> Result<ObjectStart<'a>, Error>
     ensures ok { IfOk result (λ start. IsStartOf start (leading_tokens (LeadingStrings.One key.entry text.entry) reader.old) reader.new) }
     ensures broken { IfErr result (StartsNoObject (LeadingStrings.One key.entry text.entry) reader.old) }
 {
@@ -51,7 +55,10 @@ fn read_second_member<'a>(key: &'a str, text: &'a str, reader: &mut Reader<'a>) 
 }
 
 // Reads on after two strings: a third member shows that the object has no shape of v1.
-fn read_third_member<'a>(leading: LeadingStrings<'a>, reader: &mut Reader<'a>) -> Result<ObjectStart<'a>, Error>
+fn read_third_member<'a>(
+    leading: LeadingStrings<'a>,
+    reader: &mut Reader<'a>,
+) -> Result<ObjectStart<'a>, Error>
     requires { AreTwo leading }
     ensures ok { IfOk result (λ start. IsStartOf start (leading_tokens leading.entry reader.old) reader.new) }
     ensures broken { IfErr result (StartsNoObject leading.entry reader.old) }
@@ -78,7 +85,11 @@ pub(crate) fn next_member<'a>(
 
 /// Whether an object at a key may be a scope: `Some(true)` if a string at `$code` comes before it,
 /// `Some(false)` if `$code` may come after it.
-pub(crate) fn scope_candidate(leading: LeadingStrings<'_>, key: &str, first: Token<'_>) -> Option<bool>
+pub(crate) fn scope_candidate(
+    leading: LeadingStrings<'_>,
+    key: &str,
+    first: Token<'_>,
+) -> Option<bool>
     ensures { result ≡ scope_candidate leading.entry key.now first.entry }
 {
     if key != "$scope" || !matches!(first, Token::BeginObject) {

@@ -14,8 +14,10 @@ ghost use Rattle.bson_v1.specs.WrittenTokens.{WritesMembers, WritesTokens};
 ghost use Rattle.bson_v1.specs.WrittenTokens.{upgraded_items_tokens, upgraded_members_tokens, upgraded_object_tokens, upgraded_value_tokens};
 ghost use Rattle.bson_v1.specs.Text.{IsUpgradedText, IsRewritten};
 
-use crate::object_start::{ObjectStart, LeadingStrings, read_start, is_scope, next_member, scope_candidate};
-use crate::v1_shapes::{write_leading_strings, write_from_v1, write_scope_or_value};
+use crate::object_start::{
+    LeadingStrings, ObjectStart, is_scope, next_member, read_start, scope_candidate,
+};
+use crate::v1_shapes::{write_from_v1, write_leading_strings, write_scope_or_value};
 use bson_tokens::MAX_DEPTH;
 use bson_tokens::arrangement::Arrangement;
 use bson_tokens::normalize::normalize_text;
@@ -221,7 +223,9 @@ fn write_scope<'a>(
     }
     out.key(key)?;
     match read_start(reader)? {
-        ObjectStart::Complete(leading) => write_complete_scope(alloc, after_code, leading, reader, depth, out),
+        ObjectStart::Complete(leading) => write_complete_scope(
+            alloc, after_code, leading, reader, depth, out,
+        ),
         ObjectStart::Incomplete(leading, inner, first) => {
             out.begin_object()?;
             write_leading_strings(leading, out)?;

@@ -27,7 +27,13 @@ pub(crate) fn write_from_v1(
             out.end_object()
         }
         LeadingStrings::One(key, text) => write_single_key(alloc, key, text, out),
-        LeadingStrings::Two(key, text, second_key, second_text) => write_pair(key, text, second_key, second_text, out),
+        LeadingStrings::Two(key, text, second_key, second_text) => write_pair(
+            key,
+            text,
+            second_key,
+            second_text,
+            out,
+        ),
     }
 }
 
@@ -52,7 +58,10 @@ pub(crate) fn write_scope_or_value(
 }
 
 /// Writes the members with which an object begins.
-pub(crate) fn write_leading_strings(leading: LeadingStrings<'_>, out: &mut Writer) -> Result<(), AllocError>
+pub(crate) fn write_leading_strings(
+    leading: LeadingStrings<'_>,
+    out: &mut Writer,
+) -> Result<(), AllocError>
     ensures ok { OnOk result (out.new.tokens ≡ out.old.tokens ++ leading_tokens leading.entry []) }
     ensures before { out.new.before ≡ out.old.before }
 {

@@ -3,7 +3,11 @@ use bson::{Bson, Document};
 use std::alloc::{AllocError, Global};
 
 /// Inserts the pair, and drops it if an allocation fails.
-pub(crate) fn insert_pair(document: &mut Document, key: String, value: Bson) -> Result<(), AllocError> {
+pub(crate) fn insert_pair(
+    document: &mut Document,
+    key: String,
+    value: Bson,
+) -> Result<(), AllocError> {
     match document.insert(key, value) {
         Ok(_) => Ok(()),
         Err(_) => Err(AllocError),

@@ -7,13 +7,13 @@
 #![tactic(auto)]
 
 #[cfg(test)]
-mod in_place_changes;
-#[cfg(test)]
 mod colliding_keys;
 #[cfg(test)]
 mod documents;
 #[cfg(test)]
 mod fixtures;
+#[cfg(test)]
+mod in_place_changes;
 #[cfg(test)]
 mod stores;
 #[cfg(test)]

@@ -53,7 +53,11 @@ fn fill<S: PairStore<u32>>(
 }
 
 /// A failed push returns the pair and leaves the store unchanged; the same pair is then pushed again.
-fn check_pushes<S: PairStore<u32>>(rt: &impl Abort, alloc: Global, store: &mut S) -> Result<(), Fail> {
+fn check_pushes<S: PairStore<u32>>(
+    rt: &impl Abort,
+    alloc: Global,
+    store: &mut S,
+) -> Result<(), Fail> {
     let mut was_refused = false;
     for i in 0..PAIRS.len() {
         let (key, value) = PAIRS[i];
@@ -121,7 +125,11 @@ fn refused_from_entries(rt: HostRuntime) -> Result<(), Fail> {
 }
 
 /// Nine keys are removed one by one, the rest is cleared, and none of it allocates memory.
-fn check_removals<S: PairStore<u32>>(rt: &impl Abort, alloc: Global, store: &mut S) -> Result<(), Fail> {
+fn check_removals<S: PairStore<u32>>(
+    rt: &impl Abort,
+    alloc: Global,
+    store: &mut S,
+) -> Result<(), Fail> {
     fill(alloc, store, &PAIRS)?;
     for i in 0..9 {
         let (key, value) = PAIRS[i];
@@ -179,7 +187,11 @@ const REPLIES: [Option<u32>; 21] = [
 
 /// A stopped replay leaves the store as it is after the first `done` commands. From the
 /// eighteenth on, no command allocates memory.
-fn check_replay<S: PairStore<u32>>(rt: &impl Abort, alloc: Global, store: &mut S) -> Result<(), Fail> {
+fn check_replay<S: PairStore<u32>>(
+    rt: &impl Abort,
+    alloc: Global,
+    store: &mut S,
+) -> Result<(), Fail> {
     match replay(alloc, store, commands(alloc)?) {
         Ok(replies) => {
             assert!(rt; replies.as_slice() == REPLIES.as_slice());

@@ -140,7 +140,10 @@ fn size_of(element: Element<'_>) -> usize
     ensures { result ≡ min (length (name_bytes element.entry.kind element.entry.key.now ++ element_value element.entry)) (2 ^ 64 - 1) }
 {
     let name = element.key.len() + 2;
-    let value = element.value_head.len().saturating_add(element.value_body.len());
+    let value = element
+        .value_head
+        .len()
+        .saturating_add(element.value_body.len());
     name.saturating_add(value)
         .saturating_add(element.value_tail.len())
 }

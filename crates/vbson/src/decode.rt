@@ -13,9 +13,9 @@ ghost use Rattle.vbson.specs.Documents.{HasNoTextIn, depth};
 ghost use Rattle.vbson.specs.Options.{AreNotForConversion};
 
 use crate::convert::mode_of;
-use crate::streaming::{decode_streaming, streaming_form};
 use crate::options::{CallOptions, are_not_for_conversion, options_of};
 use crate::status;
+use crate::streaming::{decode_streaming, streaming_form};
 use crate::text::{Text, as_line, text_of_line};
 use bson::extjson::{Form, Options, WriteError};
 use bson::{Bson, Document};

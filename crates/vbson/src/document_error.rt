@@ -7,7 +7,7 @@ ghost use Rattle.vbson.specs.DocumentError.{ReportsFinding, finding_code, findin
 ghost use Rattle.vbson.specs.Options.{AreInvalid};
 ghost use Rattle.vbson.specs.declared.document_error.Finding.TheVariants.{Nothing};
 
-use crate::explain::{RejectionFields, Rejection, rejection_with_fields, line_of};
+use crate::explain::{Rejection, RejectionFields, line_of, rejection_with_fields};
 use crate::options::{CallOptions, are_invalid, duplicate_keys_of, options_of};
 use crate::path::path_line;
 use crate::status;

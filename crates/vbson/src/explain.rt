@@ -94,7 +94,11 @@ fn explained(
     ensures too_long { IfErr result (λ error. error ≢ sizes.OutOfMemory → IsTooLong options text.now) }
 {
     match preprocess(alloc, preprocessing_of(options), text) {
-        Ok(Some(new_text)) => explain_without_preprocessing(alloc, options_of(options), new_text.as_bytes()),
+        Ok(Some(new_text)) => explain_without_preprocessing(
+            alloc,
+            options_of(options),
+            new_text.as_bytes(),
+        ),
         Ok(None) => explain_without_preprocessing(alloc, options_of(options), text),
         Err(fault) if fault.is_memory() => Err(PathError::OutOfMemory),
         Err(fault) => rejected(alloc, &fault, text),
@@ -177,7 +181,11 @@ pub(crate) fn rejection_with_fields(fields: RejectionFields, message: Vec<u8>) -
 }
 
 // Returns the fields of the error struct for an explanation of an error of the text.
-fn fields_of(alloc: Global, explanation: &Explanation<'_>, text: &[u8]) -> Result<RejectionFields, PathError>
+fn fields_of(
+    alloc: Global,
+    explanation: &Explanation<'_>,
+    text: &[u8],
+) -> Result<RejectionFields, PathError>
     ensures error_report { IfOk result (λ fields. AreFieldsOfExplanation text.now explanation.now fields) }
     ensures too_long { IfErr result (λ error. error ≢ sizes.OutOfMemory → PathIsTooLong explanation.now) }
 {

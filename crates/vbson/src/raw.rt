@@ -10,8 +10,8 @@ ghost use Rattle.vbson.specs.Raw.{IsLookupResult, IsNextElement, IsTypedResult, 
 
 use crate::status;
 use bson_bytes::RawBsonRef;
-use bson_bytes::raw_element::{RawElement, elements_after_length, first_element};
 use bson_bytes::find_key::find;
+use bson_bytes::raw_element::{RawElement, elements_after_length, first_element};
 use bson_bytes::raw_read::read_scalar_value;
 use bson_types::spec::ElementType;
 

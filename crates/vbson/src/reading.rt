@@ -16,8 +16,8 @@ use bson_codec::de;
 use bson_codec::de::{DEPTH, ReadOptions, from_bytes};
 use bson_convert::convert::error_of;
 use bson_convert::error::Error;
-use bson_run::task::Preprocessing;
 use bson_run::preprocessed::preprocess_text;
+use bson_run::task::Preprocessing;
 use bson_tokens::laws::one_double;
 use std::alloc::Global;
 

@@ -4,7 +4,7 @@ ghost use Rattle.bson_store.specs.Pairs.{insert_pairs};
 ghost use Rattle.bson_store.specs.KeyIndex.{stored_pairs};
 
 use crate::by_key::put;
-use crate::key_index::{MAX_UNINDEXED, Index};
+use crate::key_index::{Index, MAX_UNINDEXED};
 use crate::small::{Pair, SmallPairs};
 use crate::sorted_index::sorted_positions;
 use std::alloc::{AllocError, Global};

@@ -9,9 +9,9 @@ ghost use Rattle.bson_store.specs.KeyIndex.{stored_pairs, StoreInvariant};
 ghost use Rattle.bson_store.specs.Cursors.{remaining_pairs, IsCursorInBounds, IsCursorByKey, IsCursorStep};
 
 use crate::ascending_keys::ascends;
+use crate::key_index::{Index, MAX_UNINDEXED};
 use crate::order::next_above;
 use crate::pair_store::PairStore;
-use crate::key_index::{MAX_UNINDEXED, Index};
 use crate::small::{Pair, SmallPairs};
 use std::collections::btree_map::Values;
 use std::marker::Model;
@@ -77,7 +77,10 @@ impl<V: Drop> SmallPairs<V> {
         ensures distinct { HasDistinctKeys self.now }
     {
         let cursor = cursor_by_key(&self.pairs, &self.positions);
-        Iter { pairs: self, cursor }
+        Iter {
+            pairs: self,
+            cursor,
+        }
     }
 }
 

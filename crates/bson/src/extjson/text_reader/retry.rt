@@ -10,9 +10,9 @@ ghost use Rattle.bson.specs.View.{bson_view};
 ghost use Rattle.bson.specs.TextMeaning.{HasTextMeaningBy, IsTextFaultIn};
 
 use crate::bson::Bson;
+use crate::extjson::bson_writer::read_once;
 use crate::extjson::key_order::KeyOrder;
 use crate::extjson::text_error::TextError;
-use crate::extjson::bson_writer::read_once;
 use bson_scalar::form::Doubles;
 use bson_text::first_fault::first_fault_of_normalized;
 use bson_tokens::arrangement::Arrangement;

@@ -62,7 +62,10 @@ fn document_of_ascending(members: Vec<Pair<Bson>>) -> Document
 const MAX_MEMBERS_INSERTED: usize = 32;
 
 /// Returns the document of the members by ascending key. If a key is duplicated, its last value wins.
-pub(crate) fn document_of_members(alloc: Global, members: Vec<Pair<Bson>>) -> Result<Document, AllocError>
+pub(crate) fn document_of_members(
+    alloc: Global,
+    members: Vec<Pair<Bson>>,
+) -> Result<Document, AllocError>
     ensures { IfOk result (λ document. document_view document ≡ insert_members members.items no_pairs) }
 {
     match SmallPairs::try_from_ascending(members) {
