@@ -17,7 +17,7 @@ use Rattle.bson_store.specs.Pairs.{insert_pair}
 use Rattle.bson_store.specs.KeyIndex.{stored_pairs}
 use Rattle.bson.proofs.Seen.{bson_view-Array, bson_view-Document}
 use Rattle.bson.specs.SortedMembers.{Member, pairs_of_members, insert_members}
-use Rattle.bson.specs.BsonWriterState.{value_in_order, pairs_by, document_in_order, insert_each, container_pairs, is_document, key_in_container, HasPushed, HasPushedValue}
+use Rattle.bson.specs.BsonWriterState.{value_in_order, pairs_by, document_in_order, insert_each_entry, container_pairs, is_document, key_in_container, HasPushed, HasPushedValue}
 use Rattle.bson.specs.BsonWriterState.{HasPushedDocument, HasBegunArray, HasBegunDocument, HasBegunCode}
 use Rattle.bson.specs.InsertedPairs.{insert_entries}
 use Rattle.bson.specs.View.{bson_view, document_view, pairs_view, values_view}
@@ -220,7 +220,7 @@ array_pushed vs k start mid now new enclosing v w outer (mode, is_array, empty, 
           ∙ ap array (all ∙ ap (λ o. items_by o vs) mode) ∙ sym (array_is start.order vs),
     )
 
-turns_sorted : (ps found : Pairs) → insert_each (each_by Ascending ps) found ≡ put_in_turn ps found
+turns_sorted : (ps found : Pairs) → insert_each_entry (each_by Ascending ps) found ≡ put_in_turn ps found
 turns_sorted no_pairs found = refl
 turns_sorted (pair k v ps) found = turns_sorted ps (insert_sorted_pair k (sorted v) found)
 
@@ -367,6 +367,6 @@ entries_set (e ∷ es) ps =
 pub entries_once : (es : List Member) → pairs_view (insert_entries es []) ≡ each_key_once (pairs_of_members es)
 entries_once es = entries_set es []
 
-pub entries_turned : (es : List Member) (found : Pairs) → insert_members es found ≡ insert_each (pairs_of_members es) found
+pub entries_turned : (es : List Member) (found : Pairs) → insert_members es found ≡ insert_each_entry (pairs_of_members es) found
 entries_turned [] found = refl
 entries_turned (e ∷ es) found = entries_turned es (insert_sorted_pair (string_bytes e.key) (bson_view e.value) found)

@@ -26,13 +26,13 @@ pairs_by Ascending ps = sorted_pairs ps
 pairs_by AsGiven ps = ps
 
 -- the pairs after each is inserted in ascending key order
-abbrev pub insert_each : Pairs → Pairs → Pairs
-insert_each no_pairs found = found
-insert_each (pair k v ps) found = insert_each ps (insert_sorted_pair k v found)
+abbrev pub insert_each_entry : Pairs → Pairs → Pairs
+insert_each_entry no_pairs found = found
+insert_each_entry (pair k v ps) found = insert_each_entry ps (insert_sorted_pair k v found)
 
 -- the document of the pairs, each key once: of a duplicate key the last value
 abbrev pub document_in_order : KeyOrder → Pairs → Pairs
-document_in_order Ascending ps = insert_each ps no_pairs
+document_in_order Ascending ps = insert_each_entry ps no_pairs
 document_in_order AsGiven ps = each_key_once ps
 
 -- what a container holds, each value with its key, which an array has none of

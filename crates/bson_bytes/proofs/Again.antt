@@ -17,7 +17,7 @@ use Rattle.bson_bytes.specs.Grammar.{is_double, is_text, is_embedded, is_array, 
 use Rattle.bson_bytes.specs.Grammar.{is_int32, is_int64, is_old_binary, is_undefined, is_object_id, is_date, is_regex}
 use Rattle.bson_bytes.specs.Grammar.{is_pointer, is_code, is_symbol, is_scope, is_timestamp, is_decimal, is_max}
 use Rattle.bson_bytes.specs.Grammar.{is_min}
-use Rattle.bson_bytes.specs.Grammar.{insert_pairs, text_bytes, IsText}
+use Rattle.bson_bytes.specs.Grammar.{deduplicated_onto, text_bytes, IsText}
 use Rattle.bson_bytes.specs.Reading.{read_binary, read_boolean, read_bytes, read_regex, read_pointer, read_timestamp, read_code_with_scope}
 use Rattle.bson_bytes.specs.Reading.{read_value_in, read_elements, read_document_in, EarlierKeys, no_earlier_keys, add_earlier_key}
 use Rattle.bson_bytes.specs.declared.duplicate_keys.DuplicateKeys.{DuplicateKeys}
@@ -75,7 +75,7 @@ unfolding read_timestamp
 timestamp_again i t rest p q = ap read_timestamp (append_assoc (little_endian w32 i) (little_endian w32 t) rest) ∙ rw (number_again w32 (2 ^ 32) wide32 i (little_endian w32 t ++ rest) p, number_again w32 (2 ^ 32) wide32 t rest q) refl
 
 scope_again : (keys : DuplicateKeys) (d : ℕ) (s bytes : List ℕ) (ps : Pairs) (rest : List ℕ) → IsText s → read_document_in keys d (no_earlier_keys keys) (bytes ++ rest) ≡ Ok (ps, rest) → 4 + (length (text_bytes s) + length bytes) < 2 ^ 31
-    → read_code_with_scope (read_document_in keys d (no_earlier_keys keys)) ((little_endian w32 (4 + (length (text_bytes s) + length bytes)) ++ (text_bytes s ++ bytes)) ++ rest) ≡ Ok (model.code_scope s (insert_pairs no_pairs ps), rest)
+    → read_code_with_scope (read_document_in keys d (no_earlier_keys keys)) ((little_endian w32 (4 + (length (text_bytes s) + length bytes)) ++ (text_bytes s ++ bytes)) ++ rest) ≡ Ok (model.code_scope s (deduplicated_onto no_pairs ps), rest)
 unfolding read_code_with_scope
 scope_again keys d s bytes ps rest t read lt =
     let n = 4 + (length (text_bytes s) + length bytes) in

@@ -4,7 +4,7 @@ use Rattle.std.proofs.Common.{get_or, refl, ap, sym, ◌∙◌, subst, arith, by
 use Rattle.std.proofs.lemmas.Bool.{false_from_ne_true}
 use Rattle.std.proofs.lemmas.Slice.Eq.{bytes_eq-Decides}
 use Rattle.std.specs.List.{AllPairs}
-use Rattle.bson_bytes.specs.Grammar.{insert_value, insert_pairs, deduplicated}
+use Rattle.bson_bytes.specs.Grammar.{insert_value, deduplicated_onto, deduplicated}
 use Rattle.bson_model.specs.Value.{pair_keys, Value, Pairs, no_pairs, pair}
 use Rattle.bson_model.specs.DistinctKeys.{has_pair}
 use Rattle.bson_scalar.specs.KeyHash.{key_hash}
@@ -59,11 +59,11 @@ insert_last (pair l w done) k v ps h =
     let differ : key_hash k ≢ key_hash l = λ e. avoids_later l done k v ps h.0 (sym e) in
     rw (unequal k l differ) (ap (pair l w) (insert_last done k v ps h.1))
 
-settle_apart : (ps done : Pairs) → Apart (map key_hash (pair_keys (join done ps))) → insert_pairs done ps ≡ join done ps
+settle_apart : (ps done : Pairs) → Apart (map key_hash (pair_keys (join done ps))) → deduplicated_onto done ps ≡ join done ps
 settle_apart no_pairs done h = sym (join_none done)
 settle_apart (pair k v ps) done h =
     let more = join_more done k v ps in
-    ap (λ (qs : Pairs). insert_pairs qs ps) (insert_last done k v ps h)
+    ap (λ (qs : Pairs). deduplicated_onto qs ps) (insert_last done k v ps h)
     ∙ settle_apart ps (with_pair done k v) (subst (λ (qs : Pairs). Apart (map key_hash (pair_keys qs))) (sym more) h) ∙ more
 
 pub one_each_is : (ps : Pairs) → Apart (map key_hash (pair_keys ps)) → deduplicated ps ≡ ps

@@ -23,7 +23,7 @@ use Rattle.bson_model.specs.Normal.{map_scalars, map_scalars_of_items}
 use Rattle.bson_model.specs.Value.{Value, Values, no_values, value, Pairs, no_pairs, pair, scalar, code_scope, array}
 use Rattle.bson_model.specs.Value.{document}
 use Rattle.bson_bytes.specs.Grammar.{little_endian, IsName, NoZero, IsLength, scope_bytes, document_of_elements, pair_values}
-use Rattle.bson_bytes.specs.Grammar.{binary_bytes, old_binary_bytes, insert_value, insert_pairs, deduplicated}
+use Rattle.bson_bytes.specs.Grammar.{binary_bytes, old_binary_bytes, insert_value, deduplicated_onto, deduplicated}
 use Rattle.bson_bytes.specs.Grammar.{IsDocument, is_document, IsElementList, is_empty, is_element, IsValue, is_double, is_text}
 use Rattle.bson_bytes.specs.Grammar.{is_embedded, is_array, is_binary, is_old_binary, is_undefined, is_object_id}
 use Rattle.bson_bytes.specs.Grammar.{is_false}
@@ -35,7 +35,7 @@ use Rattle.bson_bytes.specs.Reading.{reads_bytes}
 use Rattle.bson_bytes.specs.Writing.{scalar_bytes, name_bytes, type_of, value_bytes, array_elements_bytes}
 use Rattle.bson_bytes.specs.Writing.{elements_bytes, document_bytes, FitsScalar, FitsValue, FitsItems, FitsElements}
 use Rattle.bson_bytes.specs.Writing.{FitsDocument}
-use Rattle.bson_bytes.specs.Writing.{with_written_subtype, as_read_back, IsWellTypedScalar, IsWellTyped, AreWellTyped, PairsAreWellTyped, IsWellTypedDocument}
+use Rattle.bson_bytes.specs.Writing.{with_written_subtype, pairs_read_back, IsWellTypedScalar, IsWellTyped, AreWellTyped, PairsAreWellTyped, IsWellTypedDocument}
 use Rattle.bson_bytes.specs.Writing.{NestsUpTo, ItemsNestUpTo, PairsNestUpTo}
 use Rattle.bson_bytes.proofs.GrammarLaws.{is_read}
 use Rattle.bson_bytes.proofs.PartLaws.{ok_is}
@@ -102,26 +102,26 @@ scalar_is (db_pointer s id) d f t = is_pointer d s id (t.0, f) t.1
 
 -- ---- one pair a key
 
-insert_by : (b : Bool) (l : List ℕ) (v w : Value) (ps qs rs : Pairs) → rs ≡ as_read_back qs
-    → cond b (pair l (map_scalars with_written_subtype v) (as_read_back ps)) (pair l (map_scalars with_written_subtype w) rs)
-    ≡ as_read_back (cond b (pair l v ps) (pair l w qs))
+insert_by : (b : Bool) (l : List ℕ) (v w : Value) (ps qs rs : Pairs) → rs ≡ pairs_read_back qs
+    → cond b (pair l (map_scalars with_written_subtype v) (pairs_read_back ps)) (pair l (map_scalars with_written_subtype w) rs)
+    ≡ pairs_read_back (cond b (pair l v ps) (pair l w qs))
 insert_by true l v w ps qs rs e = refl
 insert_by false l v w ps qs rs e = ap (λ (x : Pairs). pair l (map_scalars with_written_subtype w) x) e
 
 insert_written : (k : List ℕ) (v : Value) (ps : Pairs)
-    → insert_value k (map_scalars with_written_subtype v) (as_read_back ps) ≡ as_read_back (insert_value k v ps)
+    → insert_value k (map_scalars with_written_subtype v) (pairs_read_back ps) ≡ pairs_read_back (insert_value k v ps)
 insert_written k v no_pairs = refl
 insert_written k v (pair l w ps) =
-    insert_by (bytes_eq k l) l v w ps (insert_value k v ps) (insert_value k (map_scalars with_written_subtype v) (as_read_back ps))
+    insert_by (bytes_eq k l) l v w ps (insert_value k v ps) (insert_value k (map_scalars with_written_subtype v) (pairs_read_back ps))
     (insert_written k v ps)
 
-settle_written : (done ps : Pairs) → insert_pairs (as_read_back done) (as_read_back ps) ≡ as_read_back (insert_pairs done ps)
+settle_written : (done ps : Pairs) → deduplicated_onto (pairs_read_back done) (pairs_read_back ps) ≡ pairs_read_back (deduplicated_onto done ps)
 settle_written done no_pairs = refl
 settle_written done (pair k v ps) =
-    ap (λ (x : Pairs). insert_pairs x (as_read_back ps)) (insert_written k v done) ∙ settle_written (insert_value k v done) ps
+    ap (λ (x : Pairs). deduplicated_onto x (pairs_read_back ps)) (insert_written k v done) ∙ settle_written (insert_value k v done) ps
 
-one_each_written : (ps : Pairs) → deduplicated ps ≡ ps → deduplicated (as_read_back ps) ≡ as_read_back ps
-one_each_written ps e = settle_written no_pairs ps ∙ ap as_read_back e
+one_each_written : (ps : Pairs) → deduplicated ps ≡ ps → deduplicated (pairs_read_back ps) ≡ pairs_read_back ps
+one_each_written ps e = settle_written no_pairs ps ∙ ap pairs_read_back e
 
 -- ---- values
 
@@ -150,9 +150,9 @@ mutual
   value_is (scalar x) d f t n = scalar_is x d f t
   value_is (code_scope s ps) d f t n =
       let list = list_is ps n.0 f.0.1.0 t.1 n.2 in
-      let doc = document_of n.0 d (as_read_back ps) (elements_bytes ps) n.1 list f.0.1.1 in
+      let doc = document_of n.0 d (pairs_read_back ps) (elements_bytes ps) n.1 list f.0.1.1 in
       subst (λ (q : Pairs). IsValue Replace d tag.JavaScriptCodeWithScope (scope_bytes s (document_of_elements (elements_bytes ps))) (code_scope s q))
-      (one_each_written ps t.2) (is_scope d s (document_of_elements (elements_bytes ps)) (as_read_back ps) (t.0, f.0.0) doc tt f.1)
+      (one_each_written ps t.2) (is_scope d s (document_of_elements (elements_bytes ps)) (pairs_read_back ps) (t.0, f.0.0) doc tt f.1)
   value_is (array vs) d f t n =
       let items = items_is vs n.0 0 f.0 t n.2 (omega (arith, f.1)) in
       let doc = document_of n.0 d items.pairs (array_elements_bytes 0 vs) n.1 items.spelled f.1 in
@@ -160,9 +160,9 @@ mutual
       (is_array d (document_of_elements (array_elements_bytes 0 vs)) items.pairs doc)
   value_is (document ps) d f t n =
       let list = list_is ps n.0 f.0 t.0 n.2 in
-      let doc = document_of n.0 d (as_read_back ps) (elements_bytes ps) n.1 list f.1 in
+      let doc = document_of n.0 d (pairs_read_back ps) (elements_bytes ps) n.1 list f.1 in
       subst (λ (q : Pairs). IsValue Replace d tag.EmbeddedDocument (document_of_elements (elements_bytes ps)) (document q)) (one_each_written ps t.1)
-      (is_embedded d (document_of_elements (elements_bytes ps)) (as_read_back ps) doc tt)
+      (is_embedded d (document_of_elements (elements_bytes ps)) (pairs_read_back ps) doc tt)
 
   items_is : (vs : Values) (d n : ℕ) → FitsItems vs → AreWellTyped vs → ItemsNestUpTo vs d
       → n + length (array_elements_bytes n vs) < 2 ^ 64 → Numbered d n vs
@@ -179,26 +179,26 @@ mutual
         are = ap (λ (ws : Values). value (map_scalars with_written_subtype v) ws) rest.are;
       }
 
-  list_is : (ps : Pairs) (d : ℕ) → FitsElements ps → PairsAreWellTyped ps → PairsNestUpTo ps d → IsElementList Replace d (elements_bytes ps) (as_read_back ps)
+  list_is : (ps : Pairs) (d : ℕ) → FitsElements ps → PairsAreWellTyped ps → PairsNestUpTo ps d → IsElementList Replace d (elements_bytes ps) (pairs_read_back ps)
   list_is no_pairs d f t h = is_empty d
   list_is (pair k v ps) d f t h =
-      element_at_position d k (value_bytes v) (elements_bytes ps) v (map_scalars with_written_subtype v) (as_read_back ps)
+      element_at_position d k (value_bytes v) (elements_bytes ps) v (map_scalars with_written_subtype v) (pairs_read_back ps)
       (record { utf8 = t.0; no_zero = f.0 }) (value_is v d f.1.0 t.1 h.0) (list_is ps d f.1.1 t.2 h.1)
 
 -- what is written is read back
 pub written_read : (d : ℕ) (ps : Pairs) → FitsDocument ps → IsWellTypedDocument ps → PairsNestUpTo ps d
-    → IsRead (suc d) (document_bytes ps) (as_read_back ps)
+    → IsRead (suc d) (document_bytes ps) (pairs_read_back ps)
 written_read d ps f t h = record {
-  elements = as_read_back ps;
-  grammar = is_document d (elements_bytes ps) (as_read_back ps) (list_is ps d f.0 t.0 h) f.1;
+  elements = pairs_read_back ps;
+  grammar = is_document d (elements_bytes ps) (pairs_read_back ps) (list_is ps d f.0 t.0 h) f.1;
   once = tt;
   pairs = sym (one_each_written ps t.1);
 }
 
 -- documents of the same bytes are read back as the same
 pub written_one : (d : ℕ) (ps qs : Pairs) → FitsDocument ps → FitsDocument qs → IsWellTypedDocument ps → IsWellTypedDocument qs
-    → PairsNestUpTo ps d → PairsNestUpTo qs d → document_bytes ps ≡ document_bytes qs → as_read_back ps ≡ as_read_back qs
+    → PairsNestUpTo ps d → PairsNestUpTo qs d → document_bytes ps ≡ document_bytes qs → pairs_read_back ps ≡ pairs_read_back qs
 written_one d ps qs f g t u h k e =
-    ok_is (as_read_back ps) (as_read_back qs)
-    (sym (is_read Replace (suc d) (document_bytes ps) (as_read_back ps) (written_read d ps f t h)) ∙ ap (reads_bytes (suc d)) e
-    ∙ is_read Replace (suc d) (document_bytes qs) (as_read_back qs) (written_read d qs g u k))
+    ok_is (pairs_read_back ps) (pairs_read_back qs)
+    (sym (is_read Replace (suc d) (document_bytes ps) (pairs_read_back ps) (written_read d ps f t h)) ∙ ap (reads_bytes (suc d)) e
+    ∙ is_read Replace (suc d) (document_bytes qs) (pairs_read_back qs) (written_read d qs g u k))

@@ -3,7 +3,7 @@ use Rattle.std.proofs.Common.{◌≡◌, ℕ, Bool, true, false, cond, List, Opt
 use Rattle.std.specs.Str.{bytes_eq}
 use Rattle.std.proofs.lemmas.Slice.Eq.{bytes_eq-Decides}
 use Rattle.bson_model.specs.Value.{Value, Pairs, no_pairs, pair, value_at_key}
-use Rattle.bson_bytes.specs.Grammar.{insert_value, insert_pairs, deduplicated}
+use Rattle.bson_bytes.specs.Grammar.{insert_value, deduplicated_onto, deduplicated}
 use Rattle.bson_bytes.specs.ReadElements.{last_value}
 
 put_there : (b : Bool) (v w : Value) (o : Option Value) → cond b (Some v) o ≡ cond b (Some v) (cond b (Some w) o)
@@ -35,7 +35,7 @@ put_value : (key k : List ℕ) (v : Value) (ps : Pairs)
 put_value key k v no_pairs = refl
 put_value key k v (pair l w ps) = put_by (bytes_eq k l) key k l v w ps (insert_value k v ps) refl (put_value key k v ps)
 
-settled_value : (key : List ℕ) (ps done : Pairs) → value_at_key key (insert_pairs done ps) ≡ last_value key (value_at_key key done) ps
+settled_value : (key : List ℕ) (ps done : Pairs) → value_at_key key (deduplicated_onto done ps) ≡ last_value key (value_at_key key done) ps
 settled_value key no_pairs done = refl
 settled_value key (pair k v ps) done =
     settled_value key ps (insert_value k v done) ∙ ap (λ (o : Option Value). last_value key o ps) (put_value key k v done)

@@ -5,7 +5,7 @@ use Rattle.std.proofs.lemmas.List.{append-nil, append_cancel_right, nil_from_len
 use Rattle.bson_model.specs.Value.{Pairs, no_pairs}
 use Rattle.bson_bytes.specs.declared.fault.FaultKind.TheVariants.{Trailing}
 use Rattle.bson_bytes.specs.Fault.{at}
-use Rattle.bson_bytes.specs.Grammar.{IsDocument, AreAllowedKeys, insert_pairs, deduplicated}
+use Rattle.bson_bytes.specs.Grammar.{IsDocument, AreAllowedKeys, deduplicated_onto, deduplicated}
 use Rattle.bson_bytes.specs.Reading.{insert_pairs_read, read_document_in, reads_bytes_in, no_earlier_keys}
 use Rattle.bson_bytes.specs.ReadDocuments.{IsReadIn, IsFirstDocumentIn}
 use Rattle.bson_bytes.specs.declared.duplicate_keys.DuplicateKeys.{DuplicateKeys}
@@ -23,7 +23,7 @@ grammar_from keys d bytes qs fits e =
     let test = λ (x : Pairs × List ℕ). cond (eqb (length x.1) 0) (Ok x.0) (Err (at Trailing x.1)) in
     let x = bind_ok (insert_pairs_read no_pairs read) test qs e in
     let g = if_ok (eqb (length x.0.1) 0) (Ok x.0.0) (at Trailing x.0.1) qs x.2 in
-    let m = of_mapped (insert_pairs no_pairs) read x.0.0 x.0.1 x.1 in
+    let m = of_mapped (deduplicated_onto no_pairs) read x.0.0 x.0.1 x.1 in
     let t = document_takes keys d (no_earlier_keys keys) bytes m.pairs x.0.1 fits m.read in
     let nothing : x.0.1 ≡ [] = nil_from_length x.0.1 (eqb-true _ _ g.0) in
     let whole : bytes ≡ t.front = t.parts ∙ ap (λ (r : List ℕ). t.front ++ r) nothing ∙ append-nil t.front in
@@ -62,7 +62,7 @@ one_of keys d a b x y ps qs v w e =
 pub front_from : (keys : DuplicateKeys) (d : ℕ) (bytes : List ℕ) (qs : Pairs) (rest : List ℕ) → IsBytes bytes
     → insert_pairs_read no_pairs (read_document_in keys d (no_earlier_keys keys) bytes) ≡ Ok (qs, rest) → IsFirstDocumentIn keys d bytes qs rest
 front_from keys d bytes qs rest fits e =
-    let m = of_mapped (insert_pairs no_pairs) (read_document_in keys d (no_earlier_keys keys) bytes) qs rest e in
+    let m = of_mapped (deduplicated_onto no_pairs) (read_document_in keys d (no_earlier_keys keys) bytes) qs rest e in
     let t = document_takes keys d (no_earlier_keys keys) bytes m.pairs rest fits m.read in
     record {
       front = t.front;

@@ -16,7 +16,7 @@ use Rattle.bson_bytes.specs.declared.fault.FaultKind.{FaultKind}
 use Rattle.bson_bytes.specs.declared.fault.FaultKind.TheVariants.{Short, Length, Utf8, Boolean}
 use Rattle.bson_bytes.specs.declared.duplicate_keys.DuplicateKeys.TheVariants.{Replace}
 use Rattle.bson_bytes.specs.Fault.{at, ◌>>=◌, or_error}
-use Rattle.bson_bytes.specs.Grammar.{pair_values, insert_pairs}
+use Rattle.bson_bytes.specs.Grammar.{pair_values, deduplicated_onto}
 use Rattle.bson_bytes.specs.Reading.{read_byte, read_bytes, read_integer, read_length, read_nul, split_at_nul, prepend_byte, check_utf8, read_name}
 use Rattle.bson_bytes.specs.Reading.{read_string, read_old_binary, read_plain_binary, read_binary, read_boolean, read_regex, read_pointer}
 use Rattle.bson_bytes.specs.Reading.{read_timestamp, map_pairs_read, insert_pairs_read, read_code_with_scope, read_value_in, read_document_in}
@@ -308,7 +308,7 @@ scope_sized d h bytes v rest e =
     let x = bind_ok (insert_pairs_read no_pairs (read_document_in Replace d None s.0.1)) (λ x. cond (eqb (b.0.0 + length x.1) (length bytes)) (Ok (code_scope s.0.0 x.0, x.1)) (Err (at Length bytes))) (v, rest) s.2 in
     let g = if_ok (eqb (b.0.0 + length x.0.1) (length bytes)) (Ok (code_scope s.0.0 x.0.0, x.0.1)) (at Length bytes) (v, rest) x.2 in
     let same : x.0.1 ≡ rest = rest_is (code_scope s.0.0 x.0.0) x.0.1 v rest g.1 in
-    let read = stepped (insert_pairs no_pairs) (read_document_in Replace d None s.0.1) x.0.0 x.0.1 x.1 in
+    let read = stepped (deduplicated_onto no_pairs) (read_document_in Replace d None s.0.1) x.0.0 x.0.1 x.1 in
     let size = size_follows bytes b.0.0 b.0.1 b.1 in
     let text = text_sized b.0.1 s.0.0 s.0.1 s.1 in
     let scope = h s.0.1 read.0 x.0.1 read.1 in
@@ -333,7 +333,7 @@ pub value_skips : (d : ℕ) → DocumentSkips d → (k : ElementType) (bytes : L
 unfolding read_value_in
 value_skips d h tag.Double bytes v rest e = number_skips w64 (λ n. scalar (kind.double n)) bytes v rest e
 value_skips d h tag.String bytes v rest e = text_skips (λ s. scalar (kind.text s)) bytes v rest e
-value_skips d h tag.EmbeddedDocument bytes v rest e = inner_skips d h (insert_pairs no_pairs) document bytes v rest e
+value_skips d h tag.EmbeddedDocument bytes v rest e = inner_skips d h (deduplicated_onto no_pairs) document bytes v rest e
 value_skips d h tag.Array bytes v rest e = inner_skips d h pair_values array bytes v rest e
 value_skips d h tag.Binary bytes v rest e = binary_skips bytes v rest e
 value_skips d h tag.Undefined bytes v rest e = none_skips bytes rest (scalar kind.undefined) v e

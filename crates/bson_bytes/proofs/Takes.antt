@@ -21,7 +21,7 @@ use Rattle.bson_bytes.specs.Grammar.{is_double, is_text, is_embedded, is_array, 
 use Rattle.bson_bytes.specs.Grammar.{is_int32, is_int64, is_old_binary, is_undefined, is_object_id, is_date, is_regex}
 use Rattle.bson_bytes.specs.Grammar.{is_pointer, is_code, is_symbol, is_scope, is_timestamp, is_decimal, is_max}
 use Rattle.bson_bytes.specs.Grammar.{is_min}
-use Rattle.bson_bytes.specs.Grammar.{pair_values, insert_pairs, text_bytes, IsText}
+use Rattle.bson_bytes.specs.Grammar.{pair_values, deduplicated_onto, text_bytes, IsText}
 use Rattle.bson_bytes.specs.Reading.{read_byte, read_bytes, read_integer, read_length, read_name, read_string, read_binary, read_boolean}
 use Rattle.bson_bytes.specs.Reading.{read_value_in, read_elements, check_length, read_document_in, map_pairs_read, insert_pairs_read, read_regex, read_pointer}
 use Rattle.bson_bytes.specs.Reading.{read_timestamp, read_code_with_scope, read_old_binary, read_plain_binary, EarlierKeys, no_earlier_keys, add_earlier_key}
@@ -191,7 +191,7 @@ scope_takes {keys} d h bytes p fits e =
     let g = if_ok (eqb (b.0.0 + length x.0.1) (length bytes)) (Ok (model.code_scope s.0.0 x.0.0, x.0.1)) (at Length bytes) p x.2 in
     let size = size_takes bytes b.0.0 b.0.1 fits b.1 in
     let text = text_takes b.0.1 s.0.0 s.0.1 size.rest_bytes s.1 in
-    let doc = mapped_takes (no_earlier_keys keys) (insert_pairs no_pairs) d h s.0.1 x.0.0 x.0.1 text.rest_bytes x.1 in
+    let doc = mapped_takes (no_earlier_keys keys) (deduplicated_onto no_pairs) d h s.0.1 x.0.0 x.0.1 text.rest_bytes x.1 in
     let whole : b.0.1 ≡ (text_bytes s.0.0 ++ doc.front) ++ x.0.1 = text.parts ∙ ap (λ (a : List ℕ). a ++ s.0.1) text.spelled.0 ∙ ap (λ (a : List ℕ). text_bytes s.0.0 ++ a) doc.parts ∙ sym (append_assoc (text_bytes s.0.0) doc.front x.0.1) in
     let front : bytes ≡ little_endian w32 b.0.0 ++ b.0.1 = size.parts ∙ ap (λ (a : List ℕ). a ++ b.0.1) size.spelled.0 in
     let counted : length bytes ≡ 4 + (length (text_bytes s.0.0) + length doc.front + length x.0.1) =
@@ -209,7 +209,7 @@ value_takes d h tag.Double bytes p fits e =
     stepped (IsNumber w64 (2 ^ 64)) d tag.Double (λ n. model.scalar (kind.double n)) (λ front n w. rw w.0 (is_double d n w.1)) bytes (read_integer w64 bytes) p (λ n rest r. number_takes w64 (2 ^ 64) wide64 bytes n rest fits r) e
 value_takes d h tag.String bytes p fits e = text_part d tag.String (λ s. model.scalar (kind.text s)) (λ s w. is_text d s w) bytes p fits e
 value_takes {keys} d h tag.EmbeddedDocument bytes p fits e =
-    stepped (IsOf keys (no_earlier_keys keys) (insert_pairs no_pairs) d) d tag.EmbeddedDocument (λ ps. model.document ps) (λ front ps w. rw w.2 (is_embedded d front w.0 w.1.0 (may_stand keys w.0 w.1.1))) bytes (insert_pairs_read no_pairs (read_document_in keys d (no_earlier_keys keys) bytes)) p (λ ps rest r. mapped_takes (no_earlier_keys keys) (insert_pairs no_pairs) d h bytes ps rest fits r) e
+    stepped (IsOf keys (no_earlier_keys keys) (deduplicated_onto no_pairs) d) d tag.EmbeddedDocument (λ ps. model.document ps) (λ front ps w. rw w.2 (is_embedded d front w.0 w.1.0 (may_stand keys w.0 w.1.1))) bytes (insert_pairs_read no_pairs (read_document_in keys d (no_earlier_keys keys) bytes)) p (λ ps rest r. mapped_takes (no_earlier_keys keys) (deduplicated_onto no_pairs) d h bytes ps rest fits r) e
 value_takes {keys} d h tag.Array bytes p fits e =
     stepped (IsOf keys None pair_values d) d tag.Array (λ vs. model.array vs) (λ front vs w. rw w.2 (is_array d front w.0 w.1.0)) bytes (map_pairs_read pair_values (read_document_in keys d None bytes)) p (λ vs rest r. mapped_takes None pair_values d h bytes vs rest fits r) e
 value_takes d h tag.Binary bytes p fits e = binary_takes d bytes p fits e

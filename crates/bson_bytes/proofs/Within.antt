@@ -15,7 +15,7 @@ use Rattle.bson_bytes.specs.declared.fault.FaultKind.TheVariants.{Short, Length,
 use Rattle.bson_bytes.specs.declared.fault.FaultKind.TheVariants.{Trailing, DuplicateKey}
 use Rattle.bson_bytes.specs.declared.duplicate_keys.DuplicateKeys.{DuplicateKeys}
 use Rattle.bson_bytes.specs.Fault.{at, ◌>>=◌, or_error}
-use Rattle.bson_bytes.specs.Grammar.{insert_pairs, pair_values}
+use Rattle.bson_bytes.specs.Grammar.{deduplicated_onto, pair_values}
 use Rattle.bson_bytes.specs.Reading.{read_byte, read_bytes, read_integer, read_length, read_nul, split_at_nul, check_utf8, read_name}
 use Rattle.bson_bytes.specs.Reading.{read_string, read_old_binary, read_plain_binary, read_binary, read_boolean, read_regex}
 use Rattle.bson_bytes.specs.Reading.{read_pointer, read_timestamp, map_pairs_read, insert_pairs_read, read_code_with_scope, read_value_in, read_elements, check_length}
@@ -185,7 +185,7 @@ scope_within keys d doc n bytes little_endian =
     (λ k h. step left_by left_by n (read_string k.1) (λ s. insert_pairs_read no_pairs (read_document_in keys d (no_earlier_keys keys) s.1) >>= held k s)
     (text_within n k.1 h)
     (λ s i. step left_by left_by n (insert_pairs_read no_pairs (read_document_in keys d (no_earlier_keys keys) s.1)) (held k s)
-    (onto n (read_document_in keys d (no_earlier_keys keys) s.1) (insert_pairs no_pairs) (doc (no_earlier_keys keys) n s.1 i))
+    (onto n (read_document_in keys d (no_earlier_keys keys) s.1) (deduplicated_onto no_pairs) (doc (no_earlier_keys keys) n s.1 i))
     (λ x j. either_way left_by n (eqb (k.0 + length x.1) (length bytes)) (Ok (code_scope s.0 x.0, x.1))
     (Err (at Length bytes)) j little_endian)))
 
@@ -197,7 +197,7 @@ value_within keys d doc tag.Double n bytes little_endian =
 value_within keys d doc tag.String n bytes little_endian = onto n (read_string bytes) (λ s. scalar (kind.text s)) (text_within n bytes little_endian)
 value_within keys d doc tag.EmbeddedDocument n bytes little_endian =
     onto n (insert_pairs_read no_pairs (read_document_in keys d (no_earlier_keys keys) bytes)) (λ ps. document ps)
-    (onto n (read_document_in keys d (no_earlier_keys keys) bytes) (insert_pairs no_pairs) (doc (no_earlier_keys keys) n bytes little_endian))
+    (onto n (read_document_in keys d (no_earlier_keys keys) bytes) (deduplicated_onto no_pairs) (doc (no_earlier_keys keys) n bytes little_endian))
 value_within keys d doc tag.Array n bytes little_endian =
     onto n (map_pairs_read pair_values (read_document_in keys d None bytes)) (λ vs. array vs)
     (onto n (read_document_in keys d None bytes) pair_values (doc None n bytes little_endian))
@@ -257,7 +257,7 @@ document_within keys (suc d) before n bytes little_endian =
 settled_within : (keys : DuplicateKeys) (d : ℕ) (bytes : List ℕ)
     → Within left_by (length bytes) (insert_pairs_read no_pairs (read_document_in keys d (no_earlier_keys keys) bytes))
 settled_within keys d bytes =
-    onto (length bytes) (read_document_in keys d (no_earlier_keys keys) bytes) (insert_pairs no_pairs)
+    onto (length bytes) (read_document_in keys d (no_earlier_keys keys) bytes) (deduplicated_onto no_pairs)
     (document_within keys d (no_earlier_keys keys) (length bytes) bytes (omega arith))
 
 -- ---- the place of a fault

@@ -69,13 +69,13 @@ insert_value k v no_pairs = pair k v no_pairs
 insert_value k v (pair l w ps) = cond (bytes_eq k l) (pair l v ps) (pair l w (insert_value k v ps))
 
 -- the first pairs, with each of the others inserted
-abbrev pub insert_pairs : Pairs → Pairs → Pairs
-insert_pairs done no_pairs = done
-insert_pairs done (pair k v ps) = insert_pairs (insert_value k v done) ps
+abbrev pub deduplicated_onto : Pairs → Pairs → Pairs
+deduplicated_onto done no_pairs = done
+deduplicated_onto done (pair k v ps) = deduplicated_onto (insert_value k v done) ps
 
 -- one pair for each key: its last value, at its first position
 abbrev pub deduplicated : Pairs → Pairs
-deduplicated ps = insert_pairs no_pairs ps
+deduplicated ps = deduplicated_onto no_pairs ps
 
 -- the values of the elements, without their keys
 abbrev pub pair_values : Pairs → Values

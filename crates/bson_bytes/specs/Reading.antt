@@ -18,7 +18,7 @@ use Rattle.bson_bytes.specs.declared.fault.Fault.{Fault}
 use Rattle.bson_bytes.specs.declared.duplicate_keys.DuplicateKeys.{DuplicateKeys}
 use Rattle.bson_bytes.specs.declared.duplicate_keys.DuplicateKeys.TheVariants.{Replace, Refuse}
 use Rattle.bson_bytes.specs.Fault.{at, ◌>>=◌, or_error}
-use Rattle.bson_bytes.specs.Grammar.{insert_pairs, pair_values}
+use Rattle.bson_bytes.specs.Grammar.{deduplicated_onto, pair_values}
 use Rattle.bson_bytes.specs.TypeTags.{type_of_tag}
 
 abbrev pub read_byte : List ℕ → Result (ℕ × List ℕ) Fault
@@ -143,7 +143,7 @@ passed read = read >>= λ x. Ok x.1
 
 -- the first pairs, with the pairs that were read inserted
 abbrev pub insert_pairs_read : Pairs → Result (Pairs × List ℕ) Fault → Result (Pairs × List ℕ) Fault
-insert_pairs_read done read = map_pairs_read (insert_pairs done) read
+insert_pairs_read done read = map_pairs_read (deduplicated_onto done) read
 
 -- code and a document, whose length together is the number before them
 unfoldable pub read_code_with_scope : (List ℕ → Result (Pairs × List ℕ) Fault) → List ℕ → Result (Value × List ℕ) Fault

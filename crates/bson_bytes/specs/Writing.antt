@@ -181,8 +181,8 @@ with_written_subtype (binary k s) = binary (subtype_of (subtype_byte k)) s
 with_written_subtype x = x
 
 -- the pairs as they are read back from their bytes
-abbrev pub as_read_back : Pairs → Pairs
-as_read_back ps = map_scalars_of_pairs with_written_subtype ps
+abbrev pub pairs_read_back : Pairs → Pairs
+pairs_read_back ps = map_scalars_of_pairs with_written_subtype ps
 
 -- what each value of the Rust types is: its numbers are in range, and its texts are UTF-8
 abbrev pub IsWellTypedScalar : Scalar → Type 0

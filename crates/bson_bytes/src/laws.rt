@@ -5,7 +5,7 @@ ghost use Rattle.bson_bytes.specs.Grammar.{IsDocument};
 ghost use Rattle.bson_bytes.specs.ReadDocuments.{IsRead, IsReadIn};
 ghost use Rattle.bson_bytes.specs.Reading.{reads_bytes_in};
 ghost use Rattle.bson_bytes.specs.declared.duplicate_keys.DuplicateKeys.{DuplicateKeys};
-ghost use Rattle.bson_bytes.specs.Writing.{document_bytes, as_read_back, Cause, FitsDocument, DocumentFails};
+ghost use Rattle.bson_bytes.specs.Writing.{document_bytes, pairs_read_back, Cause, FitsDocument, DocumentFails};
 ghost use Rattle.bson_bytes.specs.Writing.{IsWellTypedDocument, PairsNestUpTo};
 ghost use Rattle.bson_model.specs.Value.{Pairs};
 
@@ -40,13 +40,13 @@ pub fn one_document()
 /// names.
 pub fn written_is_read()
     ensures { (d : ℕ) (ps : Pairs) → FitsDocument ps → IsWellTypedDocument ps → PairsNestUpTo ps d
-        → IsRead (suc d) (document_bytes ps) (as_read_back ps) }
+        → IsRead (suc d) (document_bytes ps) (pairs_read_back ps) }
 {}
 
 /// Proves that documents that are written as the same bytes are read back as the same.
 pub fn written_is_one()
     ensures { (d : ℕ) (ps qs : Pairs) → FitsDocument ps → FitsDocument qs → IsWellTypedDocument ps → IsWellTypedDocument qs
-        → PairsNestUpTo ps d → PairsNestUpTo qs d → document_bytes ps ≡ document_bytes qs → as_read_back ps ≡ as_read_back qs }
+        → PairsNestUpTo ps d → PairsNestUpTo qs d → document_bytes ps ≡ document_bytes qs → pairs_read_back ps ≡ pairs_read_back qs }
 {}
 
 /// Proves that a document whose parts all fit does not fail for a cause.

@@ -22,7 +22,7 @@ use Rattle.bson.specs.declared.extjson.key_order.KeyOrder.TheVariants.{AsGiven}
 use Rattle.bson_bytes.specs.PrintedText.{IsPrintedText}
 use Rattle.bson_codec.specs.DumpRuns.{IsLine, WritesLine}
 use Rattle.bson_codec.specs.DocumentText.{IsDocumentTextOf}
-use Rattle.bson_codec.specs.Diagnostics.{newline}
+use Rattle.bson_codec.specs.Diagnostics.{line_feed}
 use Rattle.bson_codec.specs.declared.documents.Line.TheVariants.{Text}
 use Rattle.bson_codec.specs.declared.documents.Run.{Run}
 
@@ -60,7 +60,7 @@ text_written f v text t = sym (writable_is Finite f v) ∙ ap is_ok (written_to 
 
 -- a line of a dump in its own order, with finite doubles
 pub line_is : (run : Run) (f : Form) (bytes text line : List ℕ) → run.line ≡ Text f → run.options.doubles ≡ Finite
-    → run.options.key_order ≡ AsGiven → IsDocumentTextOf f run.depth bytes text → (line ≡ text ++ newline) × IsUtf8 line → IsLine run bytes line
+    → run.options.key_order ≡ AsGiven → IsDocumentTextOf f run.depth bytes text → (line ≡ text ++ line_feed) × IsUtf8 line → IsLine run bytes line
 line_is run f bytes text line form finite given decoded is =
     let v = document decoded.pairs in
     let t = decoded.text_in_order in

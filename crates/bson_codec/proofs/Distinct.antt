@@ -8,7 +8,7 @@ use Rattle.bson_model.specs.Value.{Value, Pairs, no_pairs, pair}
 use Rattle.bson_bytes.specs.declared.fault.Fault.{Fault}
 use Rattle.bson_bytes.specs.declared.fault.FaultKind.TheVariants.{DuplicateKey}
 use Rattle.bson_bytes.specs.Fault.{at}
-use Rattle.bson_bytes.specs.Grammar.{insert_value, insert_pairs, deduplicated}
+use Rattle.bson_bytes.specs.Grammar.{insert_value, deduplicated_onto, deduplicated}
 use Rattle.bson_bytes.specs.Reading.{read_name, read_key, is_new}
 use Rattle.bson.specs.Pairs.{get, insert_pair}
 use Rattle.bson.specs.View.{bson_view, document_view, pairs_view, contents}
@@ -68,7 +68,7 @@ keys_more ks ps qs k v h is = λ q.
 abbrev pub Distinct : Pairs → Document → Type 0
 Distinct ps d = (document_view d ≡ deduplicated ps) × HaveKeys (reversed_keys ps []) (contents d)
 
-settle_more : (done ps : Pairs) (k : List ℕ) (v : Value) → insert_pairs done (with_pair ps k v) ≡ insert_value k v (insert_pairs done ps)
+settle_more : (done ps : Pairs) (k : List ℕ) (v : Value) → deduplicated_onto done (with_pair ps k v) ≡ insert_value k v (deduplicated_onto done ps)
 settle_more done no_pairs k v = refl
 settle_more done (pair l w ps) k v = settle_more (insert_value l w done) ps k v
 

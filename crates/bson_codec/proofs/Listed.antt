@@ -4,7 +4,7 @@ use Rattle.std.proofs.Common.{◌∙◌, subst, string_bytes}
 use Rattle.std.specs.Str.{bytes_eq}
 use Rattle.bson_store.specs.declared.small.Pair.{Pair}
 use Rattle.bson_model.specs.Value.{Value, Values, no_values, value, Pairs, no_pairs, pair}
-use Rattle.bson_bytes.specs.Grammar.{pair_values, insert_value, insert_pairs, deduplicated}
+use Rattle.bson_bytes.specs.Grammar.{pair_values, insert_value, deduplicated_onto, deduplicated}
 use Rattle.bson_bytes.specs.Reading.{read_key, read_name}
 use Rattle.bson_bytes.specs.declared.duplicate_keys.DuplicateKeys.{DuplicateKeys}
 use Rattle.bson_bytes.specs.declared.duplicate_keys.DuplicateKeys.TheVariants.{Replace, Refuse}
@@ -30,11 +30,11 @@ pairs_view-put k v [] = refl
 pairs_view-put k v (p ∷ ps) = put_view_by (bytes_eq k p.0) k v p ps (insert_pair k v ps) (insert_value k (bson_view v) (pairs_view ps)) (pairs_view-put k v ps)
 
 view-insert_entries : (es : List (Pair Bson)) (ps : List (List ℕ × Bson))
-    → pairs_view (insert_entries es ps) ≡ insert_pairs (pairs_view ps) (entries_view es)
+    → pairs_view (insert_entries es ps) ≡ deduplicated_onto (pairs_view ps) (entries_view es)
 view-insert_entries [] ps = refl
 view-insert_entries (e ∷ es) ps =
     view-insert_entries es (insert_pair (string_bytes e.key) e.value ps)
-    ∙ ap (λ (q : Pairs). insert_pairs q (entries_view es)) (pairs_view-put (string_bytes e.key) e.value ps)
+    ∙ ap (λ (q : Pairs). deduplicated_onto q (entries_view es)) (pairs_view-put (string_bytes e.key) e.value ps)
 
 pub document_is : (d : Document) (es : List (Pair Bson)) (ps : Pairs) → contents d ≡ insert_entries es []
     → entries_view es ≡ ps → document_view d ≡ deduplicated ps

@@ -20,7 +20,7 @@ use Rattle.bson_codec.proofs.Streams.{sized}
 use Rattle.bson_codec.specs.DumpRuns.{BeginsWithLength, Dump, none, written, skipped_document, EndsInside, HasNoLine, IsLine}
 use Rattle.bson_codec.specs.DumpRuns.{IsSkipped, IsUnwritable, WritesLine}
 use Rattle.bson_codec.specs.Streams.{declared_prefix}
-use Rattle.bson_codec.specs.Diagnostics.{newline, diagnostic_of}
+use Rattle.bson_codec.specs.Diagnostics.{line_feed, diagnostic_of}
 use Rattle.bson_codec.specs.declared.documents.Line.{Line}
 use Rattle.bson_codec.specs.declared.documents.Line.TheVariants.{Text, Shown, Nothing}
 use Rattle.bson_codec.specs.declared.documents.Run.{Run}
@@ -45,7 +45,7 @@ one_text AsGiven D f v s t is are =
 one_write : (o : Options) (line : Line) (ps : Pairs) (a b : List ℕ) → WritesLine o line ps a → WritesLine o line ps b
     → a ≡ b
 one_write o (Text f) ps a b (w, (s, is, e)) (v, (t, are, g)) =
-    e ∙ ap (λ (x : List ℕ). x ++ newline) (one_text o.key_order o.doubles f (document ps) s t is are) ∙ sym g
+    e ∙ ap (λ (x : List ℕ). x ++ line_feed) (one_text o.key_order o.doubles f (document ps) s t is are) ∙ sym g
 one_write o Shown ps a b h k = h ∙ sym k
 one_write o Nothing ps a b h k = h ∙ sym k
 

@@ -7,15 +7,15 @@ use Rattle.std.proofs.KnownBytes.{Appends-nil, Appends-trans, Consumes-nil, Cons
 use Rattle.std.proofs.lemmas.List.{append-nil, length-append}
 use Rattle.bson_codec.specs.DumpRuns.{Dump, none, written, skipped_document}
 use Rattle.bson_codec.specs.DumpRuns.{CompletedRun, IsEndReason, EndsAt, HasNoLine, IsLineOrSkip, IsConversionFault, IsLine, IsFaultOfDocument}
-use Rattle.bson_codec.specs.DumpRuns.{IsSkipped, IsRunEnd, IsReportFailure, RunProgress, ConsumesPrefix}
-use Rattle.bson_codec.specs.Streams.{WritesBeginning, declared_prefix}
+use Rattle.bson_codec.specs.DumpRuns.{IsSkipped, IsRunEnd, IsReportFailure, DumpProgress, ConsumesPrefix}
+use Rattle.bson_codec.specs.Streams.{WritesPrefix, declared_prefix}
 use Rattle.bson_codec.specs.Diagnostics.{diagnostic_of}
 use Rattle.bson_codec.specs.declared.documents.Run.{Run}
 use Rattle.bson_codec.specs.declared.run_end.RunFault.{RunFault}
 use Rattle.bson_codec.specs.declared.run_end.RunFault.TheVariants.{Malformed, FiniteDouble, CannotRead, CannotWrite}
 use Rattle.bson_codec.specs.declared.run_end.RunFault.TheVariants.{OutOfMemory}
 
-pub run_begins : (run : Run) (before output_before diagnostics_before : Option (List ℕ)) → RunProgress run before before output_before output_before diagnostics_before diagnostics_before 0 0 0
+pub run_begins : (run : Run) (before output_before diagnostics_before : Option (List ℕ)) → DumpProgress run before before output_before output_before diagnostics_before diagnostics_before 0 0 0
 run_begins run before output_before diagnostics_before = record {
   done = [];
   output = [];
@@ -35,9 +35,9 @@ appends_kept (Some x) (Some y) (Some z) bs p q = q ∙ p
 
 pub run_goes_on : (run : Run) (before mid after output_before output_after after_holds diagnostics_before diagnostics_after after_tells : Option (List ℕ))
     (number refused start n following : ℕ) (bytes : List ℕ)
-    → RunProgress run before mid output_before output_after diagnostics_before diagnostics_after number refused start → Consumes mid after bytes
+    → DumpProgress run before mid output_before output_after diagnostics_before diagnostics_after number refused start → Consumes mid after bytes
     → IsLineOrSkip n run (number + 1) start bytes output_after after_holds diagnostics_after after_tells → following ≡ start + length bytes
-    → RunProgress run before after output_before after_holds diagnostics_before after_tells (number + 1) (refused + n) following
+    → DumpProgress run before after output_before after_holds diagnostics_before after_tells (number + 1) (refused + n) following
 run_goes_on run before mid after output_before output_after after_holds diagnostics_before diagnostics_after after_tells number refused start n following bytes r bytes_read (inl g) place =
     let line = g.1.0.0 in
     let same : refused + n ≡ refused = omega (arith, g.0) in
@@ -72,7 +72,7 @@ run_goes_on run before mid after output_before output_after after_holds diagnost
 -- ---- a document without a line
 
 pub cut_line : (run : Run) (number start : ℕ) (bytes line : List ℕ) (output_before output_after diagnostics_after : Option (List ℕ))
-    → IsLine run bytes line → WritesBeginning output_before output_after line
+    → IsLine run bytes line → WritesPrefix output_before output_after line
     → IsRunEnd CannotWrite run number start bytes output_before output_after diagnostics_after diagnostics_after
 cut_line run number start bytes line output_before output_after diagnostics_after is cut =
     (cut.beginning, [], inl ((line, is, cut.starts), refl), (cut.written, Appends-nil diagnostics_after))
@@ -112,7 +112,7 @@ one_at_most n run number start bytes output_before output_after diagnostics_befo
 one_at_most n run number start bytes output_before output_after diagnostics_before diagnostics_after (inr g) = omega (arith, g.0)
 
 pub run_is_done : (run : Run) (before mid after output_before output_after diagnostics_before diagnostics_after : Option (List ℕ)) (number refused start : ℕ)
-    (bytes : List ℕ) → RunProgress run before mid output_before output_after diagnostics_before diagnostics_after number refused start → Consumes mid after bytes
+    (bytes : List ℕ) → DumpProgress run before mid output_before output_after diagnostics_before diagnostics_after number refused start → Consumes mid after bytes
     → bytes ≡ [] → IsAtEnd after → CompletedRun run before after output_before output_after diagnostics_before diagnostics_after number refused
 run_is_done run before mid after output_before output_after diagnostics_before diagnostics_after number refused start bytes r bytes_read nothing end = record {
   bytes = r.done;
@@ -128,7 +128,7 @@ run_is_done run before mid after output_before output_after diagnostics_before d
 
 pub run_ends : (run : Run) (before mid after output_before output_after after_holds diagnostics_before diagnostics_after after_tells : Option (List ℕ))
     (count refused start number : ℕ) (fault : RunFault) (bytes_read : List ℕ)
-    → (r : RunProgress run before mid output_before output_after diagnostics_before diagnostics_after count refused start) → Consumes mid after bytes_read
+    → (r : DumpProgress run before mid output_before output_after diagnostics_before diagnostics_after count refused start) → Consumes mid after bytes_read
     → number ≡ count + 1 → ConsumesPrefix fault before r.done bytes_read
     → IsRunEnd fault run number start bytes_read output_after after_holds diagnostics_after after_tells
     → EndsAt run before after output_before after_holds diagnostics_before after_tells fault number refused start
@@ -196,7 +196,7 @@ given_front OutOfMemory before mid done bytes_read c some h = tt
 
 pub run_ends_unread : (run : Run) (before mid after output_before output_after diagnostics_before diagnostics_after : Option (List ℕ))
     (count refused start number : ℕ) (fault : RunFault) (bytes_read : List ℕ)
-    → RunProgress run before mid output_before output_after diagnostics_before diagnostics_after count refused start → Consumes mid after bytes_read → number ≡ count + 1
+    → DumpProgress run before mid output_before output_after diagnostics_before diagnostics_after count refused start → Consumes mid after bytes_read → number ≡ count + 1
     → (fault ≡ CannotRead) ⊎ (fault ≡ OutOfMemory)
     → EndsAt run before after output_before output_after diagnostics_before diagnostics_after fault number refused start
 run_ends_unread run before mid after output_before output_after diagnostics_before diagnostics_after count refused start number fault bytes_read r consumed_bytes next why =
@@ -206,7 +206,7 @@ run_ends_unread run before mid after output_before output_after diagnostics_befo
 
 pub run_ends_at : (run : Run) (before mid after output_before output_after after_holds diagnostics_before diagnostics_after after_tells : Option (List ℕ))
     (count refused start number : ℕ) (fault : RunFault) (bytes_read : List ℕ)
-    → RunProgress run before mid output_before output_after diagnostics_before diagnostics_after count refused start → Consumes mid after bytes_read → number ≡ count + 1
+    → DumpProgress run before mid output_before output_after diagnostics_before diagnostics_after count refused start → Consumes mid after bytes_read → number ≡ count + 1
     → bytes_read ≢ [] → ((all : List ℕ) → mid ≡ Some all → bytes_read ≡ declared_prefix all)
     → IsRunEnd fault run number start bytes_read output_after after_holds diagnostics_after after_tells
     → EndsAt run before after output_before after_holds diagnostics_before after_tells fault number refused start
@@ -215,7 +215,7 @@ run_ends_at run before mid after output_before output_after after_holds diagnost
     consumed_bytes next (given_front fault before mid r.done bytes_read r.consumed_bytes some front) why
 
 pub run_stops_between : (run : Run) (before mid output_before output_after diagnostics_before diagnostics_after : Option (List ℕ))
-    (count refused start number : ℕ) → RunProgress run before mid output_before output_after diagnostics_before diagnostics_after count refused start
+    (count refused start number : ℕ) → DumpProgress run before mid output_before output_after diagnostics_before diagnostics_after count refused start
     → number ≡ count + 1 → EndsAt run before mid output_before output_after diagnostics_before diagnostics_after CannotRead number refused start
 run_stops_between run before mid output_before output_after diagnostics_before diagnostics_after count refused start number r next =
     run_ends_unread run before mid mid output_before output_after diagnostics_before diagnostics_after count refused start number CannotRead [] r (Consumes-nil mid) next

@@ -11,7 +11,7 @@ use Rattle.bson_types.specs.declared.regex.Regex.{Regex}
 use Rattle.bson.specs.Scalar.{text, code, symbol, regex}
 use Rattle.bson_model.specs.Value.{Pairs, pair, scalar, code_scope}
 use Rattle.bson_bytes.proofs.Offered.{string_utf8}
-use Rattle.bson_bytes.specs.Grammar.{insert_value, insert_pairs, deduplicated}
+use Rattle.bson_bytes.specs.Grammar.{insert_value, deduplicated_onto, deduplicated}
 use Rattle.bson_bytes.specs.Writing.{IsWellTyped, AreWellTyped, PairsAreWellTyped, IsWellTypedDocument}
 use Rattle.bson.specs.View.{bson_view, scoped_view, document_view, values_view, pairs_view, contents}
 use Rattle.bson.specs.declared.bson.Bson.{Bson, the_lemmas as of_values}
@@ -48,11 +48,11 @@ lack_one_more done p (q ∷ ps) h d =
     (lacks_one_more q.0 done p h.0 (nat_list_eq_equiv.symm q.0 p.0 ∙ d.0), lack_one_more done p ps h.1 d.1)
 
 settle_distinct : (done ps : List (List ℕ × Bson)) → LackAll done ps → HasDistinctKeys ps
-    → insert_pairs (pairs_view done) (pairs_view ps) ≡ pairs_view (done ++ ps)
+    → deduplicated_onto (pairs_view done) (pairs_view ps) ≡ pairs_view (done ++ ps)
 unfolding IsDistinct
 settle_distinct done [] h d = ap pairs_view (sym (append-nil done))
 settle_distinct done (p ∷ ps) h d =
-    ap (λ (q : Pairs). insert_pairs q (pairs_view ps)) (put_last p.0 p.1 done h.0)
+    ap (λ (q : Pairs). deduplicated_onto q (pairs_view ps)) (put_last p.0 p.1 done h.0)
     ∙ settle_distinct (done ++ p ∷ []) ps (lack_one_more done p ps h.1 d.0) d.1
     ∙ ap pairs_view (append_assoc done (p ∷ []) ps)
 

@@ -9,7 +9,7 @@ use Rattle.std.proofs.lemmas.Bool.{lt-ltb}
 use Rattle.bson_bytes.specs.declared.fault.FaultKind.{FaultKind}
 use Rattle.bson_bytes.specs.declared.fault.FaultKind.TheVariants as kind
 use Rattle.bson_codec.specs.DumpRuns.{Dump, none, written, skipped_document}
-use Rattle.bson_codec.specs.Diagnostics.{newline, place_text, diagnostic_of, fault_kind_message, run_fault_message}
+use Rattle.bson_codec.specs.Diagnostics.{line_feed, place_text, diagnostic_of, fault_kind_message, run_fault_message}
 use Rattle.bson_codec.specs.declared.documents.Run.{Run}
 use Rattle.bson_codec.specs.declared.run_end.RunFault.{RunFault}
 use Rattle.bson_codec.specs.declared.run_end.RunFault.TheVariants.{Malformed, FiniteDouble, CannotRead, CannotWrite}
@@ -67,7 +67,7 @@ diagnostic_utf8 number start fault =
     let before = IsUtf8-append _ _ placed (IsUtf8-are_ascii (codes ": ") refl) in
     let partial_report = IsUtf8-append _ _ before (words_utf8 fault) in
     let whole = IsUtf8-append _ _ partial_report (place_utf8 fault) in
-    IsUtf8-append _ _ whole (IsUtf8-are_ascii newline refl)
+    IsUtf8-append _ _ whole (IsUtf8-are_ascii line_feed refl)
 
 pub dump_utf8 : {run : Run} {bytes output diagnostics_before : List ℕ} {number refused : ℕ} → Dump run bytes output diagnostics_before number refused
     → IsUtf8 output × IsUtf8 diagnostics_before

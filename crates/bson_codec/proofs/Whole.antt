@@ -5,7 +5,7 @@ use Rattle.bson_model.specs.Value.{Pairs, document}
 use Rattle.bson_model.specs.OrderedTexts.{HasMeaningInOrder}
 use Rattle.bson_bytes.specs.ReadDocuments.{IsRead}
 use Rattle.bson_bytes.specs.PutSteps.{put_document}
-use Rattle.bson_bytes.specs.Writing.{as_read_back}
+use Rattle.bson_bytes.specs.Writing.{pairs_read_back}
 use Rattle.bson_bytes.proofs.Offered.{told_ok, written_read}
 use Rattle.bson_codec.specs.PackedText.{IsPackedText, DocumentPut}
 
@@ -18,6 +18,6 @@ text_packed D text bytes old ps means (typed, put, grows) none =
       meaning = means;
       fits = diagnostics_before.0;
       canonical = diagnostics_before.1;
-      back = λ d nests. subst (λ b. IsRead (suc d) b (as_read_back ps)) (sym diagnostics_before.1)
+      back = λ d nests. subst (λ b. IsRead (suc d) b (pairs_read_back ps)) (sym diagnostics_before.1)
           (written_read d ps diagnostics_before.0 typed nests);
     }

@@ -7,8 +7,8 @@ use Rattle.bson_codec.specs.declared.run_end.RunFault.{RunFault}
 use Rattle.bson_codec.specs.declared.run_end.RunFault.TheVariants.{Malformed, FiniteDouble, CannotRead, CannotWrite}
 use Rattle.bson_codec.specs.declared.run_end.RunFault.TheVariants.{OutOfMemory}
 
-abbrev pub newline : List ℕ
-newline = 10 ∷ []
+abbrev pub line_feed : List ℕ
+line_feed = 10 ∷ []
 
 abbrev pub fault_kind_message : FaultKind → List ℕ
 fault_kind_message kind.Depth = codes "nested too deep"
@@ -31,7 +31,7 @@ run_fault_message OutOfMemory = codes "out of memory"
 abbrev pub diagnostic_with : ℕ → ℕ → RunFault → List ℕ → List ℕ
 diagnostic_with number start fault place =
     codes "document " ++ decimal number ++ codes " at byte " ++ decimal start ++ codes ": " ++ run_fault_message fault ++ place
-    ++ newline
+    ++ line_feed
 
 -- where in the document
 abbrev pub place_text : RunFault → List ℕ

@@ -12,7 +12,7 @@ use Rattle.bson_bytes.specs.ReadDocuments.{IsRead, IsFirstDocument}
 use Rattle.bson_bytes.specs.Reading.{reads_bytes, read_length}
 use Rattle.bson_codec.specs.ReadErrors.{IsFaultAtOffset}
 use Rattle.bson_codec.specs.Streams.{declared_prefix}
-use Rattle.bson_codec.specs.Diagnostics.{newline, diagnostic_of}
+use Rattle.bson_codec.specs.Diagnostics.{line_feed, diagnostic_of}
 use Rattle.bson_codec.specs.declared.de.Error.{Error}
 use Rattle.bson_codec.specs.declared.de.Error.TheVariants as errors
 use Rattle.bson_codec.specs.declared.documents.Line.{Line}
@@ -27,8 +27,8 @@ use Rattle.bson_codec.specs.declared.run_end.RunFault.TheVariants.{OutOfMemory}
 -- what is written of the document: the text of one that has a text, and a newline; or nothing
 abbrev pub WritesLine : Options → Line → Pairs → List ℕ → Type 0
 WritesLine write_options (Text f) ps line = (writable_in write_options.doubles (document ps) ≡ true)
-    × ((text : List ℕ) × IsTextBy write_options.key_order write_options.doubles f (document ps) text × (line ≡ text ++ newline))
-WritesLine write_options Shown ps line = line ≡ display_text (document ps) ++ newline
+    × ((text : List ℕ) × IsTextBy write_options.key_order write_options.doubles f (document ps) text × (line ≡ text ++ line_feed))
+WritesLine write_options Shown ps line = line ≡ display_text (document ps) ++ line_feed
 WritesLine write_options Nothing ps line = line ≡ []
 
 -- what is written of the document that the bytes are, which is UTF-8
@@ -201,7 +201,7 @@ IsReportFailure e number start fault diagnostics_before diagnostics_after =
     ⊎ ((e ≡ CannotWrite) × ((partial_report : List ℕ) × StartsWith (diagnostic_of number start fault) partial_report × Appends diagnostics_before diagnostics_after partial_report))
 
 -- the progress of a run
-pub record RunProgress (run : Run) (before after output_before output_after diagnostics_before diagnostics_after : Option (List ℕ)) (number refused start : ℕ)
+pub record DumpProgress (run : Run) (before after output_before output_after diagnostics_before diagnostics_after : Option (List ℕ)) (number refused start : ℕ)
     : Type 0 where
   pub done : List ℕ
   pub output : List ℕ

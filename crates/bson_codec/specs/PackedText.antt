@@ -7,7 +7,7 @@ use Rattle.bson_model.specs.Value.{Value, Pairs, document}
 use Rattle.bson_model.specs.OrderedTexts.{HasMeaningInOrder}
 use Rattle.bson_bytes.specs.ReadDocuments.{IsRead}
 use Rattle.bson_bytes.specs.PutSteps.{put_value, put_document, put_text, put_length_placeholder}
-use Rattle.bson_bytes.specs.Writing.{type_of, name_bytes, document_bytes, as_read_back, FitsDocument, PairsNestUpTo, IsWellTyped}
+use Rattle.bson_bytes.specs.Writing.{type_of, name_bytes, document_bytes, pairs_read_back, FitsDocument, PairsNestUpTo, IsWellTyped}
 use Rattle.bson_bytes.specs.Writing.{IsWellTypedDocument}
 
 -- the text means a document in the order of its keys, each part of which has bytes, and these are its canonical bytes,
@@ -17,7 +17,7 @@ pub record IsPackedText (doubles : Doubles) (text bytes : List ℕ) : Type 0 whe
   pub meaning : HasMeaningInOrder doubles text (document pairs)
   pub fits : FitsDocument pairs
   pub canonical : bytes ≡ document_bytes pairs
-  pub back : (d : ℕ) → PairsNestUpTo pairs d → IsRead (suc d) bytes (as_read_back pairs)
+  pub back : (d : ℕ) → PairsNestUpTo pairs d → IsRead (suc d) bytes (pairs_read_back pairs)
 
 -- ---- for private clauses
 

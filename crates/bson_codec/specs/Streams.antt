@@ -15,7 +15,7 @@ use Rattle.bson_codec.specs.declared.stream.WriterError.{WriterError}
 use Rattle.bson_codec.specs.declared.stream.WriterError.TheVariants as write_errors
 
 -- a beginning of the bytes was written
-pub record WritesBeginning (output_before output_after : Option (List ℕ)) (bytes : List ℕ) : Type 0 where
+pub record WritesPrefix (output_before output_after : Option (List ℕ)) (bytes : List ℕ) : Type 0 where
   pub beginning : List ℕ
   pub starts : StartsWith bytes beginning
   pub written : Appends output_before output_after beginning
@@ -45,7 +45,7 @@ IsSystemFailure (write_errors.NoBytes e) = e ≡ errors.OutOfMemory
 -- a document that has no bytes writes none; a writer that fails accepted a prefix
 abbrev pub IsWriteFailure : WriterError → Pairs → (output_before output_after : Option (List ℕ)) → Type 0
 IsWriteFailure (write_errors.NoBytes e) ps output_before output_after = IsWriteErrorFor e ps × Keeps output_before output_after
-IsWriteFailure write_errors.CannotWrite ps output_before output_after = FitsDocument ps × WritesBeginning output_before output_after (document_bytes ps)
+IsWriteFailure write_errors.CannotWrite ps output_before output_after = FitsDocument ps × WritesPrefix output_before output_after (document_bytes ps)
 
 -- ---- the front of bytes
 

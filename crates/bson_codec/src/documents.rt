@@ -11,7 +11,7 @@ ghost use Rattle.bson.specs.declared.extjson.key_order.KeyOrder.TheVariants.{AsG
 ghost use Rattle.bson_codec.specs.DumpRuns.{BeginsWithLength, CompletedRun, EndsAt, IsLineOrSkip, IsConversionFault};
 ghost use Rattle.bson_codec.specs.DumpRuns.{IsJustified, IsLine, IsFaultOfDocument, IsRunEnd, IsReportFailure, IsLineFault};
 ghost use Rattle.bson_codec.specs.DumpRuns.{WritesLine, run_fault};
-ghost use Rattle.bson_codec.specs.Diagnostics.{newline, diagnostic_of};
+ghost use Rattle.bson_codec.specs.Diagnostics.{line_feed, diagnostic_of};
 ghost use Rattle.bson_codec.specs.declared.documents.Line.TheVariants.{Text};
 ghost use Rattle.bson_codec.specs.declared.documents.Run.{Run};
 ghost use Rattle.bson_codec.specs.declared.run_end.RunFault.TheVariants.{CannotRead, OutOfMemory};
@@ -312,7 +312,7 @@ fn value_line(alloc: Global, run: Run, form: Form, document: Document) -> Result
 
 // Returns the line with the output of `Display`.
 fn shown_line(alloc: Global, document: Document) -> Result<Vec<u8>, RunFault>
-    ensures ok { IfOk result (λ line. (line.items ≡ display_text (model.document (document_view document)) ++ newline)
+    ensures ok { IfOk result (λ line. (line.items ≡ display_text (model.document (document_view document)) ++ line_feed)
         × IsUtf8 line.items) }
     ensures fault { IfErr result (λ e. e ≡ OutOfMemory) }
 {
@@ -324,7 +324,7 @@ fn shown_line(alloc: Global, document: Document) -> Result<Vec<u8>, RunFault>
 
 // Appends a newline.
 fn end_line(text: String) -> Result<Vec<u8>, RunFault>
-    ensures ok { IfOk result (λ line. (line.items ≡ string_bytes text ++ newline) × IsUtf8 line.items) }
+    ensures ok { IfOk result (λ line. (line.items ≡ string_bytes text ++ line_feed) × IsUtf8 line.items) }
     ensures fault { IfErr result (λ e. e ≡ OutOfMemory) }
 {
     let mut line = text.into_bytes();

@@ -1,7 +1,7 @@
 //! Bytes of documents.
 ghost use Rattle.std.specs.Prelude.{◌≡◌, ℕ, suc, IfOk, OnOk, IfErr};
 ghost use Rattle.bson_bytes.specs.ReadDocuments.{IsRead};
-ghost use Rattle.bson_bytes.specs.Writing.{document_bytes, as_read_back, FitsDocument, IsWellTypedDocument, PairsNestUpTo};
+ghost use Rattle.bson_bytes.specs.Writing.{document_bytes, pairs_read_back, FitsDocument, IsWellTypedDocument, PairsNestUpTo};
 ghost use Rattle.bson_bytes.specs.declared.error.Error.TheVariants as errors;
 ghost use Rattle.bson.specs.View.{document_view};
 ghost use Rattle.bson_codec.specs.WriteErrors.{IsWriteErrorFor};
@@ -42,7 +42,7 @@ pub fn to_vec(alloc: Global, document: &Document) -> Result<Vec<u8>>
     ensures typed { OnOk result (IsWellTypedDocument (document_view document.now)) }
     // They are read back as the document, each binary under the subtype that its byte names.
     ensures back { IfOk result (λ out. (d : ℕ) → PairsNestUpTo (document_view document.now) d
-        → IsRead (suc d) out.items (as_read_back (document_view document.now))) }
+        → IsRead (suc d) out.items (pairs_read_back (document_view document.now))) }
     // If each part fits, only memory can fail.
     ensures only { FitsDocument (document_view document.now) → IfErr result (λ e. e ≡ errors.OutOfMemory) }
     // It is the cause of the first part, in the order of writing, that has no bytes.

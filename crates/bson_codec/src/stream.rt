@@ -5,7 +5,7 @@ ghost use Rattle.bson_model.specs.Value.{Pairs};
 ghost use Rattle.bson_bytes.specs.ReadDocuments.{IsRead, IsFirstDocument};
 ghost use Rattle.bson_bytes.specs.Writing.{document_bytes, FitsDocument};
 ghost use Rattle.bson.specs.View.{document_view};
-ghost use Rattle.bson_codec.specs.Streams.{IsReaderErrorFor, IsReaderOrMemoryFailure, IsWriteFailure, IsSystemFailure, BytesAdded, WritesBeginning};
+ghost use Rattle.bson_codec.specs.Streams.{IsReaderErrorFor, IsReaderOrMemoryFailure, IsWriteFailure, IsSystemFailure, BytesAdded, WritesPrefix};
 ghost use Rattle.bson_codec.specs.Streams.{declared_prefix, declared_length};
 ghost use Rattle.bson_codec.specs.declared.stream.ReaderError.TheVariants as read_errors;
 ghost use Rattle.bson_codec.specs.declared.stream.WriterError.TheVariants as write_errors;
@@ -221,7 +221,7 @@ fn declared_size(bytes: &[u8]) -> usize
 // Writes all bytes.
 pub(crate) fn write_whole<W: Write>(writer: &mut W, bytes: &[u8]) -> Result<(), WriterError>
     ensures ok { OnOk result (Appends (W.contents writer.old) (W.contents writer.new) bytes.now) }
-    ensures cut { IfErr result (λ e. WritesBeginning (W.contents writer.old) (W.contents writer.new) bytes.now) }
+    ensures cut { IfErr result (λ e. WritesPrefix (W.contents writer.old) (W.contents writer.new) bytes.now) }
     ensures fault { IfErr result (λ e. e ≡ write_errors.CannotWrite) }
 {
     let mut at = 0;

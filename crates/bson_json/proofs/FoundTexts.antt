@@ -7,7 +7,7 @@ use Rattle.json.specs.Word.{is_space}
 use Rattle.bson_json.specs.Grammar.{IsWs, no_ws, space, tab, line_feed, carriage_return}
 use Rattle.bson_json.specs.Grammar.{IsJson}
 use Rattle.bson_json.specs.Sequence.{IsTrimmed, AreTexts, no_texts, texts, no_more_texts, more_texts}
-use Rattle.bson_json.specs.Sequence.{Scan, outside, in_string, in_escape, scan, separates, prepend_byte, split_or_prepend, parts, nonempty_parts, texts_in}
+use Rattle.bson_json.specs.Sequence.{Scan, outside, in_string, in_escape, scan, separates, prepend_to_part, split_or_prepend, parts, nonempty_parts, texts_in}
 use Rattle.bson_json.proofs.Scanned.{put_before, put_first, Passes}
 use Rattle.bson_json.proofs.Sequences.{cons_not_nil, text_full, ws-append, core_in, with_full, behind_space, nothing_in}
 
@@ -19,7 +19,7 @@ not_nil e = cc
 pub tail_nil : {q r : List ℕ} {qs : List (List ℕ)} → q ∷ qs ≡ r ∷ [] → qs ≡ []
 tail_nil e = cc
 
-pub onto_full : (x : ℕ) (ps : List (List ℕ)) → prepend_byte x ps ≡ [] → ⊥
+pub onto_full : (x : ℕ) (ps : List (List ℕ)) → prepend_to_part x ps ≡ [] → ⊥
 onto_full x [] e = not_nil e
 onto_full x (p ∷ ps) e = not_nil e
 
@@ -57,7 +57,7 @@ at_separator m x xs e = record {
   rest = inr (x, xs, refl, is_separator m x e, refl);
 }
 
-pub within_part : (m : Scan) (x : ℕ) (xs : List ℕ) → separates m x ≡ false → parts m (x ∷ xs) ≡ prepend_byte x (parts (scan m x) xs)
+pub within_part : (m : Scan) (x : ℕ) (xs : List ℕ) → separates m x ≡ false → parts m (x ∷ xs) ≡ prepend_to_part x (parts (scan m x) xs)
 unfolding parts
 within_part m x xs e = ap (λ b. split_or_prepend b x (parts (outside zero) xs) (parts (scan m x) xs)) e
 
@@ -73,8 +73,8 @@ pub longer : (m : Scan) (x : ℕ) (xs : List ℕ) → separates m x ≡ false �
 longer m x xs e f = record {
   part = x ∷ f.part;
   more = f.more;
-  is = within_part m x xs e ∙ ap (prepend_byte x) f.is;
-  whole = within_part m x f.part e ∙ ap (prepend_byte x) f.whole;
+  is = within_part m x xs e ∙ ap (prepend_to_part x) f.is;
+  whole = within_part m x f.part e ∙ ap (prepend_to_part x) f.whole;
   rest = longer_rest x f.rest;
 }
 
@@ -93,12 +93,12 @@ first_of m (x ∷ xs) = bool_cases (separates m x) (First m (x ∷ xs)) (at_sepa
 abbrev pub IsSingle : List (List ℕ) → Type 0
 IsSingle ps = (p : List ℕ) × (ps ≡ p ∷ [])
 
-pub single_onto : (x : ℕ) (ps : List (List ℕ)) → IsSingle (prepend_byte x ps) → ps ≢ [] → IsSingle ps
+pub single_onto : (x : ℕ) (ps : List (List ℕ)) → IsSingle (prepend_to_part x ps) → ps ≢ [] → IsSingle ps
 single_onto x [] h full = absurd (full refl)
 single_onto x (p ∷ ps) h full = (p, ap (λ qs. p ∷ qs) (tail_nil h.1))
 
-pub onto_single : (x : ℕ) (ps : List (List ℕ)) → IsSingle ps → IsSingle (prepend_byte x ps)
-onto_single x ps h = (x ∷ h.0, ap (prepend_byte x) h.1)
+pub onto_single : (x : ℕ) (ps : List (List ℕ)) → IsSingle ps → IsSingle (prepend_to_part x ps)
+onto_single x ps h = (x ∷ h.0, ap (prepend_to_part x) h.1)
 
 pub not_single : (p : List ℕ) (m : Scan) (xs : List ℕ) → IsSingle (p ∷ parts m xs) → ⊥
 not_single p m xs h = parts_full m xs (tail_nil h.1)

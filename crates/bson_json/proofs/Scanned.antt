@@ -11,27 +11,27 @@ use Rattle.bson_json.specs.Grammar.{IsChar, unescaped, quotation_mark, reverse_s
 use Rattle.bson_json.specs.Grammar.{AreChars, no_chars, char, IsString, string}
 use Rattle.bson_json.specs.Grammar.{IsJsonValue, false_name, null_name, true_name, an_object, an_array, a_number, a_string, AreValues, no_values, values, MoreValues, no_more_values, next_value}
 use Rattle.bson_json.specs.Grammar.{AreMembers, no_pairs, pairs, MoreMembers, no_more_pairs, next_pair, IsMember, pair}
-use Rattle.bson_json.specs.Sequence.{Scan, outside, in_string, in_escape, is_opener, is_closer, scan, separates, prepend_byte, split_or_prepend, parts}
+use Rattle.bson_json.specs.Sequence.{Scan, outside, in_string, in_escape, is_opener, is_closer, scan, separates, prepend_to_part, split_or_prepend, parts}
 
 -- ---- bytes that lie within a part
 
 pub put_before : List ℕ → List (List ℕ) → List (List ℕ)
 put_before [] ps = ps
-put_before (x ∷ t) ps = prepend_byte x (put_before t ps)
+put_before (x ∷ t) ps = prepend_to_part x (put_before t ps)
 
 pub put_twice : (s t : List ℕ) (ps : List (List ℕ)) → put_before (s ++ t) ps ≡ put_before s (put_before t ps)
 unfolding put_before
 put_twice [] t ps = refl
-put_twice (x ∷ s) t ps = ap (prepend_byte x) (put_twice s t ps)
+put_twice (x ∷ s) t ps = ap (prepend_to_part x) (put_twice s t ps)
 
-pub put_one : (x : ℕ) (ps : List (List ℕ)) → put_before (x ∷ []) ps ≡ prepend_byte x ps
+pub put_one : (x : ℕ) (ps : List (List ℕ)) → put_before (x ∷ []) ps ≡ prepend_to_part x ps
 unfolding put_before
 put_one x ps = refl
 
 pub put_first : (t p : List ℕ) (ps : List (List ℕ)) → put_before t (p ∷ ps) ≡ (t ++ p) ∷ ps
 unfolding put_before
 put_first [] p ps = refl
-put_first (x ∷ t) p ps = ap (prepend_byte x) (put_first t p ps)
+put_first (x ∷ t) p ps = ap (prepend_to_part x) (put_first t p ps)
 
 pub put_none : (ps : List (List ℕ)) → put_before [] ps ≡ ps
 unfolding put_before

@@ -53,13 +53,13 @@ abbrev pub separates : Scan → ℕ → Bool
 separates (outside zero) x = is_space x
 separates other x = false
 
-abbrev pub prepend_byte : ℕ → List (List ℕ) → List (List ℕ)
-prepend_byte x [] = (x ∷ []) ∷ []
-prepend_byte x (part ∷ parts) = (x ∷ part) ∷ parts
+abbrev pub prepend_to_part : ℕ → List (List ℕ) → List (List ℕ)
+prepend_to_part x [] = (x ∷ []) ∷ []
+prepend_to_part x (part ∷ parts) = (x ∷ part) ∷ parts
 
 abbrev pub split_or_prepend : (ends : Bool) → ℕ → (next same : List (List ℕ)) → List (List ℕ)
 split_or_prepend true x next same = [] ∷ next
-split_or_prepend false x next same = prepend_byte x same
+split_or_prepend false x next same = prepend_to_part x same
 
 -- the parts between this white space; some parts are empty
 unfoldable pub parts : Scan → List ℕ → List (List ℕ)

@@ -16,7 +16,7 @@ use Rattle.bson.specs.Value.{Value, scalar, code_scope, array, document, Values,
 use Rattle.bson.specs.WrittenInOrder.{WrittenInOrder}
 use Rattle.bson.specs.Options.{mongodb_options}
 use Rattle.bson.specs.declared.extjson.key_order.KeyOrder.TheVariants.{AsGiven}
-use Rattle.bson_codec.specs.Canonical.{PairsNestUpTo, as_read_back, with_written_subtype, document_bytes}
+use Rattle.bson_codec.specs.Canonical.{PairsNestUpTo, pairs_read_back, with_written_subtype, document_bytes}
 use Rattle.bson_codec.specs.ReadDocuments.{IsRead}
 use Rattle.bson_run.specs.Encode.{Encodes}
 use Rattle.bson_scalar.specs.Normal.{normal_scalar}
@@ -59,7 +59,7 @@ mutual
   pairs_again no_pairs h = refl
   pairs_again (pair k v ps) h = ap₂ (pair k) (value_again v cc) (pairs_again ps cc)
 
-written_again : (ps : Pairs) → RoundTrips ps → as_read_back ps ≡ ps
+written_again : (ps : Pairs) → RoundTrips ps → pairs_read_back ps ≡ ps
 written_again ps back =
     let h : document (map_scalars_of_pairs normal_scalar ps) ≡ document ps = back.is_normal in
     pairs_again ps cc
@@ -106,6 +106,6 @@ module _ (ps : Pairs) (text : List ℕ) (is : IsTextInOrder Finite Canonical (do
   decoded_again out depth e nests =
       let same = meant e.pairs e.meaning.1 in
       let deep : PairsNestUpTo e.pairs nests.0 = subst (λ qs. PairsNestUpTo qs nests.0) (sym same) nests.2 in
-      let read : IsRead (suc nests.0) out (as_read_back e.pairs) = e.back nests.0 deep in
+      let read : IsRead (suc nests.0) out (pairs_read_back e.pairs) = e.back nests.0 deep in
       subst (λ n. IsRead n out ps) (sym nests.1)
-      (subst (IsRead (suc nests.0) out) (ap as_read_back same ∙ written_again ps back) read)
+      (subst (IsRead (suc nests.0) out) (ap pairs_read_back same ∙ written_again ps back) read)

@@ -6,7 +6,7 @@ ghost use Rattle.bson.specs.Normal.{writable};
 ghost use Rattle.bson.specs.TextMeaning.{HasTextMeaning};
 ghost use Rattle.bson.specs.Texts.{IsTextIn};
 ghost use Rattle.bson.specs.Value.{Pairs, document};
-ghost use Rattle.bson_codec.specs.Canonical.{document_bytes, as_read_back, FitsDocument, PairsNestUpTo};
+ghost use Rattle.bson_codec.specs.Canonical.{document_bytes, pairs_read_back, FitsDocument, PairsNestUpTo};
 ghost use Rattle.bson_codec.specs.ReadDocuments.{IsRead};
 ghost use Rattle.bson_pairs.specs.Bytes.{IsBytesFailure, IsBytesAllocationFailure, IsTextAllocationFailure};
 
@@ -63,7 +63,7 @@ pub fn bytes_of_text(alloc: Global, text: &[u8]) -> Result<Vec<u8>, NoBytes>
     // They are the canonical bytes of a document that the text means, and are read back as it.
     ensures ok { IfOk result (λ out. (ps : Pairs) × HasTextMeaning text.now (document ps)
         × (out.items ≡ document_bytes ps)
-        × ((depth : ℕ) → PairsNestUpTo ps depth → IsRead (suc depth) out.items (as_read_back ps))) }
+        × ((depth : ℕ) → PairsNestUpTo ps depth → IsRead (suc depth) out.items (pairs_read_back ps))) }
     // Why there are none: the first error of the text, a value that is not a document, or the first
     // part of the document that does not fit.
     ensures refused { IfErr result (λ error. IsBytesFailure text.now error) }

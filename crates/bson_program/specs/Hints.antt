@@ -98,11 +98,11 @@ ends_in_zero size first_bytes =
     if (size == 0) || nat_lt (length first_bytes) size then true else slice_index first_bytes (size - 1) == 0
 
 -- the number of these bytes, the lowest first
-abbrev pub little_endian : (a b c d : ℕ) → ℕ
-little_endian a b c d = a + 256 * (b + 256 * (c + 256 * d))
+abbrev pub little_endian_number : (a b c d : ℕ) → ℕ
+little_endian_number a b c d = a + 256 * (b + 256 * (c + 256 * d))
 
 abbrev pub length_of : List ℕ → ℕ
-length_of first_bytes = little_endian (slice_index first_bytes 0) (slice_index first_bytes 1) (slice_index first_bytes 2) (slice_index first_bytes 3)
+length_of first_bytes = little_endian_number (slice_index first_bytes 0) (slice_index first_bytes 1) (slice_index first_bytes 2) (slice_index first_bytes 3)
 
 -- a document of BSON begins there: its length, and the type of its first element
 abbrev pub is_dump : List ℕ → Bool

@@ -18,9 +18,9 @@ use Rattle.bson_program.specs.declared.run.RunFailure.{RunFailure}
 use Rattle.bson_program.specs.declared.run.RunFailure.TheVariants.{Input, Output}
 
 -- the file of this name can't be read
-abbrev pub IsReadFailure : (name : List ℕ) → RunFailure → Type 0
-IsReadFailure name (Input it error) = it.now ≡ name
-IsReadFailure name failure = ⊥
+abbrev pub IsInputFailure : (name : List ℕ) → RunFailure → Type 0
+IsInputFailure name (Input it error) = it.now ≡ name
+IsInputFailure name failure = ⊥
 
 -- ---- writers
 

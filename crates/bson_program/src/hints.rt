@@ -4,7 +4,7 @@ ghost use Rattle.std.specs.List.{find};
 ghost use Rattle.bson_program.specs.Hints.{advice_hint, after_line, compression_of, hint_of_encoding, ends_in_zero, first_line};
 ghost use Rattle.bson_program.specs.Hints.{hint_of, hint_of_dump, hint_of_lines, hint_of_texts, is_blank, is_dump};
 ghost use Rattle.bson_program.specs.Hints.{has_content, is_utf16_big_endian, is_document_length, is_utf16_little_endian};
-ghost use Rattle.bson_program.specs.Hints.{is_opening, little_endian, opens_over_lines, starts_text};
+ghost use Rattle.bson_program.specs.Hints.{is_opening, little_endian_number, opens_over_lines, starts_text};
 
 use crate::advice::Advice;
 use crate::invocation::Input;
@@ -207,7 +207,7 @@ fn is_dump(first_bytes: &[u8]) -> bool
 
 // The number of these bytes, the lowest first.
 fn little_endian(a: u8, b: u8, c: u8, d: u8) -> usize
-    ensures { result ≡ little_endian a b c d }
+    ensures { result ≡ little_endian_number a b c d }
 {
     let high = usize::from(c) + 256 * usize::from(d);
     usize::from(a) + 256 * (usize::from(b) + 256 * high)

@@ -2,7 +2,7 @@
 ghost use Rattle.std.specs.Prelude.{◌≡◌, ◌⊎◌, [], IfErr, IfOk, string_bytes};
 ghost use Rattle.bson_run.specs.Lines.{buffered_text};
 ghost use Rattle.bson_run.specs.ErrorMessages.{IsPositionMessage};
-ghost use Rattle.bson_program.specs.RunFailures.{IsDiagnosticsPrefix, IsReadFailure, IsWriterFailure};
+ghost use Rattle.bson_program.specs.RunFailures.{IsDiagnosticsPrefix, IsInputFailure, IsWriterFailure};
 
 use crate::advice::advice_for;
 use crate::digests::hasher_for;
@@ -222,7 +222,7 @@ fn run_text<'a>(
 
 // Opens the input of this name.
 fn source<'a>(rt: &HostRuntime, name: &'a str) -> Result<Source, RunFailure<'a>>
-    ensures { IfErr result (IsReadFailure name.now) }
+    ensures { IfErr result (IsInputFailure name.now) }
 {
     if name == STANDARD {
         return Ok(Source::Stdin(rt.stdin()));
@@ -240,7 +240,7 @@ fn title<'a>(
     name: &'a str,
 ) -> Result<Option<String>, RunFailure<'a>>
     ensures title { IfOk result (IsDiagnosticsPrefix invocation.now.input name.now) }
-    ensures failure { IfErr result (IsReadFailure name.now) }
+    ensures failure { IfErr result (IsInputFailure name.now) }
 {
     if name == STANDARD && invocation.input != Input::Documents {
         return Ok(None);

@@ -8,7 +8,7 @@ use Rattle.bson_convert.specs.declared.error.Error.TheVariants.{CannotRead, NotJ
 use Rattle.bson_convert.specs.declared.error.Error.TheVariants.{CannotWrite, NotCanonical}
 use Rattle.bson_run.specs.Lines.{lines, remaining_bytes, line_text, DoneLinesIn, FailsAtIn, HaveOutcomesIn, IsRejectedLineIn, IsStoppedAtIn, StopsAtIn}
 use Rattle.bson_run.specs.Lines.{WritesText}
-use Rattle.bson_run.specs.Outcomes.{IsTextError, StopsInside}
+use Rattle.bson_run.specs.Outcomes.{IsErrorOfText, StopsInside}
 use Rattle.bson_run.specs.declared.task.OnRefusal.{OnRefusal}
 use Rattle.bson_run.specs.declared.task.OnRefusal.TheVariants.{Stop}
 use Rattle.bson_run.specs.declared.task.Task.{Task}
@@ -47,7 +47,7 @@ module _ (o : Options) (task : Task) (on_refusal : OnRefusal) where
     stops : on_refusal ≡ Stop
     reason : IsRejectedLineIn o task fault (line_text n line)
 
-  at_line : (fault : Error) → IsTextError fault → (rejected_text : List ℕ) (n : ℕ) (all : List (List ℕ))
+  at_line : (fault : Error) → IsErrorOfText fault → (rejected_text : List ℕ) (n : ℕ) (all : List (List ℕ))
       → IsStoppedAtIn o task on_refusal fault rejected_text n all → AtLine fault n all
   at_line NotJson of rejected_text n [] h = absurd h
   at_line NotJson of rejected_text n (line ∷ others) (is, (stops, h)) = record {
@@ -91,7 +91,7 @@ module _ (o : Options) (task : Task) (on_refusal : OnRefusal) where
       × (WritesText task → IsUtf8 output) × IsUtf8 diagnostics × Appends output_before output_after output × Appends diagnostics_before diagnostics_after diagnostics
 
   inside : (all : List ℕ) (after output_before output_after diagnostics_before diagnostics_after : Option (List ℕ)) (fault : Error) (number : ℕ) (rejected_text : List ℕ)
-      → IsTextError fault
+      → IsErrorOfText fault
       → StopsAtIn o (IsStoppedAtIn o task on_refusal fault rejected_text) task on_refusal (Some all) after output_before output_after diagnostics_before diagnostics_after number
       → Inside all output_before output_after diagnostics_before diagnostics_after fault number
   inside all after output_before output_after diagnostics_before diagnostics_after fault number rejected_text of h =
@@ -112,7 +112,7 @@ module _ (o : Options) (task : Task) (on_refusal : OnRefusal) where
 
   pub stops_inside : (all : List ℕ) (after output_before output_after diagnostics_before diagnostics_after : Option (List ℕ)) (fault : Error) (number : ℕ)
       (rejected_text : List ℕ) → FailsAtIn o fault task on_refusal (Some all) after output_before output_after diagnostics_before diagnostics_after number rejected_text
-      → IsTextError fault → Inside all output_before output_after diagnostics_before diagnostics_after fault number
+      → IsErrorOfText fault → Inside all output_before output_after diagnostics_before diagnostics_after fault number
   stops_inside all after output_before output_after diagnostics_before diagnostics_after NotJson number rejected_text h of =
       inside all after output_before output_after diagnostics_before diagnostics_after NotJson number rejected_text of h
   stops_inside all after output_before output_after diagnostics_before diagnostics_after (NotExtendedJson place) number rejected_text h of =

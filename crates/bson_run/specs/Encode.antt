@@ -5,7 +5,7 @@ use Rattle.bson.specs.TextMeaning.{HasTextMeaningBy}
 use Rattle.bson.specs.declared.extjson.key_order.KeyOrder.{KeyOrder}
 use Rattle.bson.specs.declared.extjson.options.Options.{Options}
 use Rattle.bson_codec.specs.Canonical.{Cause, zero_in_key, zero_in_regex, too_long}
-use Rattle.bson_codec.specs.Canonical.{DocumentFails, FitsDocument, PairsNestUpTo, as_read_back, document_bytes}
+use Rattle.bson_codec.specs.Canonical.{DocumentFails, FitsDocument, PairsNestUpTo, pairs_read_back, document_bytes}
 use Rattle.bson_codec.specs.ReadDocuments.{IsRead}
 use Rattle.bson_model.specs.Value.{Value, Pairs, document}
 use Rattle.bson_convert.specs.Convert.{IsRejectedIn}
@@ -22,7 +22,7 @@ pub record IsBytesOf (means : Value → Type 0) (bytes : List ℕ) : Type 0 wher
   pub meaning : means (document pairs)
   pub fits : FitsDocument pairs
   pub canonical : bytes ≡ document_bytes pairs
-  pub back : (d : ℕ) → PairsNestUpTo pairs d → IsRead (suc d) bytes (as_read_back pairs)
+  pub back : (d : ℕ) → PairsNestUpTo pairs d → IsRead (suc d) bytes (pairs_read_back pairs)
 
 -- a value that is no document is meant
 pub record IsNoDocument (means : Value → Type 0) : Type 0 where

@@ -10,12 +10,12 @@ use Rattle.bson_run.specs.declared.task.OnRefusal.TheVariants.{Stop}
 use Rattle.bson_run.specs.declared.task.Task.{Task}
 
 -- the fault is one of a text
-abbrev pub IsTextError : Error → Type 0
-IsTextError NotJson = Unit {0}
-IsTextError (NotExtendedJson place) = Unit {0}
-IsTextError (NoBytes why) = Unit {0}
-IsTextError (NotCanonical column) = Unit {0}
-IsTextError other = ⊥
+abbrev pub IsErrorOfText : Error → Type 0
+IsErrorOfText NotJson = Unit {0}
+IsErrorOfText (NotExtendedJson place) = Unit {0}
+IsErrorOfText (NoBytes why) = Unit {0}
+IsErrorOfText (NotCanonical column) = Unit {0}
+IsErrorOfText other = ⊥
 
 -- the faults are the same, with the same path where there is one; the words for what was expected may differ
 abbrev pub IsSameFault : Error → Error → Type 0

@@ -9,7 +9,7 @@ ghost use Rattle.bson_convert.specs.declared.mode.Mode.{Mode};
 ghost use Rattle.bson_run.specs.InOrder.{ConvertsBy, IsFixedPointBy};
 ghost use Rattle.bson_run.specs.Indent.{ConvertsIndented, IsFixedPointIndented};
 ghost use Rattle.bson_run.specs.Lines.{lines, DoneLinesIn, FailsAtIn, HaveOutcomesIn, OutcomesIn, WritesText};
-ghost use Rattle.bson_run.specs.Outcomes.{AreSameDiagnostics, IsTextError, IsSameFault, StopsInside};
+ghost use Rattle.bson_run.specs.Outcomes.{AreSameDiagnostics, IsErrorOfText, IsSameFault, StopsInside};
 ghost use Rattle.bson_run.specs.declared.task.OnRefusal.{OnRefusal};
 ghost use Rattle.bson_run.specs.declared.task.Task.{Task};
 
@@ -69,7 +69,7 @@ pub fn runs_are_inside()
         × Appends output_before output_after output × Appends first_diagnostics second_diagnostics diagnostics) }
     ensures stops { (options : Options) (task : Task) (on_refusal : OnRefusal) (all : List ℕ)
         (after output_before output_after first_diagnostics second_diagnostics : Option (List ℕ)) (fault : Error) (number : ℕ) (rejected_text : List ℕ)
-        → FailsAtIn options fault task on_refusal (Some all) after output_before output_after first_diagnostics second_diagnostics number rejected_text → IsTextError fault
+        → FailsAtIn options fault task on_refusal (Some all) after output_before output_after first_diagnostics second_diagnostics number rejected_text → IsErrorOfText fault
         → (output : List ℕ) × (diagnostics : List ℕ)
         × StopsInside options task on_refusal (lines all) output diagnostics fault number
         × (WritesText task → IsUtf8 output) × IsUtf8 diagnostics

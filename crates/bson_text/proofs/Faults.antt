@@ -31,7 +31,7 @@ use Rattle.bson_tokens.specs.FirstFault.{FaultAndPath, fault_in_tree, first_item
 use Rattle.bson_tokens.proofs.Offered.{Is, is_found}
 use Rattle.bson_text.proofs.Objects.{step_more}
 use Rattle.bson_text.proofs.Denials.{mapped_parse, then_parsed, split_kept, mapped}
-use Rattle.bson_text.specs.ErrorPaths.{IsLessThanKeys, HasAscendingKeys, ItemsHaveAscendingKeys, MembersHaveAscendingKeys, member_trees, has_wrapper_key, FirstKeyIsPlain, IsPlaceOfFault}
+use Rattle.bson_text.specs.ErrorPaths.{IsLessThanKeys, HasSortedKeys, ItemsHaveAscendingKeys, MembersHaveAscendingKeys, member_trees, has_wrapper_key, FirstKeyIsPlain, IsPlaceOfFault}
 use Rattle.bson_text.specs.ErrorPaths.{IsWrongShape, IsPlaceFromParent, IsElementError, IsPlaceOfMember, IsMemberError, first_fault_of_members}
 use Rattle.bson_text.specs.ErrorPaths.{LocatesValueError, LocatesItemsError, LocatesMembersError, LocatesObjectError}
 use Rattle.bson_text.specs.declared.traversal_error.TraversalError.{TraversalError}
@@ -140,7 +140,7 @@ module _ (D : Doubles) where
   array_placed e o rest = at_map e _ _ (λ q at j r t is rise of.
       let g = mapped_parse json.array o j r is in
       let a = mapped tree.array (of_items g.0) t (subst (λ x. of_json x ≡ Some t) g.2 of) in
-      let h = at g.0 r a.0 g.1 (subst HasAscendingKeys g.2 rise) a.1 in
+      let h = at g.0 r a.0 g.1 (subst HasSortedKeys g.2 rise) a.1 in
       (h.0, subst (λ x. IsPlaceOfFault (fault_in_tree D x) q) (sym a.2) h.1))
 
 -- ---- trees of members whose keys ascend
@@ -311,6 +311,6 @@ module _ (D : Doubles) where
   object_placed e o rest = at_map e _ _ (λ q at j r t is rise of.
       let g = mapped_parse json.object o j r is in
       let a = mapped tree.object (of_members g.0 no_members) t (subst (λ x. of_json x ≡ Some t) g.2 of) in
-      let rises = subst HasAscendingKeys g.2 rise in
+      let rises = subst HasSortedKeys g.2 rise in
       let h = at g.0 r a.0 g.1 rises (rising g.0 a.0 rises a.1) in
       (h.0, subst (λ x. IsPlaceOfFault (fault_in_tree D x) q) (sym a.2) h.1))

@@ -9,7 +9,7 @@ use Rattle.json.specs.Json.{no_members, member}
 use Rattle.bson_model.proofs.Offered.{flipped}
 use Rattle.bson_tokens.specs.Normalized.{normalized, normalized_items, normalized_members, put_ascending}
 use Rattle.bson_tokens.specs.declared.arrangement.Arrangement.TheVariants.{Ascending}
-use Rattle.bson_text.specs.ErrorPaths.{IsLessThanKeys, HasAscendingKeys, ItemsHaveAscendingKeys, MembersHaveAscendingKeys}
+use Rattle.bson_text.specs.ErrorPaths.{IsLessThanKeys, HasSortedKeys, ItemsHaveAscendingKeys, MembersHaveAscendingKeys}
 
 abbrev cmp : List ℕ → List ℕ → Ordering
 cmp = slice_cmp nat_cmp
@@ -30,19 +30,19 @@ lower : (k m : List ℕ) (ms : Members) → cmp k m ≡ Less → IsLessThanKeys 
 lower k m no_members less under = tt
 lower k m (member l i ms) less under = (nat_list_cmp_total.trans k m l less under.0, lower k m ms less under.1)
 
-rise_at : (o : Ordering) (k m : List ℕ) (j i : Json) (ms : Members) → cmp k m ≡ o → HasAscendingKeys j → MembersHaveAscendingKeys (member m i ms)
+rise_at : (o : Ordering) (k m : List ℕ) (j i : Json) (ms : Members) → cmp k m ≡ o → HasSortedKeys j → MembersHaveAscendingKeys (member m i ms)
     → MembersHaveAscendingKeys (put_ascending k j ms)
     → MembersHaveAscendingKeys (match_ordering o (member k j (member m i ms)) (member m j ms) (member m i (put_ascending k j ms)))
 rise_at Less k m j i ms is new rise more = ((is, lower k m ms is rise.0), new, rise)
 rise_at Equal k m j i ms is new rise more = (rise.0, new, rise.2)
 rise_at Greater k m j i ms is new rise more = (under_put m k j ms (flipped k m Greater is) rise.0, rise.1, more)
 
-rise_put : (k : List ℕ) (j : Json) (ms : Members) → HasAscendingKeys j → MembersHaveAscendingKeys ms → MembersHaveAscendingKeys (put_ascending k j ms)
+rise_put : (k : List ℕ) (j : Json) (ms : Members) → HasSortedKeys j → MembersHaveAscendingKeys ms → MembersHaveAscendingKeys (put_ascending k j ms)
 rise_put k j no_members new rise = (tt, new, tt)
 rise_put k j (member m i ms) new rise = rise_at (cmp k m) k m j i ms refl new rise (rise_put k j ms new rise.2)
 
 mutual
-  pub normalized_rises : (j : Json) → HasAscendingKeys (normalized Ascending j)
+  pub normalized_rises : (j : Json) → HasSortedKeys (normalized Ascending j)
   normalized_rises null = tt
   normalized_rises (boolean b) = tt
   normalized_rises (number s) = tt

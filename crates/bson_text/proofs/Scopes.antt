@@ -27,7 +27,7 @@ use Rattle.bson_tokens.proofs.Offered.{was_read as from_tree}
 use Rattle.bson_text.specs.TraversalResults.{members_inside, members_after_key}
 use Rattle.bson_text.proofs.Denials.{mapped_parse, then_parsed, split_kept, mapped}
 use Rattle.bson_text.proofs.Parsed.{same_parse, after_first, none_behind, a_text}
-use Rattle.bson_text.specs.ErrorPaths.{HasAscendingKeys, MembersHaveAscendingKeys, member_trees, IsPlaceOfFault, IsWrongShape, IsPlaceFromParent, IsWrongShapeAtValue, IsScopeTypeError}
+use Rattle.bson_text.specs.ErrorPaths.{HasSortedKeys, MembersHaveAscendingKeys, member_trees, IsPlaceOfFault, IsWrongShape, IsPlaceFromParent, IsWrongShapeAtValue, IsScopeTypeError}
 use Rattle.bson_text.specs.ErrorPaths.{SkipsFromValue, SkipsToObjectEnd, IsPlaceOfScope, IsErrorInScope, IsExtraKeyError, LocatesCodeError, LocatesScopeError, first_fault_of_code}
 use Rattle.bson_text.specs.ErrorPaths.{LocatesMembersError, LocatesObjectError}
 use Rattle.bson_text.specs.ScopeTokens.{IsNotScopeStart}
@@ -204,7 +204,7 @@ module _ (D : Doubles) where
       let o = mapped_parse json.object (members_inside (depth - 1) s) g.0 g.1 read in
       let a = split_kept (member l) (of_json g.0) (member_trees g.2) us (subst (λ x. member_trees x ≡ Some us) g.5 of) in
       let rises = subst MembersHaveAscendingKeys g.5 rise in
-      let inner = subst HasAscendingKeys o.2 rises.1 in
+      let inner = subst HasSortedKeys o.2 rises.1 in
       let t = mapped object (of_members o.0 no_members) a.0 (subst (λ x. of_json x ≡ Some a.0) o.2 a.2) in
       let now = subst (λ x. LocatesMembersError D x false (members_inside (depth - 1) s) mid) is (at left) in
       let h = now o.0 g.1 t.0 o.1 inner (rising o.0 t.0 inner t.1) (λ yes. cc) in

@@ -11,7 +11,7 @@ use Rattle.bson_tokens.specs.declared.arrangement.Arrangement.TheVariants.{Ascen
 use Rattle.bson_model.specs.Sorted.{insert_sorted_pair, sorted, sorted_pairs}
 use Rattle.bson_model.specs.StableOrder.{pairs_of}
 use Rattle.bson_model.specs.Value.{Value, Pairs, no_pairs, pair, document}
-use Rattle.bson_text.specs.MemberSpans.{span_key, open_text, object_text, ValuesByStart, span_value, IsMemberSpan}
+use Rattle.bson_text.specs.MemberSpans.{span_key, open_text, object_text, ValuesByStart, value_of_span, IsMemberSpan}
 use Rattle.bson_text.specs.DisplayOutput.{display_with_separator, member_front, separator_if, HasBegunDisplay, HasDisplayOfValue, HasDisplayOfKey}
 use Rattle.bson_text.specs.DisplayOutput.{arranged_value}
 use Rattle.bson_text.specs.TraversalResults.{PairsWritten, keys_of, each_key_once}
@@ -117,23 +117,23 @@ module _ (texts : List ℕ) (values : ValuesByStart) where
   IsOne = IsMemberSpan IsShownMember texts values
 
   abbrev entries : List MemberSpan → List (List ℕ)
-  entries ps = entry_texts (pairs_of span_key (span_value values) ps)
+  entries ps = entry_texts (pairs_of span_key (value_of_span values) ps)
 
   members_after : (ps : List MemberSpan) → All IsOne ps
       → open_text texts true ps ≡ flat_map (λ t. codes ", " ++ t) (entries ps)
   members_after [] h = refl
   members_after (p ∷ ps) h =
       ap (λ l. 44 ∷ (l ++ open_text texts true ps)) (All-head IsOne p ps h).1
-      ∙ ap (λ l. codes ", " ++ (entry (span_key p) (display_text (span_value values p)) ++ l))
+      ∙ ap (λ l. codes ", " ++ (entry (span_key p) (display_text (value_of_span values p)) ++ l))
       (members_after ps (All-tail IsOne p ps h))
 
   -- some members, and a blank before the brace
   some_shown : (p : MemberSpan) (ps : List MemberSpan) → All IsOne (p ∷ ps)
       → (123 ∷ open_text texts false (p ∷ ps)) ++ codes " }"
-      ≡ display_text (document (pairs_of span_key (span_value values) (p ∷ ps)))
+      ≡ display_text (document (pairs_of span_key (value_of_span values) (p ∷ ps)))
   some_shown p ps h =
       ap (λ l. 123 ∷ ((l ++ open_text texts true ps) ++ codes " }")) (All-head IsOne p ps h).1
-      ∙ ap (λ l. codes "{ " ++ ((entry (span_key p) (display_text (span_value values p)) ++ l) ++ codes " }"))
+      ∙ ap (λ l. codes "{ " ++ ((entry (span_key p) (display_text (value_of_span values p)) ++ l) ++ codes " }"))
       (members_after ps (All-tail IsOne p ps h))
 
   -- the text without its last byte
@@ -148,16 +148,16 @@ module _ (texts : List ℕ) (values : ValuesByStart) where
       (omega (arith, ap length whole, length-append front (125 ∷ [])))
 
   shown_at : (before new : List ℕ) (ps : List MemberSpan) → All IsOne ps
-      → is_none (pairs_of span_key (span_value values) ps) ≡ false → new ≡ before ++ object_text texts ps
+      → is_none (pairs_of span_key (value_of_span values) ps) ≡ false → new ≡ before ++ object_text texts ps
       → take (length new - 1) new ++ codes " }"
-      ≡ before ++ display_text (document (pairs_of span_key (span_value values) ps))
+      ≡ before ++ display_text (document (pairs_of span_key (value_of_span values) ps))
   shown_at before new [] all some is = cc
   shown_at before new (p ∷ ps) all some is =
       ap (λ l. l ++ codes " }") (without_brace before new (p ∷ ps) is)
       ∙ append_assoc before (123 ∷ open_text texts false (p ∷ ps)) (codes " }")
       ∙ ap (λ l. before ++ l) (some_shown p ps all)
 
-  none_at : (before new : List ℕ) (ps : List MemberSpan) → no_pairs ≡ pairs_of span_key (span_value values) ps
+  none_at : (before new : List ℕ) (ps : List MemberSpan) → no_pairs ≡ pairs_of span_key (value_of_span values) ps
       → new ≡ before ++ object_text texts ps → new ≡ before ++ codes "{}"
   none_at before new [] none is = is
   none_at before new (p ∷ ps) none is = let never : true ≡ false = ap is_none none in cc

@@ -15,7 +15,7 @@ use Rattle.bson_model.specs.StableOrder.{pairs_of}
 use Rattle.bson_model.specs.Value.{Value, Pairs, no_pairs, pair}
 use Rattle.bson_model.specs.Writing.{writes_in, writes_pairs_in}
 use Rattle.bson_text.specs.MemberSpans.{span_key, members_text, Ascend}
-use Rattle.bson_text.specs.MemberSpans.{ValuesByStart, span_value, IsMemberSpan, IsMemberText}
+use Rattle.bson_text.specs.MemberSpans.{ValuesByStart, value_of_span, IsMemberSpan, IsMemberText}
 use Rattle.bson_text.specs.SortedOutput.{output_with_comma, HasBegunObject, HasSortedValue, HasKeyAdded}
 use Rattle.bson_text.specs.TraversalResults.{PairsWritten, keys_of}
 use Rattle.bson_text.specs.declared.member_spans.MemberSpan.{MemberSpan}
@@ -84,7 +84,7 @@ module _ (D : Doubles) (f : Form) (texts : List ℕ) (values : ValuesByStart) wh
 
   -- the texts of members by ascending key are the text of their trees, to which one of a lesser key comes first
   spans_written : (needs_comma : Bool) (last : Option (List ℕ)) (ps : List MemberSpan) → Ascend last ps → All IsOne ps
-      → (ms : Members) × (writes_pairs_in D f (pairs_of span_key (span_value values) ps) ≡ Ok ms)
+      → (ms : Members) × (writes_pairs_in D f (pairs_of span_key (value_of_span values) ps) ≡ Ok ms)
       × (members_text texts needs_comma ps ≡ printed_members needs_comma ms)
       × ((k : List ℕ) (d : Data) → Ascend (Some k) ps → put k d ms ≡ member k d ms)
   spans_written needs_comma last [] up h = (no_members, refl, sym (no_more_members needs_comma), λ k d up. refl)

@@ -16,7 +16,7 @@ use Rattle.bson_model.specs.Value.{Value, Pairs, no_pairs}
 use Rattle.bson_model.proofs.Offered.{turned, put_ascending}
 use Rattle.bson_text.specs.MemberSpans.{span_key, span_text, open_text, members_text, object_text, Ascend}
 use Rattle.bson_tokens.specs.PutMembers.{KeyFollows, KeysAscendFrom}
-use Rattle.bson_text.specs.MemberSpans.{last_of_each_key, next_has_key, IsOpenObject, IsObjectWritten, ValuesByStart, span_value, IsMemberSpan}
+use Rattle.bson_text.specs.MemberSpans.{last_of_each_key, next_has_key, IsOpenObject, IsObjectWritten, ValuesByStart, value_of_span, IsMemberSpan}
 use Rattle.bson_text.specs.MemberSpans.{spans_from}
 use Rattle.bson_text.specs.declared.member_spans.MemberSpan.{MemberSpan}
 use Rattle.bson_text.proofs.SortedPairs.{put_twice}
@@ -57,20 +57,20 @@ spans_ascend last (k ∷ ks) [] end up = tt
 spans_ascend last (k ∷ ks) (s ∷ member_starts) end up = (up.0, spans_ascend (Some k.now) ks member_starts end up.1)
 
 least_of : (values : ValuesByStart) (k l : List ℕ) (ps : List MemberSpan) → slice_cmp nat_cmp k l ≡ Less → Ascend (Some l) ps
-    → IsBelowKeys k (pairs_of span_key (span_value values) ps)
+    → IsBelowKeys k (pairs_of span_key (value_of_span values) ps)
 least_of values k l [] less up = tt
 least_of values k l (p ∷ ps) less up =
     let first = nat_list_cmp_total.trans k l (span_key p) less up.0 in
     (first, least_of values k (span_key p) ps first up.1)
 
 ascending_pairs : (values : ValuesByStart) (last : Option (List ℕ)) (ps : List MemberSpan) → Ascend last ps
-    → KeysAscend (pairs_of span_key (span_value values) ps)
+    → KeysAscend (pairs_of span_key (value_of_span values) ps)
 ascending_pairs values last [] up = tt
 ascending_pairs values last (p ∷ ps) up =
     (least_after values (span_key p) ps up.1, ascending_pairs values (Some (span_key p)) ps up.1)
   where
     least_after : (values : ValuesByStart) (k : List ℕ) (ps : List MemberSpan) → Ascend (Some k) ps
-        → IsBelowKeys k (pairs_of span_key (span_value values) ps)
+        → IsBelowKeys k (pairs_of span_key (value_of_span values) ps)
     least_after values k [] up = tt
     least_after values k (p ∷ ps) up = (up.0, least_of values k (span_key p) ps up.0 up.1)
 
@@ -86,16 +86,16 @@ kept_one p ps left is once = ap last_of_each_key is ∙ rw once refl
 
 module _ (values : ValuesByStart) where
   abbrev put_spans : List MemberSpan → Pairs → Pairs
-  put_spans = insert_each span_key (span_value values)
+  put_spans = insert_each span_key (value_of_span values)
 
   -- one that stands again is put for nothing
   put_again : (p : MemberSpan) (ps : List MemberSpan) (qs : Pairs) → next_has_key (span_key p) ps ≡ true
-      → put_spans ps (insert_sorted_pair (span_key p) (span_value values p) qs) ≡ put_spans ps qs
+      → put_spans ps (insert_sorted_pair (span_key p) (value_of_span values p) qs) ≡ put_spans ps qs
   put_again p [] qs again = cc
   put_again p (q ∷ ps) qs again =
       let same = (bytes_eq-Decides (span_key q) (span_key p)).0 again in
-      let v = span_value values p in
-      let w = span_value values q in
+      let v = value_of_span values p in
+      let w = value_of_span values q in
       ap (put_spans ps) (ap (λ k. insert_sorted_pair (span_key q) w (insert_sorted_pair k v qs)) (sym same)
       ∙ put_twice (span_key q) w v qs)
 
@@ -103,7 +103,7 @@ module _ (values : ValuesByStart) where
       → ((rs : Pairs) → put_spans ps rs ≡ put_spans (last_of_each_key ps) rs)
       → put_spans (p ∷ ps) qs ≡ put_spans (last_of_each_key (p ∷ ps)) qs
   put_at true p ps qs h is = rw h (put_again p ps qs h ∙ is qs)
-  put_at false p ps qs h is = rw h (is (insert_sorted_pair (span_key p) (span_value values p) qs))
+  put_at false p ps qs h is = rw h (is (insert_sorted_pair (span_key p) (value_of_span values p) qs))
 
   put_last_ones : (ps : List MemberSpan) (qs : Pairs) → put_spans ps qs ≡ put_spans (last_of_each_key ps) qs
   put_last_ones [] qs = refl
@@ -170,12 +170,12 @@ pub record HasMembers (IsText : List ℕ → Value → List ℕ → Type 0) (old
   pub members : List MemberSpan
   pub up : Ascend None members
   pub all : All (IsMemberSpan IsText texts values) members
-  pub pairs : put ≡ pairs_of span_key (span_value values) members
+  pub pairs : put ≡ pairs_of span_key (value_of_span values) members
   pub text : new ≡ old ++ object_text texts members
 
 pub object_in_order : (IsText : List ℕ → Value → List ℕ → Type 0) (old texts new : List ℕ) (values : ValuesByStart)
     (ps : List MemberSpan) → All (IsMemberSpan IsText texts values) ps → IsObjectWritten ps old texts new
-    → HasMembers IsText old texts new (insert_each span_key (span_value values) ps no_pairs)
+    → HasMembers IsText old texts new (insert_each span_key (value_of_span values) ps no_pairs)
 object_in_order IsText old texts new values ps h (written, (qs, stable, same, up, is), needs_comma) =
     let ks = last_of_each_key qs in
     record {
@@ -183,8 +183,8 @@ object_in_order IsText old texts new values ps h (written, (qs, stable, same, up
       members = ks;
       up = up;
       all = all_last (IsMemberSpan IsText texts values) qs (All-permutation (IsMemberSpan IsText texts values) ps qs same h);
-      pairs = turned span_key (span_value values) ps qs no_pairs stable
+      pairs = turned span_key (value_of_span values) ps qs no_pairs stable
           ∙ put_last_ones values qs no_pairs
-          ∙ put_ascending span_key (span_value values) ks (ascending_pairs values None ks up);
+          ∙ put_ascending span_key (value_of_span values) ks (ascending_pairs values None ks up);
       text = needs_comma ∙ ap (λ l. old ++ l) is;
     }

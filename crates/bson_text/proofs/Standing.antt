@@ -10,7 +10,7 @@ use Rattle.serde_json.specs.Written.{comma_if}
 use Rattle.bson_model.specs.Sorted.{insert_sorted_pair, sorted, sorted_pairs}
 use Rattle.bson_model.specs.Value.{Value, Pairs, no_pairs, pair, document}
 use Rattle.bson_text.specs.MemberSpans.{span_key, span_text, end_before_next, spans_from, open_text}
-use Rattle.bson_text.specs.MemberSpans.{ValuesByStart, span_value, IsObjectWritten, IsOpenObject, IsMemberSpan, IsSpanWithin}
+use Rattle.bson_text.specs.MemberSpans.{ValuesByStart, value_of_span, IsObjectWritten, IsOpenObject, IsMemberSpan, IsSpanWithin}
 use Rattle.bson_model.specs.StableOrder.{insert_each}
 use Rattle.bson_text.specs.TraversalResults.{keys_of, each_key_once}
 use Rattle.bson_text.specs.declared.member_spans.MemberSpan.{MemberSpan}
@@ -45,12 +45,12 @@ module _ (values : ValuesByStart) (v : Value) (at : ℕ) where
   value_there i less = ap (λ b. cond b v (values i)) (ne_eqb i at (λ e. omega (arith, e, less)))
 
   put_there : (ps : List MemberSpan) (qs : Pairs) → All (λ p. at < p.start) ps
-      → insert_each span_key (span_value with_value) ps qs ≡ insert_each span_key (span_value values) ps qs
+      → insert_each span_key (value_of_span with_value) ps qs ≡ insert_each span_key (value_of_span values) ps qs
   put_there [] qs h = refl
   put_there (p ∷ ps) qs h =
       let first = All-head (λ q. at < q.start) p ps h in
       put_there ps (insert_sorted_pair (span_key p) (with_value p.start) qs) (All-tail (λ q. at < q.start) p ps h)
-      ∙ ap (λ w. insert_each span_key (span_value values) ps (insert_sorted_pair (span_key p) w qs)) (value_there p.start first)
+      ∙ ap (λ w. insert_each span_key (value_of_span values) ps (insert_sorted_pair (span_key p) w qs)) (value_there p.start first)
 
 -- ---- members that are added
 
@@ -103,7 +103,7 @@ module _ (IsText : List ℕ → Value → List ℕ → Type 0) where
     pub values : ValuesByStart
     pub all : All (StandsBehind text (length front) values) (spans_from ks member_starts (length text))
     pub put : (qs : Pairs)
-        → insert_each span_key (span_value values) (spans_from ks member_starts (length text)) qs ≡ put_in_turn ps qs
+        → insert_each span_key (value_of_span values) (spans_from ks member_starts (length text)) qs ≡ put_in_turn ps qs
     pub began_document : text ≡ front ++ open_text text needs_comma (spans_from ks member_starts (length text))
     pub paired : length ks ≡ length member_starts
     pub ends : needs_comma ≡ true → end_before_next member_starts (length text) ≡ length front
@@ -159,7 +159,7 @@ module _ (IsText : List ℕ → Value → List ℕ → Type 0) where
         values = values;
         all = All-cons (StandsBehind text (length front) values) p spans (omega (arith, longer), this) behind_it;
         put = λ qs. put_there rest.values (sorted v) start spans (insert_sorted_pair k.now (values start) qs) higher
-            ∙ ap (λ w. insert_each span_key (span_value rest.values) spans (insert_sorted_pair k.now w qs)) value
+            ∙ ap (λ w. insert_each span_key (value_of_span rest.values) spans (insert_sorted_pair k.now w qs)) value
             ∙ rest.put (insert_sorted_pair k.now (sorted v) qs);
         began_document = whole ∙ append_assoc front comma (s ++ others)
             ∙ ap (λ l. front ++ (comma ++ (l ++ others))) (sym own);
@@ -202,7 +202,7 @@ module _ (IsText : List ℕ → Value → List ℕ → Type 0) where
     pub began_document : IsOpenObject before now.text (spans_from ks member_starts (length now.text))
     pub values : ValuesByStart
     pub all : All (IsMemberSpan IsText now.text values) (spans_from ks member_starts (length now.text))
-    pub put : insert_each span_key (span_value values) (spans_from ks member_starts (length now.text)) no_pairs
+    pub put : insert_each span_key (value_of_span values) (spans_from ks member_starts (length now.text)) no_pairs
         ≡ put_in_turn ps no_pairs
 
   pub opened_document : (before start_count : List ℕ) (mid now : Seen) (mark : Mark) (ps : Pairs) (ks : List Key)

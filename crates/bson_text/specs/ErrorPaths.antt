@@ -33,21 +33,21 @@ IsLessThanKeys k json.no_members = ⊤
 IsLessThanKeys k (json.member l j ms) = (slice_cmp nat_cmp k l ≡ Less) × IsLessThanKeys k ms
 
 abbrev mutual
-  pub HasAscendingKeys : json.Json → Type 0
-  HasAscendingKeys json.null = ⊤
-  HasAscendingKeys (json.boolean b) = ⊤
-  HasAscendingKeys (json.number s) = ⊤
-  HasAscendingKeys (json.string s) = ⊤
-  HasAscendingKeys (json.array js) = ItemsHaveAscendingKeys js
-  HasAscendingKeys (json.object ms) = MembersHaveAscendingKeys ms
+  pub HasSortedKeys : json.Json → Type 0
+  HasSortedKeys json.null = ⊤
+  HasSortedKeys (json.boolean b) = ⊤
+  HasSortedKeys (json.number s) = ⊤
+  HasSortedKeys (json.string s) = ⊤
+  HasSortedKeys (json.array js) = ItemsHaveAscendingKeys js
+  HasSortedKeys (json.object ms) = MembersHaveAscendingKeys ms
 
   pub ItemsHaveAscendingKeys : json.Items → Type 0
   ItemsHaveAscendingKeys json.no_items = ⊤
-  ItemsHaveAscendingKeys (json.item j js) = HasAscendingKeys j × ItemsHaveAscendingKeys js
+  ItemsHaveAscendingKeys (json.item j js) = HasSortedKeys j × ItemsHaveAscendingKeys js
 
   pub MembersHaveAscendingKeys : json.Members → Type 0
   MembersHaveAscendingKeys json.no_members = ⊤
-  MembersHaveAscendingKeys (json.member k j ms) = IsLessThanKeys k ms × HasAscendingKeys j × MembersHaveAscendingKeys ms
+  MembersHaveAscendingKeys (json.member k j ms) = IsLessThanKeys k ms × HasSortedKeys j × MembersHaveAscendingKeys ms
 
 -- the trees of the members in input order
 abbrev pub member_trees : json.Members → Option Members
@@ -164,7 +164,7 @@ module _ (doubles : Doubles) where
   first_fault_of_members false ts = first_member_fault doubles ts
 
   abbrev pub LocatesValueError : TraversalError → Option (json.Json × List Token) → List Token → Type 0
-  LocatesValueError e parsed rest = IfFault e (λ place. (j : json.Json) (r : List Token) (t : Data) → parsed ≡ Some (j, r) → HasAscendingKeys j
+  LocatesValueError e parsed rest = IfFault e (λ place. (j : json.Json) (r : List Token) (t : Data) → parsed ≡ Some (j, r) → HasSortedKeys j
       → of_json j ≡ Some t → (rest ≡ r) × IsPlaceOfFault (fault_in_tree doubles t) place)
 
   abbrev pub LocatesItemsError : TraversalError → Option (json.Items × List Token) → List Token → Type 0
@@ -195,7 +195,7 @@ module _ (doubles : Doubles) where
 
   -- The place is that of the first fault of the text, if the keys of each object ascend.
   abbrev pub LocatesTextError : TraversalError → List ℕ → Type 0
-  LocatesTextError e text = IfFault e (λ place. (j : json.Json) (t : Data) → IsJsonWithinDepth text j → HasAscendingKeys j → of_json j ≡ Some t
+  LocatesTextError e text = IfFault e (λ place. (j : json.Json) (t : Data) → IsJsonWithinDepth text j → HasSortedKeys j → of_json j ≡ Some t
       → IsFirstFaultIn doubles t place)
 
 -- What an error says about the input: what it rules out, and where the error is.

@@ -129,9 +129,9 @@ IsMemberText doubles form k v s = (t : Data) × (writes_in doubles form v ≡ Ok
 abbrev pub ValuesByStart : Type 0
 ValuesByStart = ℕ → Value
 
-abbrev pub span_value : ValuesByStart → MemberSpan → Value
-span_value values p = values p.start
+abbrev pub value_of_span : ValuesByStart → MemberSpan → Value
+value_of_span values p = values p.start
 
 -- the member is within the output, with a text of its key and value
 abbrev pub IsMemberSpan : (List ℕ → Value → List ℕ → Type 0) → List ℕ → ValuesByStart → MemberSpan → Type 0
-IsMemberSpan IsText buffer values p = IsSpanWithin buffer p × IsText (span_key p) (span_value values p) (span_text buffer p)
+IsMemberSpan IsText buffer values p = IsSpanWithin buffer p × IsText (span_key p) (value_of_span values p) (span_text buffer p)

@@ -49,24 +49,9 @@ pub fn write_text<W: ValueWriter + Drop>(
     ensures located { IfErr result (λ e. LocatesTextError doubles e text.now) }
 {
     if text.len() > LONG_TEXT_BYTES {
-        return write_long_text(alloc, doubles, text, out);
+        return write_with_scratch(alloc, doubles, text, &mut Scratch::new(alloc), out);
     }
     write_with_scratch(alloc, doubles, text, scratch, out)
-}
-
-#[inline(never)]
-fn write_long_text<W: ValueWriter + Drop>(
-    alloc: Global,
-    doubles: Doubles,
-    text: &str,
-    out: W,
-) -> Result<W, TraversalError>
-    ensures ok { IfOk result (λ new. (v : Meaning) × HasMeaningInOrder doubles text.now v × W.wrote_value out [] v new) }
-    ensures stops { IfErr result (λ e. RulesOutText doubles (W.may_give_up doubles) W.sorts_keys e text.now) }
-    ensures located { IfErr result (λ e. LocatesTextError doubles e text.now) }
-{
-    let mut scratch = Scratch::new(alloc);
-    write_with_scratch(alloc, doubles, text, &mut scratch, out)
 }
 
 // Writes the value of a text of any length, with this scratch.

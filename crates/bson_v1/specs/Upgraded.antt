@@ -60,21 +60,21 @@ v1_shape (member key value (member second_key second_value (member m h ms))) = o
 
 -- ---- what they denote
 
-abbrev pub object_of_one : List ℕ → Json → Json
-object_of_one key value = json.object (member key value no_members)
+abbrev pub object_of_member : List ℕ → Json → Json
+object_of_member key value = json.object (member key value no_members)
 
 abbrev pub object_of_two_texts : List ℕ → List ℕ → List ℕ → List ℕ → Json
 object_of_two_texts key text second_key second_text = json.object (member key (json.string text) (member second_key (json.string second_text) no_members))
 
 abbrev pub binary_json : List ℕ → List ℕ → Json
-binary_json base64 sub_type = object_of_one (codes "$binary") (object_of_two_texts (codes "base64") base64 (codes "subType") sub_type)
+binary_json base64 sub_type = object_of_member (codes "$binary") (object_of_two_texts (codes "base64") base64 (codes "subType") sub_type)
 
 abbrev pub regex_json : List ℕ → List ℕ → Json
 regex_json pattern options =
-    object_of_one (codes "$regularExpression") (object_of_two_texts (codes "pattern") pattern (codes "options") options)
+    object_of_member (codes "$regularExpression") (object_of_two_texts (codes "pattern") pattern (codes "options") options)
 
 abbrev pub date_json : List ℕ → Json
-date_json text = object_of_one (codes "$date") (json.string (with_colon text))
+date_json text = object_of_member (codes "$date") (json.string (with_colon text))
 
 abbrev pub upgraded_wrapper : Shape → Members → Json
 upgraded_wrapper (binary base64 sub_type) ms = binary_json base64 sub_type

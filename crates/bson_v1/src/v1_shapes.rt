@@ -3,7 +3,7 @@ ghost use Rattle.std.specs.Prelude.{◌≡◌, ◌++◌, ◌∷◌, [], OnOk};
 ghost use Rattle.json.specs.Json.{no_members, string};
 ghost use Rattle.json.specs.Token as token;
 ghost use Rattle.json.specs.Tree.{json_tokens};
-ghost use Rattle.bson_v1.specs.Upgraded.{binary_json, object_of_one, object_of_two_texts, regex_json};
+ghost use Rattle.bson_v1.specs.Upgraded.{binary_json, object_of_member, object_of_two_texts, regex_json};
 ghost use Rattle.bson_v1.specs.LeadingMembers.{leading_tokens, with_leading_members, scope_or_value};
 ghost use Rattle.bson_v1.specs.WrittenTokens.{upgraded_object_tokens, upgraded_value_tokens};
 
@@ -82,7 +82,7 @@ fn write_single_key(
     text: &str,
     out: &mut Writer,
 ) -> Result<(), AllocError>
-    ensures ok { OnOk result (out.new.tokens ≡ out.old.tokens ++ upgraded_value_tokens (object_of_one key.now (string text.now))) }
+    ensures ok { OnOk result (out.new.tokens ≡ out.old.tokens ++ upgraded_value_tokens (object_of_member key.now (string text.now))) }
     ensures before { out.new.before ≡ out.old.before }
 {
     if key == "$date" {
@@ -93,7 +93,7 @@ fn write_single_key(
 }
 
 fn write_one(key: &str, text: &str, out: &mut Writer) -> Result<(), AllocError>
-    ensures ok { OnOk result (out.new.tokens ≡ out.old.tokens ++ json_tokens (object_of_one key.now (string text.now))) }
+    ensures ok { OnOk result (out.new.tokens ≡ out.old.tokens ++ json_tokens (object_of_member key.now (string text.now))) }
     ensures before { out.new.before ≡ out.old.before }
 {
     out.begin_object()?;
@@ -159,7 +159,7 @@ fn write_wrapper(
     out: &mut Writer,
 ) -> Result<(), AllocError>
     ensures ok { OnOk result (out.new.tokens ≡ out.old.tokens
-        ++ json_tokens (object_of_one wrapper.now (object_of_two_texts key.now text.now second_key.now second_text.now))) }
+        ++ json_tokens (object_of_member wrapper.now (object_of_two_texts key.now text.now second_key.now second_text.now))) }
     ensures before { out.new.before ≡ out.old.before }
 {
     out.begin_object()?;

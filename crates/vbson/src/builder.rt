@@ -170,8 +170,8 @@ fn push_value(builder: &mut Builder<'_>, element: Element<'_>)
     push_bytes(builder, element.value_tail);
 }
 
-/// Appends bytes, for which there is room.
-pub fn push_bytes(builder: &mut Builder<'_>, bytes: &[u8])
+// Appends bytes, for which there is room.
+fn push_bytes(builder: &mut Builder<'_>, bytes: &[u8])
     requires { builder.old.len + length bytes.now ≤ length builder.old.bytes.now }
     ensures push_bytes { IsAppended bytes.now builder.old builder.new }
     ensures needed { builder.new.needed ≡ builder.old.needed }

@@ -1,6 +1,6 @@
 use Rattle.std.proofs.Common.{ℕ, Result, IfErr, refl, subst, sym}
 use Rattle.bson_codec.specs.DumpRuns.{IsRunEnd}
-use Rattle.bson_codec.specs.Streams.{WritesBeginning}
+use Rattle.bson_codec.specs.Streams.{WritesPrefix}
 use Rattle.bson_codec.specs.declared.run_end.RunFault.{RunFault}
 use Rattle.bson_codec.proofs.Runs.{bad_bytes, cut_line, judged_ends, untold}
 use Rattle.bson_codec.proofs.documents.write_or_skip.Goals as goal
@@ -12,7 +12,7 @@ returns-in_default-clause-fault g c =
     let output_after = g.W.Write.contents c.write_whole.new.writer in
     cut_line c.args.run c.args.number c.args.start c.args.bytes.now c.in-Ok.line.items output_before output_after
     (g.T.Write.contents c.args.report.now) c.in-Ok.ensures.ok
-    (subst (WritesBeginning output_before output_after) c.as_slice.ensures.value c.in_default.ensures.cut)
+    (subst (WritesPrefix output_before output_after) c.as_slice.ensures.value c.in_default.ensures.cut)
 
 pub returns-then-may_skip-clause-fault : goal.returns-then-may_skip-clause-fault
 returns-then-may_skip-clause-fault g c =

@@ -3,7 +3,7 @@ use Rattle.std.proofs.lemmas.Result.{err_from_is_err_and}
 use Rattle.bson_bytes.proofs.Offered.{written_read, told_ok}
 use Rattle.bson_bytes.specs.ReadDocuments.{IsRead}
 use Rattle.bson_bytes.specs.PutSteps.{put_document, StopsFor}
-use Rattle.bson_bytes.specs.Writing.{as_read_back}
+use Rattle.bson_bytes.specs.Writing.{pairs_read_back}
 use Rattle.bson.specs.View.{document_view}
 use Rattle.bson_codec.proofs.ElementLaws.{refusal, only_memory}
 use Rattle.bson_codec.proofs.ser.to_vec.Goals as goal
@@ -34,7 +34,7 @@ returns-clause-back c = λ d nests.
     let ps = document_view c.args.document.now in
     let put = ap (put_document ps) (sym c.new-out.ensures.items) ∙ c.in_ok-put_document.ensures.put in
     let diagnostics_before = told_ok ps c.put_document.new.out.items put in
-    subst (λ (out : List ℕ). IsRead (suc d) out (as_read_back ps)) (sym diagnostics_before.1) (written_read d ps diagnostics_before.0 c.in_ok-put_document.ensures.typed nests)
+    subst (λ (out : List ℕ). IsRead (suc d) out (pairs_read_back ps)) (sym diagnostics_before.1) (written_read d ps diagnostics_before.0 c.in_ok-put_document.ensures.typed nests)
 
 pub returns-clause-fits : goal.returns-clause-fits
 returns-clause-fits c =
