@@ -15,7 +15,7 @@ fn first_key_above<V>(pairs: &Vec<Pair<V>>, key: &str) -> usize
 {
     let mut low = 0;
     let mut high = pairs.len();
-    'halves: while low < high {
+    'binary_search: while low < high {
         let middle = low + (high - low) / 2;
         if key.cmp(pairs[middle].key.as_str()).is_lt() {
             high = middle;

@@ -36,7 +36,7 @@ fn first_key_above<V>(pairs: &Vec<Pair<V>>, positions: &Vec<usize>, key: &str) -
 {
     let mut low = 0;
     let mut high = positions.len();
-    'halves: while low < high {
+    'binary_search: while low < high {
         let middle = low + (high - low) / 2;
         if key.cmp(key_at(pairs, positions[middle])).is_lt() {
             high = middle;
