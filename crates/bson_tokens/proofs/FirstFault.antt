@@ -17,7 +17,7 @@ use Rattle.bson_model.proofs.Offered.{means_to_in}
 use Rattle.bson_model.specs.Value as model
 use Rattle.bson_tree.specs.Place.{PathSegment, key, element, FaultAtIn, ItemFaultAtIn, MemberFaultAtIn, HasValueIn}
 use Rattle.bson_tree.specs.Place.{array, document}
-use Rattle.bson_tree.specs.Place.{wrong_shape_here as at_element, later, member_path, behind}
+use Rattle.bson_tree.specs.Place.{here as at_element, later, at_key, behind}
 use Rattle.bson_tree.proofs.Offered.{HasScopeIn, IsScopeFaultIn, in_scope, no_scope}
 use Rattle.bson_tree.proofs.Offered.{HasItems, HasPairs, Coded, number_value, no_number, array_value, document_value}
 use Rattle.bson_tree.proofs.Offered.{lone_fault, lone_value, not_code, not_text, value_of_code, scope_path}
@@ -54,7 +54,7 @@ module _ (D : Doubles) where
       → Is (HasPairs D (member k d ms)) (λ f path. MemberFaultAtIn D f (member k d ms) path) (or (add_segment (key k) v) w)
   members_are k d ms None None a b = (model.pair k a.0 b.0, rw (means_to_in D a.1, b.1) refl)
   members_are k d ms None (Some f) a b = behind k d a.0 ms a.1 b
-  members_are k d ms (Some f) w a b = member_path k d ms a
+  members_are k d ms (Some f) w a b = at_key k d ms a
 
   document_is : (ms : Members) (v : FaultAndPath) → has_wrapper ms ≡ false
       → Is (HasPairs D ms) (λ f path. MemberFaultAtIn D f ms path) v

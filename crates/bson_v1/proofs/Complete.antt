@@ -10,7 +10,7 @@ use Rattle.json.specs.Tree.{depth, json_tokens}
 use Rattle.json.specs.declared.error.Error.{Error}
 use Rattle.json.proofs.Printed.Trees.{value-json_tokens}
 use Rattle.serde_json.specs.Read.{max_depth}
-use Rattle.bson_tokens.specs.ReadOutcomes.{InvalidMeansNone}
+use Rattle.bson_tokens.specs.ReadOutcomes.{InvalidIfNotRead}
 use Rattle.bson_tokens.specs.Normalized.{normalized, IsNormalizedText}
 use Rattle.bson_tokens.specs.DuplicateKeys.{json_of}
 use Rattle.bson_tokens.specs.declared.arrangement.Arrangement.TheVariants.{FirstPositions}
@@ -50,6 +50,6 @@ upgraded_of text resolved out first then =
     }
 
 pub never_breaks : {X : Type 0} {Y : Type 0} (text resolved : List ℕ) (o : Option Y) (r : Result X Error)
-    → IsNormalizedText FirstPositions text resolved → IfErr r (InvalidMeansNone (json_of resolved)) → IfErr r (InvalidMeansNone o)
+    → IsNormalizedText FirstPositions text resolved → IfErr r (InvalidIfNotRead (json_of resolved)) → IfErr r (InvalidIfNotRead o)
 never_breaks text resolved o (Ok x) first h = tt
 never_breaks text resolved o (Err e) first h = λ broken. let never = sym (h broken) ∙ first.read_again in cc

@@ -7,7 +7,7 @@ use Rattle.bson_bytes.specs.Writing.{document_bytes, FitsDocument}
 use Rattle.bson_bytes.specs.declared.error.Error.{Error as PathError}
 use Rattle.bson_bytes.specs.declared.error.Error.TheVariants as sizes
 use Rattle.bson_convert.specs.Convert.{IsRejectedIn, newline}
-use Rattle.bson_convert.specs.Messages.{words_of}
+use Rattle.bson_convert.specs.Messages.{error_message}
 use Rattle.bson_convert.specs.declared.error.Error.{Error}
 use Rattle.bson_convert.specs.declared.error.Error.TheVariants.{NotExtendedJson, OutOfMemory}
 use Rattle.bson_tree.specs.Place.{PathSegment, path_of}
@@ -79,8 +79,8 @@ pub record ReportsExplanation (text : List ℕ) (explanation : Explanation) (des
 pub record ExplainsError (text : List ℕ) (fault : Error) (out : Rejection) : Type 0 where
   pub explanation : Explanation
   pub is_explanation : IsExplanation text fault explanation
-  pub error_report : ReportsExplanation text explanation (words_of fault ++ explanation_message text explanation) out
-  pub utf8 : IsUtf8 (words_of fault ++ explanation_message text explanation)
+  pub error_report : ReportsExplanation text explanation (error_message fault ++ explanation_message text explanation) out
+  pub utf8 : IsUtf8 (error_message fault ++ explanation_message text explanation)
   pub reason_utf8 : IsUtf8 (explanation_reason explanation)
 
 -- ---- which text

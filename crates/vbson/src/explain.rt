@@ -2,7 +2,7 @@
 ghost use Rattle.std.specs.Prelude.{◌≡◌, ◌≢◌, ◌⊎◌, ◌↔◌, ◌<◌, ◌++◌, ℕ, List, [], length, map, IfOk, IfErr, IsUtf8};
 ghost use Rattle.bson.specs.Value.{Value};
 ghost use Rattle.bson_convert.specs.Convert.{IsRejectedIn, newline};
-ghost use Rattle.bson_convert.specs.Messages.{words_of};
+ghost use Rattle.bson_convert.specs.Messages.{error_message};
 ghost use Rattle.bson_tree.specs.Place.{segment_of};
 ghost use Rattle.vbson.specs.Explain.{AreFieldsOfExplanation, Explains, ExplainsWithoutPreprocessing, ExplainsError, PathIsTooLong, HasTooLongPath, IsRejectionWithFields, IsTooLong, IsUnexplained, ReportsExplanation};
 ghost use Rattle.vbson.specs.Explain.{explanation_code, explanation_column, explanation_line, explanation_offset, explanation_path, explanation_reason};
@@ -145,8 +145,8 @@ fn rejected(alloc: Global, fault: &Error, text: &[u8]) -> Result<Rejection<'stat
 
 // Returns the message of a fault and its path, and a newline.
 fn line_at(alloc: Global, fault: &Error, place: &str) -> Result<Vec<u8>, AllocError>
-    ensures { IfOk result (λ line. IsUtf8 (words_of fault.now ++ place.now)
-        × (line.items ≡ (words_of fault.now ++ place.now) ++ newline)) }
+    ensures { IfOk result (λ line. IsUtf8 (error_message fault.now ++ place.now)
+        × (line.items ≡ (error_message fault.now ++ place.now) ++ newline)) }
 {
     let description = fault.message();
     let line = format!(in alloc; "{description}{place}\n")?;

@@ -3,7 +3,7 @@ use denote.Shadow.{shadow}
 use Rattle.bson.proofs.debug.+debug.Given as goal
 
 abbrev pub invariant-debug_pairs-loop-i : goal.invariant-debug_pairs-loop-i
-invariant-debug_pairs-loop-i g l = shadow (Utf8 l.between)
+invariant-debug_pairs-loop-i g l = shadow (Utf8 l.separator)
 
 abbrev pub invariant-debug_values-loop-value : goal.invariant-debug_values-loop-value
-invariant-debug_values-loop-value g l = shadow (Utf8 l.between)
+invariant-debug_values-loop-value g l = shadow (Utf8 l.separator)

@@ -10,5 +10,5 @@ pub returns-clause-first : goal.returns-clause-first
 returns-clause-first c =
     λ d ps h. first_is_element d c.args.bytes.now ps c.type_of-kind.result c.in-Some.key _ _ _ h
     c.type_of-kind.ensures (c.in-Some.ensures.outcome d ps h)
-    (sliced c.args.bytes.now (length c.in-Some.key.now + 2) (omega (arith, c.in-Some.ensures.within)))
-    (sym (sliced c.args.bytes.now c.in-Some.end (omega (arith, c.in-Some.ensures.within))))
+    (sliced c.args.bytes.now (length c.in-Some.key.now + 2) (omega (arith, c.in-Some.ensures.in_bounds)))
+    (sym (sliced c.args.bytes.now c.in-Some.end (omega (arith, c.in-Some.ensures.in_bounds))))
