@@ -23,14 +23,14 @@ pub record EndsEarlier (first second : List (List ℕ)) (count other : ℕ) : Ty
 -- the first difference
 abbrev pub IsDifference : (first second : List (List ℕ)) → Difference → Type 0
 IsDifference first second (At number) = (at : ℕ) × (number ≡ at + 1) × DifferFirstAt at first second
-IsDifference first second (Counts count other) = EndsEarlier first second count other
+IsDifference first second (Counts first_count second_count) = EndsEarlier first second first_count second_count
 IsDifference first second (Lines count) = ⊥
 
 -- the difference between lines whose order does not matter
 abbrev pub IsUnorderedDifference : (first second : List (List ℕ)) → Difference → Type 0
 IsUnorderedDifference first second (At number) = ⊥
-IsUnorderedDifference first second (Counts count other) =
-    (count ≡ length first) × (other ≡ length second) × (count ≢ other)
+IsUnorderedDifference first second (Counts first_count second_count) =
+    (first_count ≡ length first) × (second_count ≡ length second) × (first_count ≢ second_count)
 IsUnorderedDifference first second (Lines count) =
     (count ≡ length first) × (count ≡ length second) × (IsPermutation first second → ⊥)
 

@@ -85,16 +85,16 @@ fn in_blocks<R: Read, W: Write, T: Write>(
     report: &mut T,
 ) -> Result<DocumentCounts, RunEnd> {
     let Ok(mut reader) = BufReader::with_capacity(alloc, BLOCK, reader) else {
-        return Err(end_at_start(RunFault::OutOfMemory));
+        return Err(end_before_first_document(RunFault::OutOfMemory));
     };
     let Ok(mut writer) = BufWriter::with_capacity(alloc, BLOCK, writer) else {
-        return Err(end_at_start(RunFault::OutOfMemory));
+        return Err(end_before_first_document(RunFault::OutOfMemory));
     };
     run_whole(alloc, run, &mut reader, &mut writer, report)
 }
 
 // A run that ended before its first document.
-fn end_at_start(fault: RunFault) -> RunEnd
+fn end_before_first_document(fault: RunFault) -> RunEnd
     ensures { result.fault ≡ fault }
 {
     RunEnd {
@@ -125,7 +125,7 @@ fn run_whole<R: Read, W: Write + Drop, T: Write>(
 {
     let ended = run_documents(alloc, run, reader, writer, report);
     let Ok(()) = writer.flush() else {
-        return Err(end_at_start(RunFault::CannotWrite));
+        return Err(end_before_first_document(RunFault::CannotWrite));
     };
     match ended {
         Ok(counts) => Ok(counts),
@@ -150,13 +150,13 @@ fn report_end<T: Write>(
         RunFault::CannotRead | RunFault::CannotWrite | RunFault::OutOfMemory => return Err(end),
     }
     let (Some(refused), Ok(diagnostic)) = (end.refused.checked_add(1), end.to_line(alloc)) else {
-        return Err(end_at_start(RunFault::OutOfMemory));
+        return Err(end_before_first_document(RunFault::OutOfMemory));
     };
     match report.write_all(diagnostic.as_bytes()) {
         Ok(()) => Ok(DocumentCounts {
             documents: end.number,
             refused,
         }),
-        Err(_) => Err(end_at_start(RunFault::CannotWrite)),
+        Err(_) => Err(end_before_first_document(RunFault::CannotWrite)),
     }
 }
