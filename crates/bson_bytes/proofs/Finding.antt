@@ -5,7 +5,7 @@ use Rattle.std.specs.Prelude.{option_map, option_and_then, IsSomeAnd}
 use Rattle.std.specs.Borrow.{Bor}
 use Rattle.std.specs.Result.{is_ok}
 use Rattle.std.specs.Str.{bytes_eq}
-use Rattle.std.proofs.lemmas.Bool.{little_endian-ltb}
+use Rattle.std.proofs.lemmas.Bool.{le-ltb}
 use Rattle.std.proofs.lemmas.List.{drop-drop}
 use Rattle.bson_types.specs.ElementTags.{tag_of}
 use Rattle.bson_types.specs.declared.spec.ElementType.{ElementType}
@@ -51,7 +51,7 @@ pub elements_after : (d : ℕ) (bytes : List ℕ) (ps : Pairs) → BeginsWithDoc
     → (1 ≤ d) × (skip 4 bytes ≡ Some (drop 4 bytes)) × BeginsWithElements (d - 1) (drop 4 bytes) ps
 elements_after d bytes ps h =
     let o = opened d bytes ps h.0 h.1 in
-    (o.deep, rw (little_endian-ltb (length bytes) 4 o.first.1) refl, subst (λ (list : List ℕ). BeginsWithElements (d - 1) list ps) o.first.0 (h.0, o.read))
+    (o.deep, rw (le-ltb (length bytes) 4 o.first.1) refl, subst (λ (list : List ℕ). BeginsWithElements (d - 1) list ps) o.first.0 (h.0, o.read))
 
 pub elements_found : (o : Option (Bor (List ℕ))) (d : ℕ) (bytes : List ℕ) (ps : Pairs) → option_map (λ x. x.now) o ≡ skip 4 bytes
     → BeginsWithDocument d bytes ps → (1 ≤ d) × IsSomeAnd o (λ list. BeginsWithElements (d - 1) list.now ps)

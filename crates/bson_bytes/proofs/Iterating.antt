@@ -2,7 +2,7 @@
 use Rattle.std.proofs.Common.{◌≡◌, ℕ, ◌+◌, ◌-◌, ◌≤◌, ◌<◌, List, [], ◌∷◌, length, take, get_or, map, None, Some, Ok, true, refl, sym, ap, ◌∙◌, arith}
 use Rattle.std.specs.Result.{is_ok}
 use Rattle.std.specs.Str.{IsUtf8}
-use Rattle.std.proofs.lemmas.List.{length-append, take-append-little_endian, take_all}
+use Rattle.std.proofs.lemmas.List.{length-append, take-append-le, take_all}
 use Rattle.std.proofs.lemmas.Str.{IsUtf8-from_is_utf8}
 use Rattle.bson_model.specs.Value.{Value, Pairs, no_pairs, pair}
 use Rattle.bson_bytes.specs.Grammar.{deduplicated, pair_values}
@@ -31,7 +31,7 @@ alone d bytes rest ps fits x skips =
     let most : n ≤ length f.front = omega (arith, ap length same) in
     let least : length f.front ≤ n = omega (arith, ap length same) in
     let front : take n bytes ≡ f.front =
-    ap (take n) f.parts ∙ take-append-little_endian n f.front x.0 most ∙ take_all n f.front least in
+    ap (take n) f.parts ∙ take-append-le n f.front x.0 most ∙ take_all n f.front least in
     ap (reads_bytes d) front ∙ is_read Replace d f.front (deduplicated ps) f.read
 
 pub sized_there : (d : ℕ) (bytes : List ℕ) (ps : Pairs) → BeginsWithDocument d bytes ps → skip_sized 0 bytes ≡ None → ⊥

@@ -6,7 +6,7 @@ use Rattle.std.specs.Prelude.{option_map}
 use Rattle.std.specs.Int.{Width, w32, w64, byte_len, from_le_bytes, to_le_bytes}
 use Rattle.std.specs.Str.{is_utf8, IsUtf8}
 use Rattle.std.proofs.lemmas.Str.{IsUtf8-from_is_utf8}
-use Rattle.std.proofs.lemmas.Bool.{cases_lt, ltb-true, ltb-false, little_endian-ltb, lt-ltb, eqb-true, eqb-false, ne_eqb}
+use Rattle.std.proofs.lemmas.Bool.{cases_lt, ltb-true, ltb-false, le-ltb, lt-ltb, eqb-true, eqb-false, ne_eqb}
 use Rattle.std.proofs.lemmas.Bool.{false_from_ne_true}
 use Rattle.std.proofs.lemmas.List.{take_at, drop_at, take-append-drop, length-append, length-take, get_or-drop}
 use Rattle.std.proofs.lemmas.List.{get_or-take, get_or_past}
@@ -127,7 +127,7 @@ pub number_again : (w : Width) (limit : ℕ) → IsWide w limit → (n : ℕ) (r
 unfolding little_endian
 number_again w limit wide n rest lt =
     let len = wide.len n in
-    let long : ltb (length (to_le_bytes w n ++ rest)) (byte_len w) ≡ false = little_endian-ltb _ _ (omega (arith, length-append (to_le_bytes w n) rest)) in
+    let long : ltb (length (to_le_bytes w n ++ rest)) (byte_len w) ≡ false = le-ltb _ _ (omega (arith, length-append (to_le_bytes w n) rest)) in
     rw (long, take_at (to_le_bytes w n) rest (byte_len w) len, drop_at (to_le_bytes w n) rest (byte_len w) len, wide.again n lt) refl
 
 -- ---- a length
@@ -157,7 +157,7 @@ bytes_takes n bytes s rest fits e =
 
 pub bytes_again : (s rest : List ℕ) → read_bytes (length s) (s ++ rest) ≡ Ok (s, rest)
 bytes_again s rest =
-    let long : ltb (length (s ++ rest)) (length s) ≡ false = little_endian-ltb _ _ (omega (arith, length-append s rest)) in
+    let long : ltb (length (s ++ rest)) (length s) ≡ false = le-ltb _ _ (omega (arith, length-append s rest)) in
     rw (long, take_at s rest (length s) refl, drop_at s rest (length s) refl) refl
 
 -- ---- a byte

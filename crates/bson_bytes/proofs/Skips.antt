@@ -4,7 +4,7 @@ use Rattle.std.proofs.Common.{length, drop, take, Option, Some, None, Result, Ok
 use Rattle.std.specs.Prelude.{option_map, option_and_then}
 use Rattle.std.specs.Str.{is_utf8}
 use Rattle.std.specs.Int.{Width, w32, w64, byte_len, from_le_bytes, cast_signed}
-use Rattle.std.proofs.lemmas.Bool.{ltb-false, little_endian-ltb, eqb-true, eqb-false}
+use Rattle.std.proofs.lemmas.Bool.{ltb-false, le-ltb, eqb-true, eqb-false}
 use Rattle.std.proofs.lemmas.List.{drop-drop, length-drop}
 use Rattle.bson_types.specs.declared.spec.ElementType.{ElementType}
 use Rattle.bson_types.specs.declared.spec.ElementType.TheVariants as tag
@@ -78,7 +78,7 @@ follows_then n m a b c h g =
     (g.0 ∙ ap (drop m) h.0 ∙ drop-drop m n a, omega (arith, h.1, g.1, follows_length n a b h))
 
 skip_follows : (n : ℕ) (bytes rest : List ℕ) → Follows n bytes rest → skip n bytes ≡ Some rest
-skip_follows n bytes rest h = rw (little_endian-ltb (length bytes) n h.1, h.0) refl
+skip_follows n bytes rest h = rw (le-ltb (length bytes) n h.1, h.0) refl
 
 pub byte_follows : (bytes : List ℕ) (b : ℕ) (rest : List ℕ) → read_byte bytes ≡ Ok (b, rest) → Follows 1 bytes rest
 byte_follows [] b rest e = absurd cc

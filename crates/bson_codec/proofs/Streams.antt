@@ -4,7 +4,7 @@ use Rattle.std.proofs.Common.{None, Some, Result, Ok, Err, OnOk, Bool, true, fal
 use Rattle.std.specs.Int.{w32}
 use Rattle.std.specs.Io.KnownBytes.{Consumes, IsAtEnd}
 use Rattle.std.proofs.KnownBytes.{Consumes-trans}
-use Rattle.std.proofs.lemmas.Bool.{little_endian-ltb, ltb-false}
+use Rattle.std.proofs.lemmas.Bool.{le-ltb, ltb-false}
 use Rattle.std.proofs.lemmas.List.{take_all, take_at, length-append, append-nil}
 use Rattle.bson_model.specs.Value.{Pairs}
 use Rattle.bson_bytes.specs.Grammar.{little_endian, IsDocument, is_document}
@@ -66,7 +66,7 @@ promised_is : (n : ℕ) → 5 ≤ n → n < 2 ^ 31 → declared_length (little_e
 promised_is n least small =
     let read : read_length (little_endian w32 n) ≡ Ok (n, []) = ap read_length (sym (append-nil (little_endian w32 n))) ∙ size_again n [] small in
     let four : length (little_endian w32 n) ≡ 4 = length-little_endian w32 (2 ^ 32) wide32 n in
-    let no : ltb n (length (little_endian w32 n)) ≡ false = little_endian-ltb n (length (little_endian w32 n)) (omega (arith, least, four)) in
+    let no : ltb n (length (little_endian w32 n)) ≡ false = le-ltb n (length (little_endian w32 n)) (omega (arith, least, four)) in
     ap (most (length (little_endian w32 n))) read ∙ rw no refl
 
 pub front_none : declared_prefix [] ≡ []

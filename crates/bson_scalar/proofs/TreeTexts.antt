@@ -23,7 +23,7 @@ use Rattle.serde_json.specs.Find.{is_float}
 use Rattle.serde_json.specs.Read.{number_of, number_from, float_of, is_integer}
 use Rattle.serde_json.specs.Written.{has_float, items_have_float, members_have_float}
 use Rattle.serde_json.specs.Written as kit
-use Rattle.serde_json.proofs.Texts.{print-json_of_tree}
+use Rattle.serde_json.proofs.Texts.{print-outline}
 use Rattle.bson_double.specs.FiniteDoubles.{is_finite}
 use Rattle.bson_double.specs.DoubleText.{IsDoubleText}
 use Rattle.bson_double.proofs.Offered.{bits_back, finite_value, json_number, parses}
@@ -130,7 +130,7 @@ number_same (negative z) h = refl
 number_same (float x) h = cc
 
 mutual
-  outline_same : (t : Data) → has_float t ≡ false → json_of_tree t ≡ kit.json_of_tree t
+  outline_same : (t : Data) → has_float t ≡ false → json_of_tree t ≡ kit.outline t
   outline_same tree.null h = refl
   outline_same (tree.boolean b) h = refl
   outline_same (tree.number n) h = ap json.number (number_same n h)
@@ -138,18 +138,18 @@ mutual
   outline_same (tree.array ds) h = ap json.array (items_same ds h)
   outline_same (tree.object ms) h = ap json.object (members_same ms h)
 
-  items_same : (ds : Items) → items_have_float ds ≡ false → json_of_items ds ≡ kit.json_of_items ds
+  items_same : (ds : Items) → items_have_float ds ≡ false → json_of_items ds ≡ kit.items_outline ds
   items_same no_items h = refl
   items_same (item d ds) h =
       let p = or_parts (has_float d) _ h in ap₂ json.item (outline_same d p.0) (items_same ds p.1)
 
-  members_same : (ms : Members) → members_have_float ms ≡ false → json_of_members ms ≡ kit.json_of_members ms
+  members_same : (ms : Members) → members_have_float ms ≡ false → json_of_members ms ≡ kit.members_outline ms
   members_same no_members h = refl
   members_same (member k d ms) h =
       let p = or_parts (has_float d) _ h in ap₂ (json.member k) (outline_same d p.0) (members_same ms p.1)
 
 compact_is : (t : Data) → has_float t ≡ false → kit.compact_text t ≡ own.text_of t
-compact_is t h = sym (print-json_of_tree t) ∙ ap (λ j. print (json_tokens j)) (sym (outline_same t h))
+compact_is t h = sym (print-outline t) ∙ ap (λ j. print (json_tokens j)) (sym (outline_same t h))
 
 pub text_is : (D : Doubles) (f : Form) (t : Data) → HasNoFloatIn D f t → tree_text D f t ≡ own.text_of t
 text_is Special f t h = compact_is t h

@@ -6,10 +6,10 @@ use Rattle.json.specs.Json.{no_members, member, if_last, value}
 use Rattle.json.specs.Lex.{tokens}
 use Rattle.json.specs.Print.{print}
 use Rattle.json.specs.Token.{Token}
-use Rattle.json.specs.Tree.{json_tokens, depth, items_depth, members_depth, HasNumbersInRange, ItemsHaveNumbersInRange}
-use Rattle.json.specs.Tree.{MembersHaveNumbersInRange}
+use Rattle.json.specs.Tree.{json_tokens, depth, items_depth, members_depth, HasNumbers, ItemsHaveNumbers}
+use Rattle.json.specs.Tree.{MembersHaveNumbers}
 use Rattle.json.proofs.Nesting.{value-depth}
-use Rattle.json.proofs.Numbered.{value-HasNumbersInRange, ArePrintableOrBad-tokens}
+use Rattle.json.proofs.Numbered.{value-HasNumbers, ArePrintableOrBad-tokens}
 use Rattle.json.proofs.Printed.Tokens.{tokens-print}
 use Rattle.json.proofs.Printed.Trees.{value-json_tokens, ArePrintable-json_tokens}
 use Rattle.serde_json.specs.Read.{max_depth}
@@ -54,12 +54,12 @@ no_deeper a j = within a j (depth j) (omega arith)
 
 -- ---- numbers as texts
 
-each_number : (ms : Members) → Each HasNumbersInRange ms → MembersHaveNumbersInRange ms
+each_number : (ms : Members) → Each HasNumbers ms → MembersHaveNumbers ms
 each_number no_members are = tt
 each_number (member k j ms) are = (are.0, each_number ms are.1)
 
 mutual
-  pub still_numbers : (a : Arrangement) (j : Json) → HasNumbersInRange j → HasNumbersInRange (normalized a j)
+  pub still_numbers : (a : Arrangement) (j : Json) → HasNumbers j → HasNumbers (normalized a j)
   still_numbers a null has = has
   still_numbers a (boolean b) has = has
   still_numbers a (number s) has = has
@@ -67,16 +67,16 @@ mutual
   still_numbers a (array js) has = items_still a js has
   still_numbers a (object ms) has = members_still a ms no_members has tt
 
-  items_still : (a : Arrangement) (js : Items) → ItemsHaveNumbersInRange js → ItemsHaveNumbersInRange (normalized_items a js)
+  items_still : (a : Arrangement) (js : Items) → ItemsHaveNumbers js → ItemsHaveNumbers (normalized_items a js)
   items_still a no_items has = has
   items_still a (item j js) has = (still_numbers a j has.0, items_still a js has.1)
 
-  members_still : (a : Arrangement) (ms found : Members) → MembersHaveNumbersInRange ms → Each HasNumbersInRange found
-      → MembersHaveNumbersInRange (normalized_members a ms found)
+  members_still : (a : Arrangement) (ms found : Members) → MembersHaveNumbers ms → Each HasNumbers found
+      → MembersHaveNumbers (normalized_members a ms found)
   members_still a no_members found has are = each_number found are
   members_still a (member k j ms) found has are =
       members_still a ms (put_member a k (normalized a j) found) has.1
-      (each_put HasNumbersInRange a k (normalized a j) found (still_numbers a j has.0) are)
+      (each_put HasNumbers a k (normalized a j) found (still_numbers a j has.0) are)
 
 -- ---- texts
 
@@ -91,13 +91,13 @@ last (Some (i, t ∷ ts)) j h = absurd cc
 pub text_depth : (text : List ℕ) (j : Json) → json_of text ≡ Some j → depth j ≤ max_depth
 text_depth text j h = value-depth max_depth (tokens text) [] j (last (value max_depth (tokens text)) j h)
 
-pub text_numbers : (text : List ℕ) (j : Json) → json_of text ≡ Some j → HasNumbersInRange j
+pub text_numbers : (text : List ℕ) (j : Json) → json_of text ≡ Some j → HasNumbers j
 text_numbers text j h =
-    value-HasNumbersInRange max_depth (tokens text) [] j (ArePrintableOrBad-tokens text)
+    value-HasNumbers max_depth (tokens text) [] j (ArePrintableOrBad-tokens text)
     (last (value max_depth (tokens text)) j h)
 
 -- a tree's compact text is read as the tree
-pub printed_again : (j : Json) → HasNumbersInRange j → depth j ≤ max_depth → json_of (print (json_tokens j)) ≡ Some j
+pub printed_again : (j : Json) → HasNumbers j → depth j ≤ max_depth → json_of (print (json_tokens j)) ≡ Some j
 printed_again j has shallow =
     ap whole (ap (value max_depth) (tokens-print (json_tokens j) (ArePrintable-json_tokens j has)
     ∙ sym (append-nil (json_tokens j))) ∙ value-json_tokens j max_depth [] shallow)

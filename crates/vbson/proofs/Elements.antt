@@ -1,8 +1,8 @@
 -- What is appended to the elements of pairs or of values are those of one more.
-use Rattle.std.proofs.Common.{◌≡◌, ℕ, ◌+◌, ◌-◌, ◌^◌, ◌<◌, ◌≤◌, List, [], ◌∷◌, ◌++◌, length, take, drop, drop-drop, ap, sym, ◌∙◌, arith, append_assoc, length-append, length-take-little_endian}
+use Rattle.std.proofs.Common.{◌≡◌, ℕ, ◌+◌, ◌-◌, ◌^◌, ◌<◌, ◌≤◌, List, [], ◌∷◌, ◌++◌, length, take, drop, drop-drop, ap, sym, ◌∙◌, arith, append_assoc, length-append, length-take-le}
 use Rattle.std.specs.Int.{w32}
 use Rattle.std.specs.Prelude.{decimal}
-use Rattle.std.proofs.lemmas.List.{append-nil, take_at, drop_at, take-append-little_endian, drop-append-little_endian, length-drop}
+use Rattle.std.proofs.lemmas.List.{append-nil, take_at, drop_at, take-append-le, drop-append-le, length-drop}
 use Rattle.bson_bytes.specs.Grammar.{IsLength, document_of_elements, little_endian}
 use Rattle.bson_bytes.specs.Writing.{name_bytes, type_of, value_bytes, elements_bytes, array_elements_bytes}
 use Rattle.bson_model.specs.HashInput.{items_count}
@@ -53,12 +53,12 @@ pub is_ended : (start : ℕ) (a m b : Builder) → start + 4 ≤ a.len → a.len
     → drop m.len b.bytes.now ≡ drop m.len m.bytes.now → length b.bytes.now ≡ length m.bytes.now → b.len ≡ m.len
     → IsFramed start a b
 is_ended start a m b starts counts s is rest size len =
-    let count : length (written_bytes a) ≡ a.len = length-take-little_endian a.len a.bytes.now (omega (arith, s.fits)) in
+    let count : length (written_bytes a) ≡ a.len = length-take-le a.len a.bytes.now (omega (arith, s.fits)) in
     let list = drop (start + 4) (written_bytes a) in
     let first : take start (written_bytes m) ≡ take start (written_bytes a) =
-    ap (take start) s.written_bytes ∙ take-append-little_endian start (written_bytes a) (0 ∷ []) (omega (arith, count, starts)) in
+    ap (take start) s.written_bytes ∙ take-append-le start (written_bytes a) (0 ∷ []) (omega (arith, count, starts)) in
     let second : drop (start + 4) (written_bytes m) ≡ list ++ 0 ∷ [] =
-    ap (drop (start + 4)) s.written_bytes ∙ drop-append-little_endian (start + 4) (written_bytes a) (0 ∷ []) (omega (arith, count, starts)) in
+    ap (drop (start + 4)) s.written_bytes ∙ drop-append-le (start + 4) (written_bytes a) (0 ∷ []) (omega (arith, count, starts)) in
     let third : m.len - start ≡ length list + 5 = omega (arith, s.len, starts, count, length-drop (start + 4) (written_bytes a)) in
     record {
       starts = starts;
@@ -84,5 +84,5 @@ ended front list start a b is h s =
 pub sized : (front list : List ℕ) (start : ℕ) (a b : Builder) → start ≡ length front → written_bytes a ≡ front ++ (length_placeholder ++ list)
     → IsFramed start a b → IsLength (length list + 5)
 sized front list start a b is h s =
-    let count = length-take-little_endian a.len a.bytes.now (omega (arith, s.fits)) in
+    let count = length-take-le a.len a.bytes.now (omega (arith, s.fits)) in
     omega (arith, is, s.counts, s.starts, count, ap length h, length-append front (length_placeholder ++ list), length-append length_placeholder list)
