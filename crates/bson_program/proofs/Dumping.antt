@@ -41,13 +41,13 @@ pub cut_dump : (run : Run) (before after output_before mid output_after diagnost
 cut_dump run before after output_before mid output_after diagnostics_before said diagnostics_after first last fault number left start documents refused h e f k going is reports_appended same counted =
     let ended : EndsAt run before after output_before output_after diagnostics_before said fault number left start = record {
       done = h.done;
-      taken = h.taken;
+      bytes_read = h.bytes_read;
       output = h.output;
       more = h.more;
-      verdicts = h.verdicts;
-      said = h.said;
+      diagnostic_lines = h.diagnostic_lines;
+      partial_report = h.partial_report;
       count = h.count;
-      given = h.given;
+      consumed_bytes = h.consumed_bytes;
       front = h.front;
       documents = h.documents;
       counted = h.counted;
