@@ -42,7 +42,7 @@ impl<'a> RawDocument<'a> {
         // Which fault it is, and where.
         ensures fault { IfErr result (λ f. reads_bytes depth bytes.now ≡ Err f) }
     {
-        match nothing::is_document(bytes, depth) {
+        match nothing_sink::is_document(bytes, depth) {
             Ok(()) => Ok(RawDocument { bytes, depth }),
             Err(fault) => Err(fault),
         }

@@ -40,7 +40,7 @@ pub(crate) fn read_double<'a, S: ValueSink>(
     ensures shorter { IfOk result (λ x. length x.1.now ≤ length bytes.now) }
 {
     let (pattern, rest) = read_u64(bytes)?;
-    let value = out.fixed(FixedScalar::Double(pattern))?;
+    let value = out.fixed_scalar(FixedScalar::Double(pattern))?;
     Ok((value, rest))
 }
 
@@ -53,7 +53,7 @@ pub(crate) fn read_date<'a, S: ValueSink>(
 {
     let (number, rest) = read_u64(bytes)?;
     let date = DateTime::from_millis(number.cast_signed());
-    let value = out.fixed(FixedScalar::DateTime(date))?;
+    let value = out.fixed_scalar(FixedScalar::DateTime(date))?;
     Ok((value, rest))
 }
 
@@ -65,7 +65,7 @@ pub(crate) fn read_int32<'a, S: ValueSink>(
     ensures shorter { IfOk result (λ x. length x.1.now ≤ length bytes.now) }
 {
     let (number, rest) = read_u32(bytes)?;
-    let value = out.fixed(FixedScalar::Int32(number.cast_signed()))?;
+    let value = out.fixed_scalar(FixedScalar::Int32(number.cast_signed()))?;
     Ok((value, rest))
 }
 
@@ -77,7 +77,7 @@ pub(crate) fn read_int64<'a, S: ValueSink>(
     ensures shorter { IfOk result (λ x. length x.1.now ≤ length bytes.now) }
 {
     let (number, rest) = read_u64(bytes)?;
-    let value = out.fixed(FixedScalar::Int64(number.cast_signed()))?;
+    let value = out.fixed_scalar(FixedScalar::Int64(number.cast_signed()))?;
     Ok((value, rest))
 }
 
@@ -125,7 +125,7 @@ pub(crate) fn read_object_id<'a, S: ValueSink>(
     ensures shorter { IfOk result (λ x. length x.1.now ≤ length bytes.now) }
 {
     let (id, rest) = read_12_bytes(bytes)?;
-    let value = out.fixed(FixedScalar::ObjectId(ObjectId::from_bytes(id)))?;
+    let value = out.fixed_scalar(FixedScalar::ObjectId(ObjectId::from_bytes(id)))?;
     Ok((value, rest))
 }
 
@@ -137,7 +137,7 @@ pub(crate) fn read_decimal<'a, S: ValueSink>(
     ensures shorter { IfOk result (λ x. length x.1.now ≤ length bytes.now) }
 {
     let (pattern, rest) = read_16_bytes(bytes)?;
-    let value = out.fixed(FixedScalar::Decimal128(Decimal128::from_bytes(pattern)))?;
+    let value = out.fixed_scalar(FixedScalar::Decimal128(Decimal128::from_bytes(pattern)))?;
     Ok((value, rest))
 }
 
@@ -151,10 +151,10 @@ pub(crate) fn read_boolean<'a, S: ValueSink>(
 {
     let (byte, rest) = read_byte(bytes)?;
     if byte == 0 {
-        let value = out.fixed(FixedScalar::Boolean(false))?;
+        let value = out.fixed_scalar(FixedScalar::Boolean(false))?;
         Ok((value, rest))
     } else if byte == 1 {
-        let value = out.fixed(FixedScalar::Boolean(true))?;
+        let value = out.fixed_scalar(FixedScalar::Boolean(true))?;
         Ok((value, rest))
     } else {
         Err(fault_at(FaultKind::Boolean, bytes))
@@ -247,6 +247,6 @@ pub(crate) fn read_timestamp<'a, S: ValueSink>(
 {
     let (increment, rest) = read_u32(bytes)?;
     let (time, rest) = read_u32(rest)?;
-    let value = out.fixed(FixedScalar::Timestamp(Timestamp { time, increment }))?;
+    let value = out.fixed_scalar(FixedScalar::Timestamp(Timestamp { time, increment }))?;
     Ok((value, rest))
 }

@@ -181,9 +181,9 @@ module _ (doubles : Doubles) where
 
   -- The verdict of what follows code.
   abbrev pub first_fault_of_code : Members → FaultAndPath
-  first_fault_of_code no_members = reports.here
+  first_fault_of_code no_members = reports.wrong_shape_here
   first_fault_of_code (member l e no_members) = scope_fault doubles e
-  first_fault_of_code (member l e (member m f us)) = reports.here
+  first_fault_of_code (member l e (member m f us)) = reports.wrong_shape_here
 
   abbrev pub LocatesCodeError : Bool → ℕ → TraversalError → List Token → List Token → Type 0
   LocatesCodeError needs_comma_after depth e ts rest = needs_comma_after ≡ false → IfFault e (λ q. (n : ℕ) (l : List ℕ) (ms : json.Members)

@@ -270,7 +270,7 @@ ordered_by D v text other same by_key has = record {
   means = has.means;
   one = has.one;
   read_form = has.read_form;
-  numbers_in_range = has.numbers_in_range;
+  ranged = has.ranged;
   distinct = has.distinct;
   by_default = meant_by D (sorted v) text other by_key has.by_default;
 }
