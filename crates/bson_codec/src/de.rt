@@ -212,7 +212,7 @@ pub fn is_document(bytes: &[u8], depth: usize) -> Result<()>
     // Which fault it is, and where.
     ensures fault { IfErr result (λ e. IsFaultWithoutMemory e bytes.now (reads_bytes depth bytes.now)) }
 {
-    match nothing::is_document(bytes, depth) {
+    match nothing_sink::is_document(bytes, depth) {
         Ok(()) => Ok(()),
         Err(fault) => Err(add_offset(Stop::Fault(fault), bytes)),
     }

@@ -24,8 +24,8 @@ fn moment(text: &str) -> Result<DateTime, RowError> {
     }
 }
 
-fn put_moment(result: bson::datetime::Result<DateTime>, out: &mut RowOutput) -> RowResult {
-    match result {
+fn put_moment(parsed: bson::datetime::Result<DateTime>, out: &mut RowOutput) -> RowResult {
+    match parsed {
         Ok(at) => out.write_display(&at.timestamp_millis()),
         Err(error) => out.write_error(&error),
     }

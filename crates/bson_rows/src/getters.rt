@@ -56,9 +56,9 @@ impl ErrorCounts {
         &mut self,
         out: &mut RowOutput,
         name: &str,
-        result: ValueAccessResult<T>,
+        returned: ValueAccessResult<T>,
     ) {
-        match result {
+        match returned {
             Ok(value) => out.write_named(name, Some(value)),
             Err(ValueAccessError::NotPresent) => self.absent = self.absent.saturating_add(1),
             Err(ValueAccessError::UnexpectedType) => self.other = self.other.saturating_add(1),

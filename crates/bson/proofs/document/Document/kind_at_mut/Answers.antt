@@ -8,7 +8,7 @@ use Rattle.bson.proofs.document.Document.kind_at_mut.Goals as goal
 pub returns-in-None-kind_mut : goal.returns-in-None-kind_mut
 returns-in-None-kind_mut g c =
     let there : get c.args.key.now c.args.self.now.pairs ≡ Some c.in-Some.value.now = sym c.in-Some.ensures.value in
-    let other : g.T.Kind.held c.in-Some.value.now ≡ None = sym c.in-None-kind_mut.ensures.value in (
+    let other : g.T.Kind.content_of c.in-Some.value.now ≡ None = sym c.in-None-kind_mut.ensures.value in (
       λ i. inr (record { pairs = put-same c.args.key.now c.args.self.now.pairs c.in-Some.value.now there i }),
-      sym (ap (access_result g.T.Kind.held) there ∙ ap type_result other),
+      sym (ap (access_result g.T.Kind.content_of) there ∙ ap type_result other),
     )
