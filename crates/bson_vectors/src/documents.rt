@@ -78,8 +78,8 @@ fn place_of(pairs: &[(String, i32)], key: &str) -> Option<usize>
 }
 
 /// Returns whether inserting the key and number failed and returned both.
-fn returns_pair(result: &Result<Option<Bson>, Refused>, key: &str, value: i32) -> bool {
-    match result {
+fn returns_pair(returned: &Result<Option<Bson>, Refused>, key: &str, value: i32) -> bool {
+    match returned {
         Err(refused) => refused.key.as_str() == key && refused.value.as_i32() == Some(value),
         Ok(_) => false,
     }

@@ -5,6 +5,6 @@ use Rattle.bson_run.proofs.line_run_state.diagnostic_line.Goals as goal
 
 pub returns : goal.returns
 returns c =
-    subst (λ message. IfOk c.format.result (λ diagnostics_before. string_bytes diagnostics_before ≡ codes "bson: line " ++ decimal c.args.number
-    ++ codes ": " ++ message ++ c.args.place.now ++ newline)) c.message-message.ensures.message
+    subst (λ message. IfOk c.format.result (λ line. string_bytes line ≡ codes "bson: line " ++ decimal c.args.number
+    ++ codes ": " ++ message ++ c.args.place.now ++ newline)) c.message-message.ensures.words
     (simp append_assoc c.format.ensures.ok)
